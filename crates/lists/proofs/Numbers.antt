@@ -1,0 +1,85 @@
+-- Laws of lengths, sums and least values: `keep` parts a list in two, `sum` of a part and of joined lists, `least` is attained and
+-- is below each. Assumes nothing.
+use mathlib.Core.Path.{_≡_, refl, ap, _∙_}
+use mathlib.Core.Bool.{Bool, true, false, not}
+use mathlib.Core.List.{List, [], _∷_, _++_, map, List·Memᴰ·tail, List·Memᴰ·cases-cons, List·Memᴰ·not-nil}
+use mathlib.Core.Logic.{_⊎_, inl, inr}
+use Prim.Native.Nat.{ℕ, suc, _+_, _*_, _≤_, _<_, min}
+use native.Mathlib.Omega.{arith}
+use lib.ListN.{length, length-append}
+use Rattle.lists.specs.Lists.{In, put, keep, sum, least, each}
+use Rattle.lists.proofs.Tests.{ordered}
+use Rattle.lists.proofs.Members.{in-head}
+
+module _ {A : Type 0} where
+  -- a test parts a list in two
+  pub keep-parts : (test : A → Bool) (xs : List A) → length (keep test xs) + length (keep (λ x. not (test x)) xs) ≡ length xs
+  keep-parts test [] = refl
+  keep-parts test (x ∷ xs) = go (test x) (keep-parts test xs)
+    where
+      go :
+          (b : Bool) → length (keep test xs) + length (keep (λ y. not (test y)) xs) ≡ length xs
+          → length (put b x (keep test xs)) + length (put (not b) x (keep (λ y. not (test y)) xs)) ≡ suc (length xs)
+      go true e = omega arith
+      go false e = omega arith
+
+  pub length-keep : (test : A → Bool) (xs : List A) → length (keep test xs) ≤ length xs
+  length-keep test xs = omega (arith, keep-parts test xs)
+
+  -- sum
+  pub sum-append : (f : A → ℕ) (xs ys : List A) → sum f (xs ++ ys) ≡ sum f xs + sum f ys
+  sum-append f [] ys = omega arith
+  sum-append f (x ∷ xs) ys = omega (arith, sum-append f xs ys)
+
+  pub sum-keep : (f : A → ℕ) (test : A → Bool) (xs : List A) → sum f (keep test xs) ≤ sum f xs
+  sum-keep f test [] = omega arith
+  sum-keep f test (x ∷ xs) = go (test x) (sum-keep f test xs)
+    where
+      go : (b : Bool) → sum f (keep test xs) ≤ sum f xs → sum f (put b x (keep test xs)) ≤ f x + sum f xs
+      go true h = omega arith
+      go false h = omega arith
+
+  pub sum-mono : (f g : A → ℕ) (xs : List A) → ((x : A) → In x xs → f x ≤ g x) → sum f xs ≤ sum g xs
+  sum-mono f g [] h = omega arith
+  sum-mono f g (x ∷ xs) h = omega (arith, h x in-head, sum-mono f g xs (λ y m. h y (List·Memᴰ·tail m)))
+
+  pub sum-same : (f g : A → ℕ) (xs : List A) → ((x : A) → In x xs → f x ≡ g x) → sum f xs ≡ sum g xs
+  sum-same f g [] h = refl
+  sum-same f g (x ∷ xs) h = omega (arith, h x in-head, sum-same f g xs (λ y m. h y (List·Memᴰ·tail m)))
+
+  pub sum-const : (k : ℕ) (xs : List A) → sum (λ x. k) xs ≡ length xs * k
+  sum-const k [] = omega arith
+  sum-const k (x ∷ xs) = omega (arith, sum-const k xs)
+
+  -- least
+  pub least-le : (f : A → ℕ) (xs : List A) (x : A) → In x xs → least f xs ≤ f x
+  least-le f [] x m = absurd (List·Memᴰ·not-nil m)
+  least-le f (y ∷ []) x m = go (List·Memᴰ·cases-cons m)
+    where
+      go : (x ≡ y) ⊎ In x [] → f y ≤ f x
+      go (inl e) = rw e (omega arith)
+      go (inr k) = absurd (List·Memᴰ·not-nil k)
+  least-le f (y ∷ z ∷ zs) x m = go (List·Memᴰ·cases-cons m) (λ k. least-le f (z ∷ zs) x k)
+    where
+      go : (x ≡ y) ⊎ In x (z ∷ zs) → (In x (z ∷ zs) → least f (z ∷ zs) ≤ f x) → min (f y) (least f (z ∷ zs)) ≤ f x
+      go (inl e) again = rw e (omega arith)
+      go (inr k) again = let h : least f (z ∷ zs) ≤ f x = again k in omega arith
+
+  pub least-in : (f : A → ℕ) (y : A) (ys : List A) → (x : A) × In x (y ∷ ys) × (f x ≡ least f (y ∷ ys))
+  least-in f y [] = (y, in-head, refl)
+  least-in f y (z ∷ zs) = go (ordered (f y) (least f (z ∷ zs))) (least-in f z zs)
+    where
+      go :
+          (f y ≤ least f (z ∷ zs)) ⊎ (least f (z ∷ zs) < f y) → ((x : A) × In x (z ∷ zs) × (f x ≡ least f (z ∷ zs)))
+          → (x : A) × In x (y ∷ z ∷ zs) × (f x ≡ min (f y) (least f (z ∷ zs)))
+      go (inl h) w = (y, in-head, omega arith)
+      go (inr h) (x, m, e) = (x, List·Memᴰ·tail m, omega arith)
+
+module _ {A B : Type 0} where
+  pub length-each : (k : A → List B) (xs : List A) → length (each k xs) ≡ sum (λ x. length (k x)) xs
+  length-each k [] = refl
+  length-each k (x ∷ xs) = length-append (k x) (each k xs) ∙ ap (λ (m : ℕ). length (k x) + m) (length-each k xs)
+
+  pub sum-map : (f : A → B) (g : B → ℕ) (xs : List A) → sum g (map f xs) ≡ sum (λ x. g (f x)) xs
+  sum-map f g [] = refl
+  sum-map f g (x ∷ xs) = ap (λ (m : ℕ). g (f x) + m) (sum-map f g xs)

@@ -1,0 +1,85 @@
+-- Laws of Boolean tests: what `_&&_`, `_||_` and `not` say as types, and the rules by which `omega` reads tests of numbers.
+-- Assumes nothing.
+use mathlib.Core.Path.{_≡_, refl}
+use mathlib.Core.Bool.{Bool, true, false, not, _&&_, _||_}
+use mathlib.Core.Logic.{_⊎_, inl, inr, _≢_}
+use Prim.Native.Nat.{ℕ, _≤_, _<_}
+use lib.Dec.{T, leb, ltb, eqb, leb→le, ltb→lt, nleb→lt, nltb→le, le→leb, lt→ltb, eqb→eq, eqb-refl, T-not, not-T}
+
+-- `omega (arith, tests)` reads and proves T (leb a b), T (ltb a b), T (not (leb a b)), T (not (ltb a b)) and reads T (eqb a b)
+pub ruleset tests = (leb→le, ltb→lt, nleb→lt, nltb→le, le→leb, lt→ltb, eqb→eq)
+
+pub and-left : (a b : Bool) → T (a && b) → T a
+and-left true b h = tt
+and-left false b h = h
+
+pub and-right : (a b : Bool) → T (a && b) → T b
+and-right true b h = h
+and-right false b h = absurd h
+
+pub and-both : (a b : Bool) → T a → T b → T (a && b)
+and-both true b h k = k
+and-both false b h k = h
+
+pub or-cases : (a b : Bool) → T (a || b) → T a ⊎ T b
+or-cases true b h = inl tt
+or-cases false b h = inr h
+
+pub or-left : (a b : Bool) → T a → T (a || b)
+or-left true b h = tt
+or-left false b h = absurd h
+
+pub or-right : (a b : Bool) → T b → T (a || b)
+or-right true b h = tt
+or-right false b h = h
+
+pub either : (a : Bool) → T a ⊎ T (not a)
+either true = inl tt
+either false = inr tt
+
+pub not-not : (a : Bool) → (T (not a) → ⊥) → T a
+not-not true h = tt
+not-not false h = h tt
+
+pub to-true : (a : Bool) → T a → a ≡ true
+to-true true h = refl
+to-true false h = absurd h
+
+pub to-false : (a : Bool) → T (not a) → a ≡ false
+to-false true h = absurd h
+to-false false h = refl
+
+pub not-either : (a b : Bool) → T (not (a || b)) → T (not a) × T (not b)
+not-either true b h = absurd h
+not-either false b h = (tt, h)
+
+pub not-both : (a b : Bool) → T (not (a && b)) → T (not a) ⊎ T (not b)
+not-both true b h = inr h
+not-both false b h = inl tt
+
+pub same-tests : (a b : Bool) → (T a → T b) → (T b → T a) → a ≡ b
+same-tests true true f g = refl
+same-tests true false f g = absurd (f tt)
+same-tests false true f g = absurd (g tt)
+same-tests false false f g = refl
+
+-- two numbers are the same or not; what `eqb` says when it fails
+pub neq : (a b : ℕ) → T (not (eqb a b)) → a ≢ b
+neq a b h e = T-not (eqb a b) h (rw e (eqb-refl b))
+
+pub compared : (a b : ℕ) → (a ≡ b) ⊎ (a ≢ b)
+compared a b = go (either (eqb a b))
+  where
+    go : T (eqb a b) ⊎ T (not (eqb a b)) → (a ≡ b) ⊎ (a ≢ b)
+    go (inl h) = inl (eqb→eq a b h)
+    go (inr h) = inr (neq a b h)
+
+pub ne-neqb : (a b : ℕ) → a ≢ b → T (not (eqb a b))
+ne-neqb a b h = not-T (eqb a b) (λ k. h (eqb→eq a b k))
+
+pub ordered : (a b : ℕ) → (a ≤ b) ⊎ (b < a)
+ordered a b = go (either (leb a b))
+  where
+    go : T (leb a b) ⊎ T (not (leb a b)) → (a ≤ b) ⊎ (b < a)
+    go (inl h) = inl (leb→le a b h)
+    go (inr h) = inr (nleb→lt a b h)

@@ -1,0 +1,75 @@
+-- Orders and nodes: document 01, "Legs and orders" and "Nodes", as far as they need no leg.
+-- A node is a partial order: the list of its stops as they are flown. The empty one, e, is [].
+-- Assumes nothing.
+use mathlib.Core.Path.{_≡_}
+use mathlib.Core.Bool.{Bool, not, _&&_}
+use mathlib.Core.List.{List, [], _∷_, _++_, map}
+use Prim.Native.Nat.{ℕ, zero, suc, _+_, _*_, _≤_}
+use lib.Dec.{eqb}
+use lib.ListN.{length}
+use Rattle.lists.specs.Lists.{In, keep, any, all, from, each, Distinct}
+
+abbrev pub Node : Type 0
+Node = List ℕ
+
+-- the stops 1 to n
+abbrev pub stops : ℕ → List ℕ
+stops n = from 1 n
+
+-- stop s is flown in x
+unfoldable pub flown : Node → ℕ → Bool
+flown x s = any (eqb s) x
+
+-- the set of x: the stops of 1 to n that it flies, ascending; and those that it leaves
+unfoldable pub set : ℕ → Node → List ℕ
+set n x = keep (flown x) (stops n)
+
+unfoldable pub left : ℕ → Node → List ℕ
+left n x = keep (λ s. not (flown x s)) (stops n)
+
+-- "A node's size is the number of stops in its set." "A node of size n is complete."
+unfoldable pub size : ℕ → Node → ℕ
+size n x = length (set n x)
+
+unfoldable pub complete : ℕ → Node → Bool
+complete n x = eqb (size n x) n
+
+-- "b extended by each stop not flown .. in ascending stop order"
+abbrev pub extend : Node → ℕ → Node
+extend x s = x ++ (s ∷ [])
+
+unfoldable pub children : ℕ → Node → List Node
+children n x = map (extend x) (left n x)
+
+-- "An order is a permutation of 1 to n."
+pub record Order (n : ℕ) (x : Node) : Type 0 where
+  -- no stop stands twice
+  pub once : Distinct x
+  -- nothing but 1 to n
+  pub only : (s : ℕ) → In s x → (1 ≤ s) × (s ≤ n)
+  -- each of 1 to n
+  pub every : (s : ℕ) → 1 ≤ s → s ≤ n → In s x
+
+-- The same as a test: each of 1 to n stands in x exactly once, and nothing else does.
+unfoldable pub count : ℕ → Node → ℕ
+count s x = length (keep (eqb s) x)
+
+unfoldable pub isOrder : ℕ → Node → Bool
+isOrder n x = all (λ s. eqb (count s x) 1) (stops n) && all (flown (stops n)) x
+
+-- The n! orders: e extended n times in every way. (`proofs/` shows that these are the orders, each once, and that they number n!.)
+unfoldable pub level : ℕ → ℕ → List Node
+level n zero = [] ∷ []
+level n (suc k) = each (children n) (level n k)
+
+unfoldable pub orders : ℕ → List Node
+orders n = level n n
+
+abbrev pub factorial : ℕ → ℕ
+factorial zero = 1
+factorial (suc n) = suc n * factorial n
+
+-- How many nodes there are with m stops left or fewer below one node, itself included: 1 and, for each stop left, as many as with m - 1.
+abbrev pub nodes : ℕ → ℕ
+nodes zero = 1
+nodes (suc m) = 1 + suc m * nodes m

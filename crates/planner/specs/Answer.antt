@@ -1,0 +1,66 @@
+-- The one function from what a caller hands in to the report and the pool's words afterwards: `answer`. Assumes nothing.
+use mathlib.Core.List.{List, [], _∷_}
+use mathlib.Core.Option.{Option, none, some}
+use Prim.Native.Nat.{ℕ, zero, suc}
+use lib.ListN.{length, replicate}
+use Rattle.search.specs.Problem.{Problem, Choices, State, upper, start}
+use Rattle.search.specs.Run.{Outcome, finished, full, unfinished, run}
+use Rattle.orders.specs.Orders.{Node, nodes}
+use Rattle.stops.specs.Legs.{Legs, rows, legs}
+use Rattle.stops.specs.Stops.{problem, choices}
+use Rattle.pool.specs.Records.{padded, poolWords, recordsIn}
+use Rattle.planner.specs.Call.{Call, Report, Answer, orderPlaces, refusal}
+use Rattle.planner.specs.Checks.{cause}
+
+unfoldable pub legsOf : Call → Legs
+legsOf c = legs (rows (c .n) (c .table))
+
+unfoldable pub problemOf : Call → Problem Node
+problemOf c = problem (c .n) (legsOf c)
+
+unfoldable pub choicesOf : Call → Choices Node
+choicesOf c = choices (c .n) (legsOf c) (c .selection) (c .rules) (c .bound)
+
+-- the starting order, if one is given
+abbrev pub given : List ℕ → Option Node
+given [] = none
+given (s ∷ x) = some (s ∷ x)
+
+-- The run of a call. Its fuel, one more than the number of all nodes, is never used up (`proofs/`).
+unfoldable pub outcome : Call → Outcome Node
+outcome c =
+    run (problemOf c) (choicesOf c) (recordsIn (c .pool)) (suc (nodes (c .n))) (start (problemOf c) (given (c .start)))
+
+abbrev pub stopsOf : Option Node → List ℕ
+stopsOf none = []
+stopsOf (some x) = x
+
+-- "Number 0, cost, order (zeros past n), and five 64-bit counts"; 7: "number, counts of the steps done, cost and order zero"
+unfoldable pub reportWith : ℕ → ℕ → List ℕ → State Node → Report
+reportWith number cost order s = record {
+  number = number;
+  cost = cost;
+  order = padded orderPlaces order;
+  branched = length (s .branched);
+  generated = s .generated;
+  eliminated = s .eliminated;
+  active = length (s .active);
+  most = s .most;
+}
+
+unfoldable pub wordsOf : Call → State Node → List ℕ
+wordsOf c s = poolWords (c .n) (legsOf c) (c .bound) (c .rules) (length (c .pool)) s
+
+unfoldable pub ending : Call → Outcome Node → Answer
+ending c (finished s) = record { report = reportWith 0 (upper (problemOf c) (s .best)) (stopsOf (s .best)) s; pool = wordsOf c s }
+ending c (full s) = record { report = reportWith 7 0 [] s; pool = wordsOf c s }
+-- never comes, and has no number in document 01
+ending c (unfinished s) = record { report = refusal 255; pool = c .pool }
+
+-- A refusal by 1 to 6 leaves the pool as it was.
+unfoldable pub respond : Call → ℕ → Answer
+respond c zero = ending c (outcome c)
+respond c (suc k) = record { report = refusal (suc k); pool = c .pool }
+
+unfoldable pub answer : Call → Answer
+answer c = respond c (cause c)

@@ -1,0 +1,39 @@
+-- Node records and the pool's words: document 01, "The pool". Assumes nothing.
+use mathlib.Core.List.{List, [], _∷_, _++_}
+use Prim.Native.Nat.{ℕ, suc, _+_, _*_, _-_, _^_, _/_}
+use lib.ListN.{length, take, drop, replicate}
+use Rattle.lists.specs.Lists.{sum, each}
+use Rattle.search.specs.Problem.{State}
+use Rattle.search.specs.Run.{held}
+use Rattle.orders.specs.Orders.{Node, set, size}
+use Rattle.stops.specs.Legs.{Legs, path}
+use Rattle.stops.specs.Bounds.{boundBy}
+
+-- "A record is six 32-bit numbers"
+abbrev pub recordWords : ℕ
+recordWords = 6
+
+-- "stop s adds 2 to the power s-1"
+unfoldable pub mask : List ℕ → ℕ
+mask stops = sum (λ s. 2 ^ (s - 1)) stops
+
+-- "s-1 in four bits each, eight stops a number, first stop lowest, unused bits 0"
+abbrev pub orderWord : Node → ℕ
+orderWord [] = 0
+orderWord (s ∷ x) = (s - 1) + 16 * orderWord x
+
+-- "size, set .., path cost, bound, and two for the order"
+unfoldable pub record-of : ℕ → Legs → ℕ → Node → List ℕ
+record-of n L bound x =
+    size n x ∷ mask (set n x) ∷ path L x ∷ boundBy bound n L x ∷ orderWord (take 8 x) ∷ orderWord (drop 8 x) ∷ []
+
+-- "the active nodes, earliest first; then, with rule 4, the branched nodes, earliest branched first; zeros behind", in a pool of some length
+unfoldable pub padded : ℕ → List ℕ → List ℕ
+padded len words = words ++ replicate (len - length words) 0
+
+unfoldable pub poolWords : ℕ → Legs → ℕ → ℕ → ℕ → State Node → List ℕ
+poolWords n L bound rules len s = padded len (each (record-of n L bound) (held rules s))
+
+-- how many whole records a pool of some words has
+unfoldable pub recordsIn : List ℕ → ℕ
+recordsIn pool = length pool / recordWords

@@ -1,0 +1,4 @@
+pub mod Problem
+pub mod Selection
+pub mod Step
+pub mod Run

@@ -1,0 +1,47 @@
+-- What is searched, what a caller may choose, and the state of a run: document 01, "Nodes" and "One run", over any nodes N.
+-- The stops of a table are an instance (crate `stops`). Assumes nothing.
+use mathlib.Core.Bool.{Bool}
+use mathlib.Core.List.{List, [], _∷_}
+use mathlib.Core.Option.{Option, none, some}
+use Prim.Native.Nat.{ℕ}
+
+pub record Problem (N : Type 0) : Type 0 where
+  -- the empty node, e
+  pub root : N
+  -- the node extended by each stop not flown, in ascending stop order
+  pub children : N → List N
+  pub complete : N → Bool
+  -- the cost of a complete node's order
+  pub cost : N → ℕ
+  -- y dominates z: `dominates y z`
+  pub dominates : N → N → Bool
+  -- a number above every cost
+  pub above : ℕ
+
+pub record Choices (N : Type 0) : Type 0 where
+  -- 0 to 3
+  pub selection : ℕ
+  -- the sum of the rules' numbers, 0 to 15
+  pub rules : ℕ
+  -- the lower bound
+  pub bound : N → ℕ
+
+-- "State: active nodes in order of generation, nodes branched so far, upper cost U with its order, counts."
+pub record State (N : Type 0) : Type 0 where
+  pub active : List N
+  -- earliest branched first
+  pub branched : List N
+  -- U's order, if one is known
+  pub best : Option N
+  pub generated : ℕ
+  pub eliminated : ℕ
+  pub most : ℕ
+
+-- "U is the cost of the starting order, or above every cost if none is given."
+abbrev pub upper : {N : Type 0} → Problem N → Option N → ℕ
+upper P none = P .above
+upper P (some x) = P .cost x
+
+-- "At the start e is active and generated = 1."
+unfoldable pub start : {N : Type 0} → Problem N → Option N → State N
+start P best = record { active = P .root ∷ []; branched = []; best = best; generated = 1; eliminated = 0; most = 1 }

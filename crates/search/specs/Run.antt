@@ -1,0 +1,61 @@
+-- The run: document 01, "One run" and "The pool". Assumes nothing.
+use mathlib.Core.Bool.{Bool, true, false}
+use mathlib.Core.List.{List, [], _++_}
+use Prim.Native.Nat.{ℕ, zero, suc, _+_}
+use lib.Dec.{ltb}
+use lib.ListN.{length}
+use Rattle.search.specs.Problem.{Problem, Choices, State}
+use Rattle.search.specs.Selection.{Choice, nothing, chosen, select, finishes}
+use Rattle.search.specs.Step.{on, step}
+
+-- What the pool holds of a state: the active nodes, earliest first; then, with rule 4, the branched nodes, earliest branched first.
+abbrev pub withBranched : {N : Type 0} → Bool → List N → List N → List N
+withBranched true active branched = active ++ branched
+withBranched false active branched = active
+
+unfoldable pub held : {N : Type 0} → ℕ → State N → List N
+held rules s = withBranched (on 4 rules) (s .active) (s .branched)
+
+-- What comes next of a state: it is finished; the step would leave more nodes to keep than there are records; or the state after the step.
+pub data Next (N : Type 0) : Type 0 where
+  finish : Next N
+  overflow : Next N
+  go : State N → Next N
+
+-- How a run ends, and the state that then stands. `unfinished` never comes: the fuel of a run is above the number of all nodes.
+pub data Outcome (N : Type 0) : Type 0 where
+  finished : State N → Outcome N
+  full : State N → Outcome N
+  unfinished : State N → Outcome N
+
+-- "The finish test comes before the step, so a run that is finished is never refused with 7."
+abbrev pub unless : {N : Type 0} → Bool → Next N → Next N
+unless true next = finish
+unless false next = next
+
+-- "If these outnumber the records after a step, the pool is full, and the state before that step stands."
+abbrev pub ifFits : {N : Type 0} → Bool → State N → Next N
+ifFits true s = overflow
+ifFits false s = go s
+
+-- The parameters of a run: the problem, the choices, and how many records the pool has.
+module _ {N : Type 0} (P : Problem N) (C : Choices N) (records : ℕ) where
+  unfoldable pub fitting : State N → Next N
+  fitting s = ifFits (ltb records (length (held (C .rules) s))) s
+
+  -- A state with no active node ends the run; it never comes.
+  unfoldable pub decide : State N → Choice N → Next N
+  decide s nothing = finish
+  decide s (chosen b rest) = unless (finishes P C (s .best) b rest) (fitting (step P C s b rest))
+
+  unfoldable pub next : State N → Next N
+  next s = decide s (select P C (s .active))
+
+  abbrev pub follow : (State N → Outcome N) → State N → Next N → Outcome N
+  follow more s finish = finished s
+  follow more s overflow = full s
+  follow more s (go s′) = more s′
+
+  unfoldable pub run : ℕ → State N → Outcome N
+  run zero s = unfinished s
+  run (suc fuel) s = follow (run fuel) s (next s)
