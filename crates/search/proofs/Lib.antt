@@ -1,3 +1,5 @@
 pub mod General
 pub mod Laws
 pub mod Pick
+pub mod Verdict
+pub mod Queue
