@@ -1,3 +1,4 @@
+pub mod Examples
 pub mod General
 pub mod Laws
 pub mod Pick
