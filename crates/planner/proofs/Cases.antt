@@ -1,0 +1,180 @@
+-- Document 01's cases a to j as theorems about the written run itself: a list of calls and expected reports, with one theorem for all
+-- of them. (Case k, on the bounds, is in `stops`, whose definitions it tests. Our own cases, with the pool's words, are in `OwnCases`.)
+-- Every pool is dirty before the call: its words are all 7. Assumes nothing.
+use mathlib.Core.Path.{_≡_, refl}
+use mathlib.Core.Bool.{true, false}
+use mathlib.Core.List.{List, [], _∷_, _++_}
+use Prim.Native.Nat.{ℕ, _*_}
+use lib.ListN.{replicate}
+use Rattle.search.specs.Problem.{start}
+use Rattle.search.specs.Selection.{selectBy, select, finishes}
+use Rattle.search.specs.Step.{children₁, best₂, over₃, children₃, rest₃, dominated₄, children₄, dominated₅, children₅, dominated₆, rest₆, active₇, step}
+use Rattle.search.specs.Run.{held, fitting, decide, next, run}
+use Rattle.orders.specs.Orders.{flown, set, left, size, complete, children, count, isOrder}
+use Rattle.stops.specs.Legs.{entry, rows, rowLeg, legs, path, last, cost}
+use Rattle.stops.specs.Bounds.{plain, cheapestInto, remainder, close, boundBy, dominates}
+use Rattle.stops.specs.Stops.{problem, choices}
+use Rattle.pool.specs.Records.{mask, record-of, padded, poolWords, recordsIn}
+use Rattle.planner.specs.Call.{Call, Report, Answer, refusal}
+use Rattle.planner.specs.Checks.{cause₁, cause₂, cause₃, cause₄, cause₅, cause₆, cause}
+use Rattle.planner.specs.Answer.{legsOf, problemOf, choicesOf, outcome, reportWith, wordsOf, ending, respond, answer}
+
+-- a call by its parts, with the number of the pool's records
+abbrev pub call : ℕ → List ℕ → ℕ → ℕ → ℕ → List ℕ → ℕ → Call
+call n table selection rules bound start records = record
+    { n = n; table = table; selection = selection; rules = rules; bound = bound; start = start; pool = replicate (6 * records) 7 }
+
+-- a report with number 0: cost, order, and branched, generated, eliminated, active, most
+abbrev pub found : ℕ → List ℕ → ℕ → ℕ → ℕ → ℕ → ℕ → Report
+found cost order branched generated eliminated active most = record
+    { number = 0; cost = cost; order = order; branched = branched; generated = generated; eliminated = eliminated; active = active; most = most }
+
+-- a report with a number, zeros and the counts of the steps done
+abbrev pub refused : ℕ → ℕ → ℕ → ℕ → ℕ → ℕ → Report
+refused number branched generated eliminated active most = record {
+  number = number;
+  cost = 0;
+  order = replicate 16 0;
+  branched = branched;
+  generated = generated;
+  eliminated = eliminated;
+  active = active;
+  most = most;
+}
+
+-- the answer, with every definition that it rests on open: a proof that says `unfolding computed` computes it
+unfoldable pub computed : Call → Answer
+unfolding start selectBy select finishes children₁ best₂ over₃ children₃ rest₃ dominated₄ children₄ dominated₅ children₅ dominated₆ rest₆ active₇ step held fitting decide next run flown set left size complete children count isOrder entry rows rowLeg legs path last cost plain cheapestInto remainder close boundBy dominates problem choices mask record-of padded poolWords recordsIn refusal cause₁ cause₂ cause₃ cause₄ cause₅ cause₆ cause legsOf problemOf choicesOf outcome reportWith wordsOf ending respond answer
+computed c = answer c
+
+pub record Case : Type 0 where
+  pub given : Call
+  pub expected : Report
+
+abbrev pub Holds : Case → Type 0
+Holds c = answer (c .given) .report ≡ c .expected
+
+abbrev AllHold : List Case → Type 0
+AllHold [] = Unit {0}
+AllHold (c ∷ cs) = Holds c × AllHold cs
+
+-- Table T
+unfoldable pub tableT : List ℕ
+tableT = 0 ∷ 4 ∷ 7 ∷ 9 ∷ 5 ∷ 0 ∷ 2 ∷ 6 ∷ 3 ∷ 8 ∷ 0 ∷ 1 ∷ 6 ∷ 5 ∷ 4 ∷ 0 ∷ []
+
+abbrev pub order123 : List ℕ
+order123 = 1 ∷ 2 ∷ 3 ∷ replicate 13 0
+
+-- a. Selection 0, rules 1, close.
+a : Case
+a = record { given = call 3 tableT 0 1 1 [] 9; expected = found 13 order123 3 7 3 1 4 }
+
+case-a : Holds a
+unfolding a tableT computed
+case-a = refl
+
+-- b. FIFO, no rules, plain.
+b : Case
+b = record { given = call 3 tableT 2 0 0 [] 9; expected = found 13 order123 10 16 0 6 6 }
+
+case-b : Holds b
+unfolding b tableT computed
+case-b = refl
+
+-- c. LIFO, rules 1, plain.
+c : Case
+c = record { given = call 3 tableT 3 1 0 [] 9; expected = found 13 order123 10 16 5 1 4 }
+
+case-c : Holds c
+unfolding c tableT computed
+case-c = refl
+
+-- d. LIFO, rules 1, close.
+d : Case
+d = record { given = call 3 tableT 3 1 1 [] 9; expected = found 13 order123 9 15 5 1 4 }
+
+case-d : Holds d
+unfolding d tableT computed
+case-d = refl
+
+-- e. As d, starting from 123.
+e : Case
+e = record { given = call 3 tableT 3 1 1 (1 ∷ 2 ∷ 3 ∷ []) 9; expected = found 13 order123 2 6 3 1 1 }
+
+case-e : Holds e
+unfolding e tableT computed
+case-e = refl
+
+-- f₁. As e, pool of one record: the same.
+f₁ : Case
+f₁ = record { given = call 3 tableT 3 1 1 (1 ∷ 2 ∷ 3 ∷ []) 1; expected = found 13 order123 2 6 3 1 1 }
+
+case-f₁ : Holds f₁
+unfolding f₁ tableT computed
+case-f₁ = refl
+
+-- f₂. As d, one record: 7.
+f₂ : Case
+f₂ = record { given = call 3 tableT 3 1 1 [] 1; expected = refused 7 0 1 0 1 1 }
+
+case-f₂ : Holds f₂
+unfolding f₂ tableT computed
+case-f₂ = refl
+
+-- g. FIFO, rules 2, plain.
+g : Case
+g = record { given = call 3 tableT 2 2 0 [] 9; expected = found 13 order123 10 16 3 3 6 }
+
+case-g : Holds g
+unfolding g tableT computed
+case-g = refl
+
+-- h. n = 1, out 3, back 5, selection 0, no rules, plain.
+h : Case
+h = record { given = call 1 (0 ∷ 3 ∷ 5 ∷ 0 ∷ []) 0 0 0 [] 9; expected = found 8 (1 ∷ replicate 15 0) 1 2 0 1 1 }
+
+case-h : Holds h
+unfolding h computed
+case-h = refl
+
+-- i₀. n = 2, all 0, close, no rules: selection 0 gives 12.
+i₀ : Case
+i₀ = record { given = call 2 (replicate 9 0) 0 0 1 [] 9; expected = found 0 (1 ∷ 2 ∷ replicate 14 0) 2 4 0 2 2 }
+
+case-i₀ : Holds i₀
+unfolding i₀ computed
+case-i₀ = refl
+
+-- i₁. The same under selection 1 gives 21.
+i₁ : Case
+i₁ = record { given = call 2 (replicate 9 0) 1 0 1 [] 9; expected = found 0 (2 ∷ 1 ∷ replicate 14 0) 2 4 0 2 2 }
+
+case-i₁ : Holds i₁
+unfolding i₁ computed
+case-i₁ = refl
+
+pub cases : List Case
+cases = a ∷ b ∷ c ∷ d ∷ e ∷ f₁ ∷ f₂ ∷ g ∷ h ∷ i₀ ∷ i₁ ∷ []
+
+pub cases-hold : AllHold cases
+unfolding cases
+cases-hold = (case-a, (case-b, (case-c, (case-d, (case-e, (case-f₁, (case-f₂, (case-g, (case-h, (case-i₀, (case-i₁, tt)))))))))))
+
+-- j. n = 16 passes check 1, 17 is 1.
+sixteen-stops-pass : cause₁ (call 16 [] 0 0 0 [] 1) ≡ false
+unfolding computed
+sixteen-stops-pass = refl
+
+seventeen-stops-refused : answer (call 17 [] 0 0 0 [] 1) ≡ record { report = refused 1 0 0 0 0 0; pool = replicate 6 7 }
+unfolding computed
+seventeen-stops-refused = refl
+
+-- j. A leg of 1,000,000 passes, 1,000,001 is 3.
+million-passes : cause (call 1 (0 ∷ 1_000_000 ∷ 5 ∷ 0 ∷ []) 0 0 0 [] 1) ≡ 0
+unfolding computed
+million-passes = refl
+
+million-and-one-refused :
+    answer (call 1 (0 ∷ 1_000_001 ∷ 5 ∷ 0 ∷ []) 0 0 0 [] 1) ≡ record { report = refused 3 0 0 0 0 0; pool = replicate 6 7 }
+unfolding computed
+million-and-one-refused = refl

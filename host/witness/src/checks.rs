@@ -1,0 +1,101 @@
+//! Refusals 1 to 6, the lowest number that applies (document 01, "Causes and
+//! numbers").
+
+use crate::legs::{Legs, Place};
+use crate::node::Bound;
+use crate::run::{Job, Rules, Selection};
+use crate::words::WORDS;
+
+pub const MOST_STOPS: u64 = 16;
+pub const DEAREST_LEG: u32 = 1_000_000;
+
+/// What a caller hands in beside the pool.
+#[derive(Clone, Copy)]
+pub struct Request<'a> {
+    pub n: u64,
+    pub table: &'a [u32],
+    pub selection: u64,
+    pub rules: u64,
+    pub bound: u64,
+    pub start: &'a [u32],
+}
+
+pub fn check(request: &Request, pool_words: usize) -> Result<Job, u32> {
+    if request.n == 0 || request.n > MOST_STOPS {
+        return Err(1);
+    }
+    let n = request.n as usize;
+    if request.table.len() != (n + 1) * (n + 1) {
+        return Err(2);
+    }
+    let legs = Legs::new(n, request.table);
+    if !legs_allowed(&legs) {
+        return Err(3);
+    }
+    let selection = selection(request.selection).ok_or(4u32)?;
+    let rules = rules(request.rules).ok_or(4u32)?;
+    let bound = bound(request.bound).ok_or(4u32)?;
+    let start = starting_order(n, request.start).ok_or(5u32)?;
+    if pool_words == 0 || pool_words % WORDS != 0 {
+        return Err(6);
+    }
+    Ok(Job { legs, selection, rules, bound, start })
+}
+
+fn legs_allowed(legs: &Legs) -> bool {
+    for i in 0..=legs.n {
+        for j in 0..=legs.n {
+            if legs.leg(i, j) > DEAREST_LEG || (i == j && legs.leg(i, j) != 0) {
+                return false;
+            }
+        }
+    }
+    true
+}
+
+fn selection(number: u64) -> Option<Selection> {
+    match number {
+        0 => Some(Selection::LeastBoundEarliest),
+        1 => Some(Selection::LeastBoundLatest),
+        2 => Some(Selection::Fifo),
+        3 => Some(Selection::Lifo),
+        _ => None,
+    }
+}
+
+/// The sum of the rules' numbers.
+fn rules(number: u64) -> Option<Rules> {
+    if number > 15 {
+        return None;
+    }
+    Some(Rules {
+        upper_cost: number & 1 != 0,
+        active_child: number & 2 != 0,
+        branched_child: number & 4 != 0,
+        child_active: number & 8 != 0,
+    })
+}
+
+fn bound(number: u64) -> Option<Bound> {
+    match number {
+        0 => Some(Bound::Plain),
+        1 => Some(Bound::Close),
+        _ => None,
+    }
+}
+
+/// The starting order if it is empty or a permutation of 1 to n.
+fn starting_order(n: usize, start: &[u32]) -> Option<Vec<Place>> {
+    if start.is_empty() {
+        return Some(Vec::new());
+    }
+    if start.len() != n {
+        return None;
+    }
+    for stop in 1..=n as u32 {
+        if !start.contains(&stop) {
+            return None;
+        }
+    }
+    Some(start.iter().map(|&s| s as Place).collect())
+}

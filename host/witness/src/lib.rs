@@ -1,0 +1,69 @@
+//! A second planner, written from document 01 alone, in plain lists and
+//! literal passes. It serves as a witness beside the proved planner.
+//!
+//! In reading order: `legs` (table and cost of an order), `node` (partial
+//! orders, bounds, dominance), `checks` (refusals 1 to 6), `run` (the run and
+//! refusal 7), `words` (report and pool), `enumerate` (all n! orders).
+//! Job files are not here.
+//!
+//! Where document 01 leaves a choice, this planner takes these:
+//!
+//! 1. Selection, rules, bound and n come in as 64-bit numbers and stops of the
+//!    starting order as 32-bit ones, so that every refusal can be provoked.
+//! 2. The checks are made in the order of their numbers, and the first that
+//!    fails is the answer; the table is only looked at when n and the length
+//!    are right.
+//! 3. b counts as branched from part 1 of its own step on. Rule 4 can't tell:
+//!    b's set is smaller than its children's.
+//! 4. Each pass sees what the passes before it left: rule 2 tests the children
+//!    that rule 1 left against the active nodes that rule 1 left, rule 4 tests
+//!    the children that rule 2 left, and a node is counted as eliminated once.
+//! 5. Nodes "differ" when their orders of stops differ.
+//! 6. Without rule 4 the branched nodes take no records.
+//! 7. Whether the pool is full is asked after a step only; e always fits, as a
+//!    pool without a whole record was refused before.
+//! 8. The finish test changes nothing: the pool of a finished run holds the
+//!    state that the test was made in, and "active" counts its active nodes.
+//! 9. With number 7, "active" and "most" are those of the state that stands.
+//! 10. A run whose active set became empty isn't described. The planner then
+//!     panics; no run in the tests comes there.
+
+pub mod checks;
+pub mod enumerate;
+pub mod legs;
+pub mod node;
+pub mod run;
+pub mod words;
+
+pub use checks::Request;
+pub use run::State;
+pub use words::{Report, WORDS};
+
+/// The whole call: checks, run, report, and the pool's words afterwards.
+pub fn plan(
+    n: u64,
+    table: &[u32],
+    selection: u64,
+    rules: u64,
+    bound: u64,
+    start: &[u32],
+    pool: &mut [u32],
+) -> Report {
+    let request = Request { n, table, selection, rules, bound, start };
+    plan_watched(&request, pool, &mut |_| {})
+}
+
+/// As `plan`; `watch` sees the state at the start and after each step.
+pub fn plan_watched(
+    request: &Request,
+    pool: &mut [u32],
+    watch: &mut dyn FnMut(&State),
+) -> Report {
+    let job = match checks::check(request, pool.len()) {
+        Ok(job) => job,
+        Err(number) => return Report::refusal(number),
+    };
+    let (state, end) = run::run(&job, pool.len() / WORDS, watch);
+    words::write_pool(&state, job.rules.branched_child, pool);
+    Report::of(&state, end)
+}

@@ -1,0 +1,98 @@
+//! Reads a job as plain text from standard input and prints the report and
+//! the pool's words, six to a line. With the word `trace` on the command line
+//! it first prints the state at the start and after each step.
+//!
+//! The text: numbers apart by blanks or line ends, `#` opens a comment: n, the
+//! (n+1) squared table entries, selection, rules, bound, the length of the
+//! starting order, its stops, the number of records in the pool.
+
+mod text;
+
+use std::io::{Read, Write};
+use std::process::ExitCode;
+
+use witness::node::Node;
+use witness::{plan_watched, Report, Request, State, WORDS};
+
+fn main() -> ExitCode {
+    let traced = std::env::args().nth(1).as_deref() == Some("trace");
+    match answer(traced) {
+        Ok(()) => ExitCode::SUCCESS,
+        Err(fault) => {
+            eprintln!("{fault}");
+            ExitCode::FAILURE
+        }
+    }
+}
+
+fn answer(traced: bool) -> Result<(), String> {
+    let mut input = String::new();
+    std::io::stdin().read_to_string(&mut input).map_err(|fault| fault.to_string())?;
+    let job = text::parse(&input)?;
+    let request = Request {
+        n: job.n,
+        table: &job.table,
+        selection: job.selection,
+        rules: job.rules,
+        bound: job.bound,
+        start: &job.start,
+    };
+    let mut pool = vec![0u32; job.records * WORDS];
+    let mut lines = Vec::new();
+    let report = plan_watched(&request, &mut pool, &mut |state| {
+        if traced {
+            lines.push(state_text(state));
+        }
+    });
+    lines.push(report_text(&report));
+    lines.push(pool_text(&pool));
+    let output = lines.concat();
+    std::io::stdout().write_all(output.as_bytes()).map_err(|fault| fault.to_string())
+}
+
+fn report_text(report: &Report) -> String {
+    let Report { number, cost, order, branched, generated, eliminated, active, most } =
+        report;
+    let order = joined(order);
+    format!(
+        "number {number}\ncost {cost}\norder {order}\nbranched {branched}\n\
+         generated {generated}\neliminated {eliminated}\nactive {active}\nmost {most}\n"
+    )
+}
+
+fn pool_text(pool: &[u32]) -> String {
+    let records = pool.chunks(WORDS).map(|record| joined(record) + "\n");
+    "pool\n".to_string() + &records.collect::<String>()
+}
+
+fn state_text(state: &State) -> String {
+    let active: Vec<String> = state.active.iter().map(|y| shown(y)).collect();
+    let branched: Vec<String> = state.branched.iter().map(|y| shown(y)).collect();
+    let upper = match state.upper.cost {
+        Some(cost) => format!("{} {:?}", cost, state.upper.order),
+        None => "none".to_string(),
+    };
+    format!(
+        "after step {}\n  active   {}\n  branched {}\n  U        {}\n  \
+         generated {} eliminated {} most {}\n",
+        state.branched.len(),
+        active.join("  "),
+        branched.join("  "),
+        upper,
+        state.generated,
+        state.eliminated,
+        state.most
+    )
+}
+
+/// Stops, path cost and bound of a node, such as 1.3(path 10, bound 14).
+fn shown(node: &Node) -> String {
+    let stops: Vec<String> = node.stops.iter().map(|s| s.to_string()).collect();
+    let name = if stops.is_empty() { "e".to_string() } else { stops.join(".") };
+    format!("{}(path {}, bound {})", name, node.path, node.bound)
+}
+
+fn joined(numbers: &[u32]) -> String {
+    let words: Vec<String> = numbers.iter().map(|w| w.to_string()).collect();
+    words.join(" ")
+}

@@ -1,0 +1,98 @@
+//! Partial orders, their bounds, and dominance (document 01, "Nodes").
+
+use crate::legs::{Legs, Place};
+
+#[derive(Clone, Copy, PartialEq, Eq, Debug)]
+pub enum Bound {
+    Plain,
+    Close,
+}
+
+#[derive(Clone, PartialEq, Eq, Debug)]
+pub struct Node {
+    /// The stops flown, first to last.
+    pub stops: Vec<Place>,
+    /// Stop s adds 2 to the power s-1.
+    pub set: u32,
+    /// Legs flown so far; the leg home is never in it.
+    pub path: u32,
+    pub bound: u32,
+}
+
+impl Node {
+    /// The empty partial order e.
+    pub fn empty(legs: &Legs, kind: Bound) -> Node {
+        let mut e = Node { stops: Vec::new(), set: 0, path: 0, bound: 0 };
+        e.bound = e.bound_by(legs, kind);
+        e
+    }
+
+    pub fn size(&self) -> usize {
+        self.stops.len()
+    }
+
+    pub fn is_complete(&self, legs: &Legs) -> bool {
+        self.size() == legs.n
+    }
+
+    /// The last place: home for e.
+    pub fn last(&self) -> Place {
+        self.stops.last().copied().unwrap_or(0)
+    }
+
+    /// The stops not yet flown, ascending.
+    pub fn unflown(&self, legs: &Legs) -> Vec<Place> {
+        (1..=legs.n).filter(|s| !self.stops.contains(s)).collect()
+    }
+
+    pub fn extended(&self, stop: Place, legs: &Legs, kind: Bound) -> Node {
+        let mut stops = self.stops.clone();
+        stops.push(stop);
+        let path = self.path + legs.leg(self.last(), stop);
+        let set = self.set | 1 << (stop - 1);
+        let mut child = Node { stops, set, path, bound: 0 };
+        child.bound = child.bound_by(legs, kind);
+        child
+    }
+
+    pub fn children(&self, legs: &Legs, kind: Bound) -> Vec<Node> {
+        let unflown = self.unflown(legs);
+        unflown.into_iter().map(|s| self.extended(s, legs, kind)).collect()
+    }
+
+    fn bound_by(&self, legs: &Legs, kind: Bound) -> u32 {
+        if self.is_complete(legs) {
+            return self.path + legs.leg(self.last(), 0);
+        }
+        match kind {
+            Bound::Plain => self.path,
+            Bound::Close => self.path + self.legs_to_come(legs),
+        }
+    }
+
+    /// What close adds to the path cost of a node that isn't complete.
+    fn legs_to_come(&self, legs: &Legs) -> u32 {
+        let unflown = self.unflown(legs);
+        let mut sum = 0;
+        for &stop in &unflown {
+            let mut cheapest = legs.leg(self.last(), stop);
+            for &other in &unflown {
+                if other != stop {
+                    cheapest = cheapest.min(legs.leg(other, stop));
+                }
+            }
+            sum += cheapest;
+        }
+        let home = unflown.iter().map(|&s| legs.leg(s, 0)).min();
+        sum + home.expect("a node that isn't complete has a stop to come")
+    }
+
+    /// They differ, have the same set and last stop, and this path cost is at
+    /// most the other's.
+    pub fn dominates(&self, other: &Node) -> bool {
+        self.set == other.set
+            && self.last() == other.last()
+            && self.path <= other.path
+            && self.stops != other.stops
+    }
+}

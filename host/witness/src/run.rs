@@ -1,0 +1,213 @@
+//! The run (document 01, "One run") and the full pool ("The pool").
+
+use std::rc::Rc;
+
+use crate::legs::{Legs, Place};
+use crate::node::{Bound, Node};
+
+#[derive(Clone, Copy, PartialEq, Eq, Debug)]
+pub enum Selection {
+    LeastBoundEarliest,
+    LeastBoundLatest,
+    Fifo,
+    Lifo,
+}
+
+#[derive(Clone, Copy, PartialEq, Eq, Debug)]
+pub struct Rules {
+    /// Rule 1 (U/DBAS).
+    pub upper_cost: bool,
+    /// Rule 2 (AS/DB).
+    pub active_child: bool,
+    /// Rule 4 (BFS/DB).
+    pub branched_child: bool,
+    /// Rule 8 (DB/AS).
+    pub child_active: bool,
+}
+
+/// A request that every check let pass.
+pub struct Job {
+    pub legs: Legs,
+    pub selection: Selection,
+    pub rules: Rules,
+    pub bound: Bound,
+    /// Empty if none is given.
+    pub start: Vec<Place>,
+}
+
+/// U and its order.
+#[derive(Clone, PartialEq, Eq, Debug)]
+pub struct Upper {
+    /// None stands above every cost.
+    pub cost: Option<u32>,
+    pub order: Vec<Place>,
+}
+
+impl Upper {
+    /// `cost` is below U.
+    fn undercut_by(&self, cost: u32) -> bool {
+        self.cost.is_none_or(|u| cost < u)
+    }
+
+    /// `bound` is above U.
+    fn exceeded_by(&self, bound: u32) -> bool {
+        self.cost.is_some_and(|u| bound > u)
+    }
+
+    /// `bound` is at least U.
+    fn reached_by(&self, bound: u32) -> bool {
+        self.cost.is_some_and(|u| bound >= u)
+    }
+}
+
+#[derive(Clone, PartialEq, Eq, Debug)]
+pub struct State {
+    /// In order of generation.
+    pub active: Vec<Rc<Node>>,
+    /// In order of branching.
+    pub branched: Vec<Rc<Node>>,
+    pub upper: Upper,
+    pub generated: u64,
+    pub eliminated: u64,
+    /// Largest active set so far.
+    pub most: u64,
+}
+
+#[derive(Clone, Copy, PartialEq, Eq, Debug)]
+pub enum End {
+    Finished,
+    Full,
+}
+
+/// From the start to the finish test that ends it, or to the first step whose
+/// nodes to keep outnumber the records; then the state before that step.
+pub fn run(job: &Job, records: usize, watch: &mut dyn FnMut(&State)) -> (State, End) {
+    let mut state = State::start(job);
+    loop {
+        watch(&state);
+        let b = state.select(job);
+        if state.is_finished(job, b) {
+            return (state, End::Finished);
+        }
+        let next = state.step(job, b);
+        if next.to_keep(job.rules) > records {
+            return (state, End::Full);
+        }
+        state = next;
+    }
+}
+
+impl State {
+    pub fn start(job: &Job) -> State {
+        let cost = match job.start.is_empty() {
+            true => None,
+            false => Some(job.legs.order_cost(&job.start)),
+        };
+        State {
+            active: vec![Rc::new(Node::empty(&job.legs, job.bound))],
+            branched: Vec::new(),
+            upper: Upper { cost, order: job.start.clone() },
+            generated: 1,
+            eliminated: 0,
+            most: 1,
+        }
+    }
+
+    /// The nodes that the pool must hold.
+    pub fn to_keep(&self, rules: Rules) -> usize {
+        match rules.branched_child {
+            true => self.active.len() + self.branched.len(),
+            false => self.active.len(),
+        }
+    }
+
+    /// Where b stands among the active nodes.
+    fn select(&self, job: &Job) -> usize {
+        assert!(!self.active.is_empty(), "the active set is empty");
+        let latest = self.active.len() - 1;
+        match job.selection {
+            Selection::LeastBoundEarliest => {
+                let least = self.least_bound();
+                self.active.iter().position(|y| y.bound == least).unwrap()
+            }
+            Selection::LeastBoundLatest => {
+                let least = self.least_bound();
+                self.active.iter().rposition(|y| y.bound == least).unwrap()
+            }
+            Selection::Fifo => 0,
+            Selection::Lifo => {
+                let partial = |y: &Rc<Node>| !y.is_complete(&job.legs);
+                self.active.iter().rposition(partial).unwrap_or(latest)
+            }
+        }
+    }
+
+    fn least_bound(&self) -> u32 {
+        self.active.iter().map(|y| y.bound).min().unwrap()
+    }
+
+    fn is_finished(&self, job: &Job, b: usize) -> bool {
+        let node = &self.active[b];
+        let counts = match job.selection {
+            Selection::LeastBoundEarliest | Selection::LeastBoundLatest => true,
+            Selection::Fifo | Selection::Lifo => self.active.len() == 1,
+        };
+        (self.upper.reached_by(node.bound) && counts) || node.is_complete(&job.legs)
+    }
+
+    /// One step, in the sequence of its seven parts.
+    fn step(&self, job: &Job, b: usize) -> State {
+        let mut next = self.clone();
+        // 1
+        let b = next.active.remove(b);
+        next.branched.push(b.clone());
+        let mut children: Vec<Rc<Node>> =
+            b.children(&job.legs, job.bound).into_iter().map(Rc::new).collect();
+        next.generated += children.len() as u64;
+        // 2
+        for child in &children {
+            if child.is_complete(&job.legs) && next.upper.undercut_by(child.bound) {
+                next.upper = Upper { cost: Some(child.bound), order: child.stops.clone() };
+            }
+        }
+        next.eliminate(job.rules, &mut children);
+        // 7
+        next.active.append(&mut children);
+        next.most = next.most.max(next.active.len() as u64);
+        next
+    }
+
+    /// Parts 3 to 6 of a step.
+    fn eliminate(&mut self, rules: Rules, children: &mut Vec<Rc<Node>>) {
+        let State { active, branched, upper, eliminated, .. } = self;
+        // 3
+        if rules.upper_cost {
+            *eliminated += remove(children, |z| upper.exceeded_by(z.bound));
+            *eliminated += remove(active, |z| upper.exceeded_by(z.bound));
+        }
+        // 4
+        if rules.active_child {
+            *eliminated += remove(children, |z| dominated(z, active));
+        }
+        // 5
+        if rules.branched_child {
+            *eliminated += remove(children, |z| dominated(z, branched));
+        }
+        // 6
+        if rules.child_active {
+            *eliminated += remove(active, |z| dominated(z, children));
+        }
+    }
+}
+
+/// Some node of `by` dominates `z`; the first one found ends the search.
+fn dominated(z: &Node, by: &[Rc<Node>]) -> bool {
+    by.iter().any(|y| y.dominates(z))
+}
+
+/// Takes out the nodes that `goes` names and returns how many those were.
+fn remove(nodes: &mut Vec<Rc<Node>>, goes: impl Fn(&Node) -> bool) -> u64 {
+    let before = nodes.len();
+    nodes.retain(|z| !goes(z));
+    (before - nodes.len()) as u64
+}

@@ -1,0 +1,73 @@
+//! The report ("The report") and the pool's words ("The pool").
+
+use crate::node::Node;
+use crate::run::{End, State};
+
+/// Words in a record.
+pub const WORDS: usize = 6;
+
+#[derive(Clone, Copy, PartialEq, Eq, Debug, Default)]
+pub struct Report {
+    pub number: u32,
+    pub cost: u32,
+    /// Zeros past n.
+    pub order: [u32; 16],
+    pub branched: u64,
+    pub generated: u64,
+    pub eliminated: u64,
+    pub active: u64,
+    pub most: u64,
+}
+
+impl Report {
+    /// A number from 1 to 6, and zeros.
+    pub fn refusal(number: u32) -> Report {
+        Report { number, ..Report::default() }
+    }
+
+    pub fn of(state: &State, end: End) -> Report {
+        let mut report = Report {
+            branched: state.branched.len() as u64,
+            generated: state.generated,
+            eliminated: state.eliminated,
+            active: state.active.len() as u64,
+            most: state.most,
+            ..Report::default()
+        };
+        match end {
+            End::Full => report.number = 7,
+            End::Finished => {
+                report.cost = state.upper.cost.expect("a finished run has an order");
+                for (i, &stop) in state.upper.order.iter().enumerate() {
+                    report.order[i] = stop as u32;
+                }
+            }
+        }
+        report
+    }
+
+    /// Branched, generated, eliminated, active, most.
+    pub fn counts(&self) -> [u64; 5] {
+        [self.branched, self.generated, self.eliminated, self.active, self.most]
+    }
+}
+
+/// Size, set, path cost, bound, and two words for the order.
+pub fn record(node: &Node) -> [u32; WORDS] {
+    let mut order = [0u32; 2];
+    for (i, &stop) in node.stops.iter().enumerate() {
+        order[i / 8] |= (stop as u32 - 1) << (4 * (i % 8));
+    }
+    [node.size() as u32, node.set, node.path, node.bound, order[0], order[1]]
+}
+
+/// Active nodes, earliest first; with rule 4 the branched nodes, earliest
+/// branched first; zeros behind.
+pub fn write_pool(state: &State, with_branched: bool, pool: &mut [u32]) {
+    pool.fill(0);
+    let branched = if with_branched { &state.branched[..] } else { &[] };
+    let nodes = state.active.iter().chain(branched);
+    for (place, node) in pool.chunks_exact_mut(WORDS).zip(nodes) {
+        place.copy_from_slice(&record(node));
+    }
+}

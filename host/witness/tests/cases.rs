@@ -1,0 +1,204 @@
+//! Cases a to k of document 01, and further cases worked out by hand.
+
+mod common;
+
+use common::{check_finished, Job, T};
+use witness::enumerate::{all_orders, cheapest_orders, least_cost};
+use witness::legs::Legs;
+use witness::node::{Bound, Node};
+
+fn expect(job: &Job, records: usize, cost: u32, order: &[u32], counts: [u64; 5]) {
+    let (report, pool) = job.run(records);
+    check_finished(job, &report, &pool, cost);
+    assert_eq!(&report.order[..job.n], order);
+    assert_eq!(report.counts(), counts);
+}
+
+fn on_t(choices: [u64; 3], start: &[u32]) -> Job {
+    Job::new(3, &T, choices, start)
+}
+
+#[test]
+fn costs_of_the_orders_in_t() {
+    let legs = Legs::new(3, &T);
+    let costs: Vec<u32> = all_orders(3).iter().map(|o| legs.order_cost(o)).collect();
+    assert_eq!(costs, [13, 17, 27, 18, 19, 26]);
+    assert_eq!(least_cost(&legs), 13);
+    assert_eq!(cheapest_orders(&legs), [[1, 2, 3]]);
+    assert_eq!(all_orders(6).len(), 720);
+}
+
+#[test]
+fn case_a() {
+    expect(&on_t([0, 1, 1], &[]), 16, 13, &[1, 2, 3], [3, 7, 3, 1, 4]);
+}
+
+#[test]
+fn case_b() {
+    expect(&on_t([2, 0, 0], &[]), 16, 13, &[1, 2, 3], [10, 16, 0, 6, 6]);
+}
+
+#[test]
+fn case_c() {
+    expect(&on_t([3, 1, 0], &[]), 16, 13, &[1, 2, 3], [10, 16, 5, 1, 4]);
+}
+
+#[test]
+fn case_d() {
+    expect(&on_t([3, 1, 1], &[]), 16, 13, &[1, 2, 3], [9, 15, 5, 1, 4]);
+}
+
+#[test]
+fn case_e() {
+    expect(&on_t([3, 1, 1], &[1, 2, 3]), 16, 13, &[1, 2, 3], [2, 6, 3, 1, 1]);
+}
+
+#[test]
+fn case_f() {
+    expect(&on_t([3, 1, 1], &[1, 2, 3]), 1, 13, &[1, 2, 3], [2, 6, 3, 1, 1]);
+    let (report, pool) = on_t([3, 1, 1], &[]).run(1);
+    assert_eq!((report.number, report.cost, report.order), (7, 0, [0; 16]));
+    assert_eq!(report.counts(), [0, 1, 0, 1, 1]);
+    assert_eq!(pool, [0, 0, 0, 10, 0, 0]);
+}
+
+#[test]
+fn case_g() {
+    expect(&on_t([2, 2, 0], &[]), 16, 13, &[1, 2, 3], [10, 16, 3, 3, 6]);
+}
+
+#[test]
+fn case_h() {
+    expect(&Job::new(1, &[0, 3, 5, 0], [0, 0, 0], &[]), 2, 8, &[1], [1, 2, 0, 1, 1]);
+}
+
+#[test]
+fn case_i() {
+    let earliest = Job::new(2, &[0; 9], [0, 0, 1], &[]);
+    let latest = Job::new(2, &[0; 9], [1, 0, 1], &[]);
+    expect(&earliest, 5, 0, &[1, 2], [2, 4, 0, 2, 2]);
+    expect(&latest, 5, 0, &[2, 1], [2, 4, 0, 2, 2]);
+}
+
+#[test]
+fn case_j() {
+    let table = [0; 17 * 17];
+    let job = Job::new(16, &table, [0, 0, 0], &(1..=16).collect::<Vec<u32>>());
+    assert_eq!(job.run(1).0.number, 0);
+    let table = [0; 18 * 18];
+    let job = Job::new(17, &table, [0, 0, 0], &[]);
+    assert_eq!(job.run(1).0.number, 1);
+    let dear = Job::new(1, &[0, 1_000_000, 0, 0], [0, 0, 0], &[]);
+    assert_eq!(dear.run(1).0.number, 0);
+    let dearer = Job::new(1, &[0, 1_000_001, 0, 0], [0, 0, 0], &[]);
+    assert_eq!(dearer.run(1).0.number, 3);
+}
+
+#[test]
+fn case_k() {
+    let legs = Legs::new(3, &T);
+    let e = Node::empty(&legs, Bound::Close);
+    assert_eq!(e.bound, 10);
+    let bounds: Vec<u32> = e.children(&legs, Bound::Close).iter().map(|y| y.bound).collect();
+    assert_eq!(bounds, [10, 18, 19]);
+}
+
+/// Job a leaves the one node 123 in the pool.
+#[test]
+fn pool_of_case_a() {
+    let (_, pool) = on_t([0, 1, 1], &[]).run(4);
+    assert_eq!(pool[..6], [3, 7, 7, 13, 0x210, 0]);
+    assert_eq!(pool[6..], [0; 18]);
+}
+
+/// Both orders cost the same: the first found, or given, stays the answer.
+#[test]
+fn equal_complete_child_does_not_replace() {
+    let job = Job::new(2, &[0; 9], [2, 0, 1], &[]);
+    expect(&job, 5, 0, &[1, 2], [3, 5, 0, 2, 2]);
+    let job = Job::new(2, &[0; 9], [2, 0, 1], &[2, 1]);
+    expect(&job, 5, 0, &[2, 1], [0, 1, 0, 1, 1]);
+    let job = Job::new(2, &[0, 1, 1, 1, 0, 1, 1, 1, 0], [2, 0, 0], &[2, 1]);
+    expect(&job, 5, 3, &[2, 1], [3, 5, 0, 2, 2]);
+}
+
+/// Active 12, 21, then branched e, 1, 2; with one record less, the state
+/// before the last step: active 2, 12, then branched e, 1.
+#[test]
+fn pool_with_branched_nodes() {
+    let job = Job::new(2, &[0, 1, 2, 3, 0, 4, 5, 6, 0], [2, 4, 0], &[]);
+    let (report, pool) = job.run(5);
+    assert_eq!((report.number, report.cost), (0, 10));
+    assert_eq!(report.counts(), [3, 5, 0, 2, 2]);
+    let (n12, n21) = ([2, 3, 5, 10, 0x10, 0], [2, 3, 8, 11, 0x01, 0]);
+    let (e, n1, n2) = ([0; 6], [1, 1, 1, 1, 0, 0], [1, 2, 2, 2, 1, 0]);
+    assert_eq!(pool, [n12, n21, e, n1, n2].concat());
+    let (report, pool) = job.run(4);
+    assert_eq!((report.number, report.cost, report.order), (7, 0, [0; 16]));
+    assert_eq!(report.counts(), [2, 4, 0, 2, 2]);
+    assert_eq!(pool, [n2, n12, e, n1].concat());
+}
+
+/// All legs 1: of two equal nodes rule 2 keeps the earlier, rule 8 the later.
+/// With both on, rule 2 is first, and what it eliminates eliminates nothing.
+#[test]
+fn rule_2_before_rule_8() {
+    let table = [0, 1, 1, 1, 1, 0, 1, 1, 1, 1, 0, 1, 1, 1, 1, 0];
+    let earlier = [0x210, 0x120, 0x021];
+    let later = [0x201, 0x102, 0x012];
+    for (rules, orders) in [(2, earlier), (8, later), (10, earlier)] {
+        let job = Job::new(3, &table, [2, rules, 0], &[]);
+        expect(&job, 6, 4, &[1, 2, 3], [10, 16, 3, 3, 6]);
+        let told: Vec<u32> = orders.iter().flat_map(|&o| [3, 7, 3, 4, o, 0]).collect();
+        assert_eq!(job.run(6).1[..18], told);
+    }
+}
+
+/// All legs 1, LIFO: the 24 nodes of size 3 go in pairs of one set and last
+/// stop, and the later of each pair meets a branched node.
+#[test]
+fn rule_4_against_branched_nodes() {
+    let mut table = [1; 25];
+    (0..5).for_each(|i| table[i * 6] = 0);
+    let job = Job::new(4, &table, [3, 4, 0], &[]);
+    expect(&job, 41, 5, &[4, 3, 2, 1], [29, 53, 12, 12, 15]);
+    assert_eq!(job.run(40).0.number, 7);
+}
+
+/// The free chain 1 to 16 is followed without a detour; both words of the
+/// order are in use.
+#[test]
+fn sixteen_stops_in_a_chain() {
+    let mut table = [1_000_000; 17 * 17];
+    for i in 0..17 {
+        table[i * 17 + i] = 0;
+        table[i * 17 + (i + 1) % 17] = 0;
+    }
+    let order: Vec<u32> = (1..=16).collect();
+    let job = Job::new(16, &table, [0, 1, 1], &[]);
+    expect(&job, 121, 0, &order, [16, 137, 120, 1, 121]);
+    let (_, pool) = job.run(121);
+    assert_eq!(pool[..6], [16, 0xFFFF, 0, 0, 0x7654_3210, 0xFEDC_BA98]);
+}
+
+/// Every leg the dearest: seventeen of them, found by the first dive.
+#[test]
+fn dearest_legs() {
+    let mut table = [1_000_000; 17 * 17];
+    (0..17).for_each(|i| table[i * 17 + i] = 0);
+    let order: Vec<u32> = (1..=16).rev().collect();
+    let job = Job::new(16, &table, [1, 15, 1], &[]);
+    expect(&job, 137, 17_000_000, &order, [16, 137, 0, 121, 121]);
+}
+
+/// Under selection 0 a closer bound may branch more, which is why demand 3
+/// lets the bounds differ under FIFO and LIFO only.
+#[test]
+fn closer_bound_may_branch_more_under_least_bound() {
+    let table = [0, 1, 1, 0, 1, 0, 1, 0, 0, 0, 0, 0, 0, 0, 0, 0];
+    let plain = Job::new(3, &table, [0, 0, 0], &[]).run(16).0;
+    let close = Job::new(3, &table, [0, 0, 1], &[]).run(16).0;
+    assert_eq!(plain.counts(), [4, 8, 0, 4, 4]);
+    assert_eq!(close.counts(), [5, 11, 0, 6, 6]);
+    assert_eq!((plain.cost, close.cost), (1, 1));
+}

@@ -1,0 +1,221 @@
+//! What the tests share: a fixed generator, tables, jobs, and the definitions
+//! of document 01 worked out once more from an order alone.
+#![allow(dead_code)]
+
+use witness::legs::Legs;
+use witness::{plan, plan_watched, Report, Request, State, WORDS};
+
+pub const T: [u32; 16] = [0, 4, 7, 9, 5, 0, 2, 6, 3, 8, 0, 1, 6, 5, 4, 0];
+
+/// splitmix64.
+pub struct Random(pub u64);
+
+impl Random {
+    pub fn next(&mut self) -> u64 {
+        self.0 = self.0.wrapping_add(0x9E37_79B9_7F4A_7C15);
+        let mut z = self.0;
+        z = (z ^ (z >> 30)).wrapping_mul(0xBF58_476D_1CE4_E5B9);
+        z = (z ^ (z >> 27)).wrapping_mul(0x94D0_49BB_1331_11EB);
+        z ^ (z >> 31)
+    }
+
+    pub fn below(&mut self, limit: u64) -> u64 {
+        self.next() % limit
+    }
+
+    /// Legs from `low` to `high`, both directions by themselves.
+    pub fn table(&mut self, n: usize, low: u32, high: u32) -> Vec<u32> {
+        let mut table = vec![0; (n + 1) * (n + 1)];
+        for i in 0..=n {
+            for j in (0..=n).filter(|&j| j != i) {
+                table[i * (n + 1) + j] = low + self.below((high - low + 1) as u64) as u32;
+            }
+        }
+        table
+    }
+
+    /// Tie-heavy kinds first, the wide ones last.
+    pub fn table_of_kind(&mut self, n: usize, kind: usize) -> Vec<u32> {
+        let (low, high) = KINDS[kind];
+        self.table(n, low, high)
+    }
+
+    pub fn order(&mut self, n: usize) -> Vec<u32> {
+        let mut order: Vec<u32> = (1..=n as u32).collect();
+        for i in (1..n).rev() {
+            order.swap(i, self.below(i as u64 + 1) as usize);
+        }
+        order
+    }
+}
+
+pub const KINDS: [(u32, u32); 6] = [(0, 2), (1, 1), (0, 0), (0, 1), (1, 12), (0, 1_000_000)];
+
+/// A job without its pool.
+#[derive(Clone, Debug)]
+pub struct Job {
+    pub n: usize,
+    pub table: Vec<u32>,
+    pub selection: u64,
+    pub rules: u64,
+    pub bound: u64,
+    pub start: Vec<u32>,
+}
+
+impl Job {
+    pub fn new(n: usize, table: &[u32], choices: [u64; 3], start: &[u32]) -> Job {
+        let [selection, rules, bound] = choices;
+        Job { n, table: table.to_vec(), selection, rules, bound, start: start.to_vec() }
+    }
+
+    pub fn request(&self) -> Request<'_> {
+        Request {
+            n: self.n as u64,
+            table: &self.table,
+            selection: self.selection,
+            rules: self.rules,
+            bound: self.bound,
+            start: &self.start,
+        }
+    }
+
+    pub fn run_in(&self, pool: &mut [u32]) -> Report {
+        let Job { n, table, selection, rules, bound, start } = self;
+        plan(*n as u64, table, *selection, *rules, *bound, start, pool)
+    }
+
+    pub fn run(&self, records: usize) -> (Report, Vec<u32>) {
+        let mut pool = vec![0; records * WORDS];
+        let report = self.run_in(&mut pool);
+        (report, pool)
+    }
+
+    /// The states that a run with so many records goes through.
+    pub fn states(&self, records: usize) -> Vec<State> {
+        let mut pool = vec![0; records * WORDS];
+        let mut states = Vec::new();
+        plan_watched(&self.request(), &mut pool, &mut |s| states.push(s.clone()));
+        states
+    }
+
+    /// The nodes that each state has the pool keep.
+    pub fn keeps(&self) -> Vec<usize> {
+        let mut keeps = Vec::new();
+        let mut pool = vec![0; ample(self.n) * WORDS];
+        plan_watched(&self.request(), &mut pool, &mut |s| {
+            keeps.push(s.active.len() + if self.rule(4) { s.branched.len() } else { 0 });
+        });
+        keeps
+    }
+
+    pub fn rule(&self, number: u64) -> bool {
+        self.rules & number != 0
+    }
+
+    pub fn leg(&self, from: u32, to: u32) -> u32 {
+        self.table[from as usize * (self.n + 1) + to as usize]
+    }
+
+    pub fn legs(&self) -> Legs {
+        Legs::new(self.n, &self.table)
+    }
+
+    pub fn path(&self, order: &[u32]) -> u32 {
+        let places: Vec<u32> = std::iter::once(0).chain(order.iter().copied()).collect();
+        places.windows(2).map(|w| self.leg(w[0], w[1])).sum()
+    }
+
+    pub fn cost(&self, order: &[u32]) -> u32 {
+        self.path(order) + self.leg(*order.last().unwrap(), 0)
+    }
+
+    pub fn bound_of(&self, order: &[u32]) -> u32 {
+        if order.len() == self.n {
+            return self.cost(order);
+        }
+        if self.bound == 0 {
+            return self.path(order);
+        }
+        let left: Vec<u32> = (1..=self.n as u32).filter(|s| !order.contains(s)).collect();
+        let last = order.last().copied().unwrap_or(0);
+        let into = |s: u32| {
+            let from = left.iter().copied().chain([last]).filter(|&p| p != s);
+            from.map(|p| self.leg(p, s)).min().unwrap()
+        };
+        let home = left.iter().map(|&s| self.leg(s, 0)).min().unwrap();
+        self.path(order) + left.iter().map(|&s| into(s)).sum::<u32>() + home
+    }
+}
+
+/// As many records as a run over n stops can ever keep: all its nodes.
+pub fn ample(n: usize) -> usize {
+    let (mut level, mut sum) = (1, 1);
+    for size in 0..n {
+        level *= n - size;
+        sum += level;
+    }
+    sum
+}
+
+/// All 128 choices of selection, rules and bound.
+pub fn choices() -> Vec<[u64; 3]> {
+    let mut all = Vec::new();
+    for selection in 0..4 {
+        for rules in 0..16 {
+            for bound in 0..2 {
+                all.push([selection, rules, bound]);
+            }
+        }
+    }
+    all
+}
+
+/// The order that a record writes down; the record must be well formed.
+pub fn order_of(job: &Job, record: &[u32]) -> Vec<u32> {
+    let size = record[0] as usize;
+    assert!(size <= job.n);
+    let bits = record[4] as u64 | (record[5] as u64) << 32;
+    let order: Vec<u32> = (0..size).map(|i| (bits >> (4 * i) & 15) as u32 + 1).collect();
+    if size < 16 {
+        assert_eq!(bits >> (4 * size), 0, "unused bits of the order");
+    }
+    let set = order.iter().fold(0, |set, s| set | 1 << (s - 1));
+    assert_eq!(record[1], set);
+    assert_eq!(record[1].count_ones() as usize, size, "stops are distinct");
+    assert_eq!(set >> job.n, 0, "stops are 1 to n");
+    assert_eq!(record[2], job.path(&order));
+    assert_eq!(record[3], job.bound_of(&order));
+    order
+}
+
+/// The pool's words read back: the active nodes, the branched nodes, and
+/// nothing but zeros behind.
+pub fn read_pool(job: &Job, report: &Report, pool: &[u32]) -> (Vec<Vec<u32>>, Vec<Vec<u32>>) {
+    let active = report.active as usize;
+    let branched = if job.rule(4) { report.branched as usize } else { 0 };
+    let orders: Vec<Vec<u32>> =
+        pool.chunks(WORDS).take(active + branched).map(|r| order_of(job, r)).collect();
+    assert_eq!(orders.len(), active + branched, "the nodes fit the pool");
+    assert!(pool[(active + branched) * WORDS..].iter().all(|&w| w == 0));
+    let mut distinct = orders.clone();
+    distinct.sort();
+    distinct.dedup();
+    assert_eq!(distinct.len(), orders.len(), "no node stands twice");
+    (orders[..active].to_vec(), orders[active..].to_vec())
+}
+
+/// What every report of a finished run must satisfy.
+pub fn check_finished(job: &Job, report: &Report, pool: &[u32], least: u32) {
+    assert_eq!(report.number, 0, "{job:?}");
+    assert_eq!(report.cost, least, "{job:?}");
+    let order = &report.order[..job.n];
+    let mut sorted = order.to_vec();
+    sorted.sort();
+    assert_eq!(sorted, (1..=job.n as u32).collect::<Vec<u32>>(), "{job:?}");
+    assert_eq!(job.cost(order), report.cost, "{job:?}");
+    assert!(report.order[job.n..].iter().all(|&s| s == 0), "{job:?}");
+    let parts = report.branched + report.eliminated + report.active;
+    assert_eq!(report.generated, parts, "{job:?}");
+    assert!(report.active <= report.most, "{job:?}");
+    read_pool(job, report, pool);
+}

@@ -1,0 +1,84 @@
+//! Runs under all 128 choices against full enumeration.
+
+mod common;
+
+use common::{ample, check_finished, choices, Job, Random, KINDS};
+use witness::enumerate::{cheapest_orders, least_cost};
+
+/// No starting order, 1 to n, a random one, and one of least cost.
+fn starts(random: &mut Random, job: &Job) -> Vec<Vec<u32>> {
+    let identity = (1..=job.n as u32).collect();
+    let cheapest = cheapest_orders(&job.legs());
+    let optimal = &cheapest[random.below(cheapest.len() as u64) as usize];
+    let optimal = optimal.iter().map(|&s| s as u32).collect();
+    vec![Vec::new(), identity, random.order(job.n), optimal]
+}
+
+fn all_choices(random: &mut Random, n: usize, table: &[u32]) {
+    let blank = Job::new(n, table, [0, 0, 0], &[]);
+    let least = least_cost(&blank.legs());
+    for start in starts(random, &blank) {
+        for choice in choices() {
+            run_one(n, table, choice, &start, least);
+        }
+    }
+}
+
+fn run_one(n: usize, table: &[u32], choice: [u64; 3], start: &[u32], least: u32) {
+    let job = Job::new(n, table, choice, start);
+    let (report, pool) = job.run(ample(n));
+    check_finished(&job, &report, &pool, least);
+    let no_cheaper = !start.is_empty() && job.cost(start) == least;
+    if no_cheaper {
+        assert_eq!(&report.order[..n], start, "an equal order doesn't replace: {job:?}");
+    }
+}
+
+#[test]
+fn up_to_four_stops() {
+    let mut random = Random(1);
+    for n in 1..=4 {
+        for kind in 0..KINDS.len() {
+            for _ in 0..12 {
+                let table = random.table_of_kind(n, kind);
+                all_choices(&mut random, n, &table);
+            }
+        }
+    }
+}
+
+#[test]
+fn five_stops() {
+    let mut random = Random(2);
+    for kind in 0..KINDS.len() {
+        for _ in 0..4 {
+            let table = random.table_of_kind(5, kind);
+            all_choices(&mut random, 5, &table);
+        }
+    }
+}
+
+#[test]
+fn six_stops() {
+    let mut random = Random(3);
+    for kind in [0, 1, 2, 5] {
+        let table = random.table_of_kind(6, kind);
+        all_choices(&mut random, 6, &table);
+    }
+}
+
+/// All choices once, each with one of the starting orders.
+#[test]
+fn seven_stops() {
+    let mut random = Random(4);
+    for kind in [0, 2, 5] {
+        let table = random.table_of_kind(7, kind);
+        let blank = Job::new(7, &table, [0, 0, 0], &[]);
+        let least = least_cost(&blank.legs());
+        let starts = starts(&mut random, &blank);
+        for choice in choices() {
+            let start = &starts[random.below(4) as usize];
+            run_one(7, &table, choice, start, least);
+        }
+    }
+}

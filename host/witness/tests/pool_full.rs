@@ -1,0 +1,126 @@
+//! Number 7 (document 01, "The pool" and "Causes and numbers").
+
+mod common;
+
+use common::{ample, choices, read_pool, Job, Random, KINDS};
+use witness::words::record;
+use witness::{plan_watched, State, WORDS};
+
+/// The pool's words that document 01 gives for a state.
+fn told_words(job: &Job, state: &State, records: usize) -> Vec<u32> {
+    let mut words: Vec<u32> = state.active.iter().flat_map(|y| record(y)).collect();
+    if job.rule(4) {
+        words.extend(state.branched.iter().flat_map(|y| record(y)));
+    }
+    assert!(words.len() <= records * WORDS);
+    words.resize(records * WORDS, 0);
+    words
+}
+
+fn told_counts(state: &State) -> [u64; 5] {
+    let branched = state.branched.len() as u64;
+    let active = state.active.len() as u64;
+    [branched, state.generated, state.eliminated, active, state.most]
+}
+
+fn check_size(job: &Job, states: &[State], keeps: &[usize], records: usize) {
+    let refused = keeps.iter().position(|&k| k > records);
+    let stands = refused.unwrap_or(states.len()) - 1;
+    let mut pool = vec![0xDEAD_BEEF; records * WORDS];
+    let mut seen = 0;
+    let report = plan_watched(&job.request(), &mut pool, &mut |s| {
+        assert_eq!(s, &states[seen], "{job:?}");
+        seen += 1;
+    });
+    assert_eq!(seen, stands + 1, "{job:?}");
+    assert_eq!(report.number, if refused.is_some() { 7 } else { 0 }, "{job:?}");
+    assert_eq!(report.counts(), told_counts(&states[stands]), "{job:?}");
+    assert_eq!(pool, told_words(job, &states[stands], records), "{job:?}");
+    let parts = report.branched + report.eliminated + report.active;
+    assert_eq!(report.generated, parts, "{job:?}");
+    if refused.is_some() {
+        assert_eq!((report.cost, report.order), (0, [0; 16]), "{job:?}");
+    } else {
+        assert_eq!(report, job.run(ample(job.n)).0, "{job:?}");
+    }
+    read_pool(job, &report, &pool);
+}
+
+/// Every size from one record to two past the smallest that suffices.
+fn check_sizes(job: &Job) {
+    let states = job.states(ample(job.n));
+    let keeps = job.keeps();
+    assert_eq!(keeps.len(), states.len());
+    let enough = *keeps.iter().max().unwrap();
+    for records in 1..=enough + 2 {
+        check_size(job, &states, &keeps, records);
+    }
+}
+
+fn check_tables(seed: u64, n: usize, tables: usize) {
+    let mut random = Random(seed);
+    for kind in 0..KINDS.len() {
+        for _ in 0..tables {
+            let table = random.table_of_kind(n, kind);
+            let start = random.order(n);
+            for choice in choices() {
+                check_sizes(&Job::new(n, &table, choice, &[]));
+                check_sizes(&Job::new(n, &table, choice, &start));
+            }
+        }
+    }
+}
+
+#[test]
+fn sizes_up_to_three_stops() {
+    check_tables(31, 1, 1);
+    check_tables(32, 2, 4);
+    check_tables(33, 3, 6);
+}
+
+#[test]
+fn sizes_of_four_stops() {
+    check_tables(34, 4, 1);
+}
+
+/// Five stops, each choice over a table of its own.
+#[test]
+fn sizes_of_five_stops() {
+    let mut random = Random(35);
+    for (i, choice) in choices().into_iter().enumerate() {
+        let table = random.table_of_kind(5, i % KINDS.len());
+        check_sizes(&Job::new(5, &table, choice, &[]));
+    }
+}
+
+/// Both ends occur, and a run that is finished isn't refused.
+#[test]
+fn finish_comes_before_the_step() {
+    let identity: Vec<u32> = (1..=16).collect();
+    let job = Job::new(16, &[0; 17 * 17], [0, 0, 0], &identity);
+    let (report, pool) = job.run(1);
+    assert_eq!((report.number, report.cost), (0, 0));
+    assert_eq!(report.order[..], identity);
+    assert_eq!(report.counts(), [0, 1, 0, 1, 1]);
+    assert_eq!(pool, [0; 6]);
+    let job = Job::new(16, &[0; 17 * 17], [0, 0, 0], &[]);
+    assert_eq!(job.run(15).0.number, 7);
+    assert_eq!(job.run(15).0.counts(), [0, 1, 0, 1, 1]);
+    assert_eq!(job.run(16).0.counts(), [1, 17, 0, 16, 16]);
+}
+
+/// What the pool held before plays no part.
+#[test]
+fn earlier_contents_play_no_part() {
+    let mut random = Random(36);
+    for choice in choices() {
+        let table = random.table_of_kind(4, 0);
+        let job = Job::new(4, &table, choice, &[]);
+        for records in [1, 4, 9, 30, 65] {
+            let mut dirty: Vec<u32> =
+                (0..records * WORDS).map(|_| random.next() as u32).collect();
+            let report = job.run_in(&mut dirty);
+            assert_eq!((report, dirty), job.run(records));
+        }
+    }
+}

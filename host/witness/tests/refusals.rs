@@ -1,0 +1,196 @@
+//! Refusals 1 to 6: each cause, the boundaries, and the lowest number of
+//! several (document 01, "Causes and numbers").
+
+mod common;
+
+use common::{Random, T};
+use witness::{plan, Report};
+
+/// A call on table T that passes every check, to be spoiled in places.
+#[derive(Clone)]
+struct Call {
+    n: u64,
+    table: Vec<u32>,
+    selection: u64,
+    rules: u64,
+    bound: u64,
+    start: Vec<u32>,
+    pool: Vec<u32>,
+}
+
+fn good() -> Call {
+    let pool = (0..96).map(|i| 0xA5A5_0000 + i).collect();
+    let (table, start) = (T.to_vec(), vec![2, 3, 1]);
+    Call { n: 3, table, selection: 3, rules: 15, bound: 1, start, pool }
+}
+
+fn number(call: &Call) -> u32 {
+    let mut pool = call.pool.clone();
+    let c = call;
+    let report =
+        plan(c.n, &c.table, c.selection, c.rules, c.bound, &c.start, &mut pool);
+    if (1..=6).contains(&report.number) {
+        let bare = Report { number: report.number, ..Report::default() };
+        assert_eq!(report, bare, "all else is zero");
+        assert_eq!(pool, call.pool, "the pool stays as it was");
+    }
+    report.number
+}
+
+fn spoiled(spoil: impl Fn(&mut Call)) -> u32 {
+    let mut call = good();
+    spoil(&mut call);
+    number(&call)
+}
+
+#[test]
+fn the_good_call_passes() {
+    assert_eq!(number(&good()), 0);
+}
+
+#[test]
+fn number_1() {
+    for n in [0, 17, 18, 255, 256, 1 << 32, (1 << 32) + 3, u64::MAX] {
+        assert_eq!(spoiled(|c| c.n = n), 1, "{n}");
+    }
+    for n in 1..=16usize {
+        let table = vec![0; (n + 1) * (n + 1)];
+        let start: Vec<u32> = (1..=n as u32).collect();
+        let passed = spoiled(|c| {
+            (c.n, c.selection) = (n as u64, 0);
+            (c.table, c.start) = (table.clone(), start.clone());
+        });
+        assert_eq!(passed, 0);
+    }
+    let eighteen = |c: &mut Call| (c.n, c.table) = (17, vec![0; 18 * 18]);
+    assert_eq!(spoiled(eighteen), 1);
+}
+
+#[test]
+fn number_2() {
+    for length in [0, 1, 9, 15, 17, 25, 289] {
+        assert_eq!(spoiled(|c| c.table.resize(length, 0)), 2, "{length}");
+    }
+    for n in [1, 2, 4, 16] {
+        assert_eq!(spoiled(|c| c.n = n), 2, "{n}");
+    }
+}
+
+#[test]
+fn number_3() {
+    for place in 0..16 {
+        let diagonal = place % 5 == 0;
+        let told = if diagonal { 3 } else { 0 };
+        assert_eq!(spoiled(|c| c.table[place] = 1_000_000), told, "{place}");
+        assert_eq!(spoiled(|c| c.table[place] = 1), told, "{place}");
+        assert_eq!(spoiled(|c| c.table[place] = 0), 0, "{place}");
+        assert_eq!(spoiled(|c| c.table[place] = 1_000_001), 3, "{place}");
+        assert_eq!(spoiled(|c| c.table[place] = u32::MAX), 3, "{place}");
+    }
+}
+
+#[test]
+fn number_4() {
+    for big in [4, 5, 256, 1 << 32, u64::MAX] {
+        assert_eq!(spoiled(|c| c.selection = big), 4, "{big}");
+    }
+    for big in [16, 17, 31, 256, 1 << 32, u64::MAX] {
+        assert_eq!(spoiled(|c| c.rules = big), 4, "{big}");
+    }
+    for big in [2, 3, 256, 1 << 32, u64::MAX] {
+        assert_eq!(spoiled(|c| c.bound = big), 4, "{big}");
+    }
+    for [selection, rules, bound] in common::choices() {
+        let choose = |c: &mut Call| {
+            (c.selection, c.rules, c.bound) = (selection, rules, bound);
+        };
+        assert_eq!(spoiled(choose), 0);
+    }
+}
+
+#[test]
+fn number_5() {
+    let wrong: [&[u32]; 12] = [
+        &[1], &[1, 2], &[1, 2, 3, 1], &[1, 2, 3, 4], &[1, 2, 2], &[1, 1, 1], &[0, 1, 2],
+        &[1, 2, 4], &[1, 2, 0], &[1, 2, 259], &[0, 0, 0], &[1, 2, u32::MAX],
+    ];
+    for start in wrong {
+        assert_eq!(spoiled(|c| c.start = start.to_vec()), 5, "{start:?}");
+    }
+    let right: [&[u32]; 7] =
+        [&[], &[1, 2, 3], &[1, 3, 2], &[2, 1, 3], &[2, 3, 1], &[3, 1, 2], &[3, 2, 1]];
+    for start in right {
+        assert_eq!(spoiled(|c| c.start = start.to_vec()), 0, "{start:?}");
+    }
+}
+
+#[test]
+fn number_6() {
+    for words in 0..40 {
+        let got = spoiled(|c| c.pool.truncate(words));
+        if words == 0 || words % 6 != 0 {
+            assert_eq!(got, 6, "{words}");
+        } else {
+            assert!(got == 0 || got == 7, "{words}");
+        }
+    }
+}
+
+/// Spoils a call so that `number` applies, in a way picked at random.
+fn spoil(call: &mut Call, number: u32, random: &mut Random) {
+    let way = random.below(3) as usize;
+    match number {
+        1 => call.n = [0, 17, u64::MAX][way],
+        2 => {
+            let length = [0, 15, 17][way];
+            call.table.resize(length, 7);
+        }
+        3 => {
+            if !call.table.is_empty() {
+                call.table[0] = [1, 1_000_001, u32::MAX][way];
+            }
+        }
+        4 => match way {
+            0 => call.selection = 4,
+            1 => call.rules = 16,
+            _ => call.bound = 2,
+        },
+        5 => call.start = [vec![1], vec![1, 2, 2], vec![0, 1, 2]][way].clone(),
+        _ => {
+            let words = [0, 5, 95][way];
+            call.pool.truncate(words);
+        }
+    }
+}
+
+/// All 63 sets of causes: the lowest number is the answer.
+#[test]
+fn lowest_number_of_several() {
+    let mut random = Random(41);
+    for causes in 1u32..64 {
+        for _ in 0..40 {
+            let mut call = good();
+            for cause in (1..=6).filter(|c| causes >> (c - 1) & 1 == 1) {
+                spoil(&mut call, cause, &mut random);
+            }
+            assert_eq!(number(&call), causes.trailing_zeros() + 1);
+        }
+    }
+}
+
+/// A pool that is full comes behind all of them.
+#[test]
+fn number_7_is_the_last() {
+    let short = |c: &mut Call| {
+        (c.start, c.rules) = (Vec::new(), 0);
+        c.pool.truncate(6);
+    };
+    assert_eq!(spoiled(short), 7);
+    for cause in 1..=5 {
+        let both = |c: &mut Call| {
+            short(c);
+            spoil(c, cause, &mut Random(42));
+        };
+        assert_eq!(spoiled(both), cause);
+    }
+}

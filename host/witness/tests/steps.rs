@@ -1,0 +1,161 @@
+//! Each step of a run held against the text, with nodes as bare orders and
+//! each elimination as one condition on the node.
+
+mod common;
+
+use common::{ample, choices, Job, Random, KINDS};
+use witness::node::Node;
+use witness::State;
+
+type Order = Vec<u32>;
+
+fn bare(nodes: &[std::rc::Rc<Node>]) -> Vec<Order> {
+    nodes.iter().map(|y| y.stops.iter().map(|&s| s as u32).collect()).collect()
+}
+
+fn dominates(job: &Job, y: &Order, z: &Order) -> bool {
+    let (mut a, mut b) = (y.clone(), z.clone());
+    a.sort();
+    b.sort();
+    y != z && a == b && y.last() == z.last() && job.path(y) <= job.path(z)
+}
+
+/// The place of b among the active nodes.
+fn selected(job: &Job, active: &[Order]) -> usize {
+    let places = 0..active.len();
+    let bound = |&i: &usize| job.bound_of(&active[i]);
+    match job.selection {
+        0 => places.min_by_key(|i| (bound(i), *i)).unwrap(),
+        1 => places.min_by_key(|i| (bound(i), active.len() - i)).unwrap(),
+        2 => 0,
+        _ => places.max_by_key(|&i| (active[i].len() < job.n, i)).unwrap(),
+    }
+}
+
+fn finished(job: &Job, active: &[Order], b: usize, upper: u32) -> bool {
+    let at_least = job.bound_of(&active[b]) >= upper;
+    let alone = job.selection < 2 || active.len() == 1;
+    at_least && alone || active[b].len() == job.n
+}
+
+struct After {
+    active: Vec<Order>,
+    branched: Vec<Order>,
+    upper: u32,
+    best: Order,
+    generated: u64,
+}
+
+fn upper_of(state: &State) -> (u32, Order) {
+    let order = state.upper.order.iter().map(|&s| s as u32).collect();
+    (state.upper.cost.unwrap_or(u32::MAX), order)
+}
+
+fn after(job: &Job, before: &State, b: usize) -> After {
+    let mut rest = bare(&before.active);
+    let parent = rest.remove(b);
+    let mut branched = bare(&before.branched);
+    branched.push(parent.clone());
+    let stops = (1..=job.n as u32).filter(|s| !parent.contains(s));
+    let children: Vec<Order> = stops.map(|s| [&parent[..], &[s]].concat()).collect();
+    let (mut upper, mut best) = upper_of(before);
+    let complete = children.iter().filter(|c| c.len() == job.n);
+    if let Some(c) = complete.min_by_key(|c| job.cost(c)) {
+        if job.cost(c) < upper {
+            (upper, best) = (job.cost(c), c.clone());
+        }
+    }
+    let above = |z: &Order| job.rule(1) && job.bound_of(z) > upper;
+    let child_goes = |c: &Order| {
+        above(c)
+            || job.rule(2) && rest.iter().any(|a| !above(a) && dominates(job, a, c))
+            || job.rule(4) && branched.iter().any(|y| dominates(job, y, c))
+    };
+    let new: Vec<Order> = children.iter().filter(|c| !child_goes(c)).cloned().collect();
+    let active_goes = |a: &Order| {
+        above(a) || job.rule(8) && new.iter().any(|c| dominates(job, c, a))
+    };
+    let kept: Vec<Order> = rest.iter().filter(|a| !active_goes(a)).cloned().collect();
+    let active = [kept, new].concat();
+    After { active, branched, upper, best, generated: children.len() as u64 }
+}
+
+fn check_step(job: &Job, before: &State, next: &State) {
+    let active = bare(&before.active);
+    let b = selected(job, &active);
+    assert!(!finished(job, &active, b, upper_of(before).0), "{job:?}");
+    let told = after(job, before, b);
+    assert_eq!(bare(&next.active), told.active, "{job:?}");
+    assert_eq!(bare(&next.branched), told.branched, "{job:?}");
+    assert_eq!(upper_of(next), (told.upper, told.best), "{job:?}");
+    assert_eq!(next.generated, before.generated + told.generated, "{job:?}");
+    let passed = active.len() as u64 - 1 + told.generated;
+    let gone = passed - told.active.len() as u64;
+    assert_eq!(next.eliminated, before.eliminated + gone, "{job:?}");
+    assert_eq!(next.most, before.most.max(next.active.len() as u64), "{job:?}");
+}
+
+fn check_run(job: &Job) {
+    let states = job.states(ample(job.n));
+    let first = &states[0];
+    assert_eq!(bare(&first.active), [Vec::new()]);
+    assert!(first.branched.is_empty());
+    assert_eq!((first.generated, first.eliminated, first.most), (1, 0, 1));
+    let given = if job.start.is_empty() { u32::MAX } else { job.cost(&job.start) };
+    assert_eq!(upper_of(first), (given, job.start.clone()));
+    for pair in states.windows(2) {
+        check_step(job, &pair[0], &pair[1]);
+    }
+    let last = states.last().unwrap();
+    let active = bare(&last.active);
+    let b = selected(job, &active);
+    assert!(finished(job, &active, b, upper_of(last).0), "{job:?}");
+    check_report(job, last);
+}
+
+/// The call reports the last state and leaves it in the pool.
+fn check_report(job: &Job, last: &State) {
+    let (report, pool) = job.run(ample(job.n));
+    let (upper, best) = upper_of(last);
+    assert_eq!((report.number, report.cost), (0, upper));
+    assert_eq!(&report.order[..job.n], best);
+    let counts = [last.generated, last.eliminated, last.most];
+    assert_eq!([report.generated, report.eliminated, report.most], counts);
+    assert_eq!(report.branched, last.branched.len() as u64);
+    assert_eq!(report.active, last.active.len() as u64);
+    let (active, branched) = common::read_pool(job, &report, &pool);
+    assert_eq!(active, bare(&last.active));
+    let kept = if job.rule(4) { bare(&last.branched) } else { Vec::new() };
+    assert_eq!(branched, kept);
+}
+
+fn check_tables(seed: u64, n: usize, tables: usize) {
+    let mut random = Random(seed);
+    for kind in 0..KINDS.len() {
+        for _ in 0..tables {
+            let table = random.table_of_kind(n, kind);
+            let start = random.order(n);
+            for choice in choices() {
+                check_run(&Job::new(n, &table, choice, &[]));
+                check_run(&Job::new(n, &table, choice, &start));
+            }
+        }
+    }
+}
+
+#[test]
+fn steps_up_to_three_stops() {
+    check_tables(11, 1, 1);
+    check_tables(12, 2, 8);
+    check_tables(13, 3, 16);
+}
+
+#[test]
+fn steps_of_four_stops() {
+    check_tables(14, 4, 6);
+}
+
+#[test]
+fn steps_of_five_stops() {
+    check_tables(15, 5, 1);
+}
