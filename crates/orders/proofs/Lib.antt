@@ -1,0 +1,5 @@
+pub mod Sets
+pub mod Tree
+pub mod Partial
+pub mod Order
+pub mod Orders

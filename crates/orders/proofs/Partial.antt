@@ -1,0 +1,87 @@
+-- Partial orders: nodes in which no stop stands twice and that hold nothing but 1 to n. They are just the nodes reached from e, they
+-- are made from e by one stop after another (`partial-made`), and their size is their length. Assumes nothing.
+use mathlib.Core.Path.{_≡_, ap, sym, subst}
+use mathlib.Core.List.{List, [], _∷_, _++_, append-nil, append-assoc, List·Memᴰ·not-nil, List·Memᴰ·eq-of-singleton, Memᴰ·append-right, List·Memᴰ·append-cases}
+use mathlib.Core.Logic.{_⊎_, inl, inr}
+use Prim.Native.Nat.{ℕ, _≤_}
+use native.Mathlib.Omega.{arith}
+use lib.Dec.{T-not, not-T}
+use lib.ListN.{length, length-append}
+use Rattle.lists.specs.Lists.{In, Distinct, none, more}
+use Rattle.lists.proofs.Members.{in-head}
+use Rattle.lists.proofs.Empty.{no-members}
+use Rattle.lists.proofs.Distinct.{distinct-append, append-apart}
+use Rattle.search.specs.Problem.{Problem}
+use Rattle.search.proofs.Laws.{Leads, stay, down}
+use Rattle.orders.specs.Orders.{Node, flown, set, left, size, extend, children}
+use Rattle.orders.proofs.Sets.{in-flown, flown-in, in-set, in-left, left-in, size-extend, child-extends, extend-child}
+
+-- an order as far as it is flown
+pub record Partial (n : ℕ) (x : Node) : Type 0 where
+  -- no stop stands twice
+  pub once : Distinct x
+  -- nothing but 1 to n
+  pub only : (s : ℕ) → In s x → (1 ≤ s) × (s ≤ n)
+
+pub partial-root : (n : ℕ) → Partial n []
+partial-root n = record { once = none; only = λ s m. absurd (List·Memᴰ·not-nil m) }
+
+partial-extend : (n : ℕ) (x : Node) (s : ℕ) → Partial n x → In s (left n x) → Partial n (extend x s)
+partial-extend n x s p m = record {
+  once = distinct-append (p .once) (more List·Memᴰ·not-nil none) (λ r i j. new (subst (λ (t : ℕ). In t x) (List·Memᴰ·eq-of-singleton j) i));
+  only = λ r i. go r (List·Memᴰ·append-cases x i);
+}
+  where
+    new : In s x → ⊥
+    new i = T-not (flown x s) (in-left n x s m .2) (in-flown x s i)
+
+    go : (r : ℕ) → In r x ⊎ In r (s ∷ []) → (1 ≤ r) × (r ≤ n)
+    go r (inl i) = p .only r i
+    go r (inr i) = let h = in-left n x s m in rw (List·Memᴰ·eq-of-singleton i) (h .0, h .1)
+
+pub partial-child : (n : ℕ) (x c : Node) → Partial n x → In c (children n x) → Partial n c
+partial-child n x c p m = let (s, i, e) = child-extends n x c m in subst (Partial n) (sym e) (partial-extend n x s p i)
+
+-- What holds of e, and of a node extended by a stop that it leaves if it holds of the node, holds of every partial order: the
+-- stops of x are flown one by one, from the part y that is flown to the part z that is not. A stop of z is not in y, since y and z
+-- share none.
+module _ (n : ℕ) (Q : Node → Type 0) (root : Q []) (step : (x : Node) (s : ℕ) → Q x → In s (left n x) → Q (extend x s)) where
+  made-from : (y z : Node) → Partial n (y ++ z) → Q y → Q (y ++ z)
+  made-from y [] p q = subst Q (sym (append-nil y)) q
+  made-from y (s ∷ z) p q = subst Q joined (made-from (extend y s) z (subst (Partial n) (sym joined) p) (step y s q fresh))
+    where
+      joined : extend y s ++ z ≡ y ++ (s ∷ z)
+      joined = append-assoc y (s ∷ []) z
+
+      fresh : In s (left n y)
+      fresh =
+          let h : (1 ≤ s) × (s ≤ n) = p .only s (Memᴰ·append-right y in-head) in
+          left-in n y s (h .0) (h .1) (not-T (flown y s) (λ f. append-apart y (s ∷ z) (p .once) s (flown-in y s f) in-head))
+
+  pub partial-made : (x : Node) → Partial n x → Q x
+  partial-made x p = made-from [] x p root
+
+-- sizes
+size-root : (n : ℕ) → size n [] ≡ 0
+unfolding size flown
+size-root n = ap length (no-members (set n []) (λ s m. in-set n [] s m .2))
+
+pub partial-size : (n : ℕ) (x : Node) → Partial n x → size n x ≡ length x
+partial-size n =
+    partial-made n (λ x. size n x ≡ length x) (size-root n) (λ x s e m. omega (arith, size-extend n x s m, length-append x (s ∷ [])))
+
+-- the nodes reached from e
+leads-behind : {N : Type 0} {P : Problem N} {x y c : N} → Leads P x y → In c (P .children y) → Leads P x c
+leads-behind stay m = down m stay
+leads-behind (down i l) m = down i (leads-behind l m)
+
+module _ (n : ℕ) (P : Problem Node) (kids : (x : Node) → P .children x ≡ children n x) where
+  pub partial-leads : (x : Node) → Partial n x → Leads P [] x
+  partial-leads = partial-made n (Leads P []) stay (λ x s l m. leads-behind l (child x s m))
+    where
+      child : (x : Node) (s : ℕ) → In s (left n x) → In (extend x s) (P .children x)
+      child x s m = subst (λ (l : List Node). In (extend x s) l) (sym (kids x)) (extend-child n x s m)
+
+  pub leads-partial : {x y : Node} → Leads P x y → Partial n x → Partial n y
+  leads-partial stay p = p
+  leads-partial (down {x} {c} m l) p = leads-partial l (partial-child n x c p (subst (λ (l : List Node). In c l) (kids x) m))

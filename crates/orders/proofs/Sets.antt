@@ -1,0 +1,125 @@
+-- Laws of a node's set: which stops it flies and which it leaves, what one more stop does to both, and the nodes of one set.
+--   in-X    what membership in X says;  X-in  what is enough for it
+-- They hold for every list of numbers, with repeats and with numbers above n too. Assumes nothing.
+use mathlib.Core.Path.{_≡_, refl, ap, sym, _∙_, subst}
+use mathlib.Core.Bool.{Bool, true, false, not, _&&_, _||_}
+use mathlib.Core.List.{List, [], _∷_, _++_}
+use Prim.Native.Nat.{ℕ, suc, _+_, _≤_, _<_}
+use native.Mathlib.Omega.{arith}
+use lib.Dec.{T, eqb, eqb→eq, eqb-refl}
+use lib.ListN.{length}
+use Rattle.lists.specs.Lists.{In, keep, Distinct}
+use Rattle.lists.proofs.Tests.{same-tests}
+use Rattle.lists.proofs.Members.{in-keep, keep-in, any-in, in-any, in-map, map-in, in-from, from-in, distinct-keep, distinct-from, length-from}
+use Rattle.lists.proofs.Numbers.{keep-parts}
+use Rattle.lists.proofs.Keep.{keep-same, keep-keep, any-append}
+use Rattle.lists.proofs.Distinct.{length-without}
+use Rattle.orders.specs.Orders.{Node, stops, flown, set, left, size, extend, children}
+
+-- the stops 1 to n
+pub in-stops : (n s : ℕ) → In s (stops n) → (1 ≤ s) × (s ≤ n)
+in-stops n s m = let h : (1 ≤ s) × (s < 1 + n) = in-from 1 n s m in (h .0, omega arith)
+
+pub stops-in : (n s : ℕ) → 1 ≤ s → s ≤ n → In s (stops n)
+stops-in n s h k = from-in 1 n s h (omega arith)
+
+-- flown
+pub in-flown : (x : Node) (s : ℕ) → In s x → T (flown x s)
+unfolding flown
+in-flown x s m = in-any (eqb s) x s m (eqb-refl s)
+
+pub flown-in : (x : Node) (s : ℕ) → T (flown x s) → In s x
+unfolding flown
+flown-in x s h = let (r, m, e) = any-in (eqb s) x h in subst (λ (k : ℕ). In k x) (sym (eqb→eq s r e)) m
+
+pub flown-append : (x y : Node) (s : ℕ) → flown (x ++ y) s ≡ (flown x s || flown y s)
+unfolding flown
+flown-append x y s = any-append (eqb s) x y
+
+-- set and left
+pub in-set : (n : ℕ) (x : Node) (s : ℕ) → In s (set n x) → (1 ≤ s) × (s ≤ n) × T (flown x s)
+unfolding set
+in-set n x s m = let (i, f) = in-keep (flown x) (stops n) s m in let h = in-stops n s i in (h .0, h .1, f)
+
+pub set-in : (n : ℕ) (x : Node) (s : ℕ) → 1 ≤ s → s ≤ n → T (flown x s) → In s (set n x)
+unfolding set
+set-in n x s h k f = keep-in (flown x) (stops n) s (stops-in n s h k) f
+
+pub in-left : (n : ℕ) (x : Node) (s : ℕ) → In s (left n x) → (1 ≤ s) × (s ≤ n) × T (not (flown x s))
+unfolding left
+in-left n x s m = let (i, f) = in-keep (λ r. not (flown x r)) (stops n) s m in let h = in-stops n s i in (h .0, h .1, f)
+
+pub left-in : (n : ℕ) (x : Node) (s : ℕ) → 1 ≤ s → s ≤ n → T (not (flown x s)) → In s (left n x)
+unfolding left
+left-in n x s h k f = keep-in (λ r. not (flown x r)) (stops n) s (stops-in n s h k) f
+
+pub distinct-set : (n : ℕ) (x : Node) → Distinct (set n x)
+unfolding set
+distinct-set n x = distinct-keep (flown x) (distinct-from 1 n)
+
+pub distinct-left : (n : ℕ) (x : Node) → Distinct (left n x)
+unfolding left
+distinct-left n x = distinct-keep (λ r. not (flown x r)) (distinct-from 1 n)
+
+pub size-left : (n : ℕ) (x : Node) → size n x + length (left n x) ≡ n
+unfolding size set left
+size-left n x = keep-parts (flown x) (stops n) ∙ length-from 1 n
+
+-- one more stop
+eqb-sym : (r s : ℕ) → eqb r s ≡ eqb s r
+eqb-sym r s = same-tests (eqb r s) (eqb s r) (go r s) (go s r)
+  where
+    go : (a b : ℕ) → T (eqb a b) → T (eqb b a)
+    go a b h = rw (eqb→eq a b h) (eqb-refl b)
+
+flown-extend : (x : Node) (s r : ℕ) → not (flown (extend x s) r) ≡ (not (flown x r) && not (eqb s r))
+unfolding flown
+flown-extend x s r = ap not (flown-append x (s ∷ []) r) ∙ go (flown x r) (eqb r s) (eqb s r) (eqb-sym r s)
+  where
+    go : (a b c : Bool) → b ≡ c → not (a || (b || false)) ≡ (not a && not c)
+    go true b c e = refl
+    go false true c e = ap not e
+    go false false c e = ap not e
+
+pub left-extend : (n : ℕ) (x : Node) (s : ℕ) → left n (extend x s) ≡ keep (λ r. not (eqb s r)) (left n x)
+unfolding left
+left-extend n x s =
+    keep-same (λ r. not (flown (extend x s) r)) (λ r. not (flown x r) && not (eqb s r)) (stops n) (λ r m. flown-extend x s r)
+    ∙ sym (keep-keep (λ r. not (eqb s r)) (λ r. not (flown x r)) (stops n))
+
+pub size-extend : (n : ℕ) (x : Node) (s : ℕ) → In s (left n x) → size n (extend x s) ≡ suc (size n x)
+size-extend n x s m =
+    let e : length (left n x) ≡ suc (length (keep (λ r. not (eqb s r)) (left n x))) = length-without s (distinct-left n x) m in
+    omega (arith, size-left n x, size-left n (extend x s), ap length (left-extend n x s))
+
+-- children
+pub child-extends : (n : ℕ) (x c : Node) → In c (children n x) → (s : ℕ) × In s (left n x) × (c ≡ extend x s)
+unfolding children
+child-extends n x c m = in-map (extend x) (left n x) c m
+
+pub extend-child : (n : ℕ) (x : Node) (s : ℕ) → In s (left n x) → In (extend x s) (children n x)
+unfolding children
+extend-child n x s m = map-in (extend x) m
+
+-- nodes of one set
+pub set-same-flown : (n : ℕ) (w x : Node) → set n w ≡ set n x → (s : ℕ) → 1 ≤ s → s ≤ n → flown w s ≡ flown x s
+set-same-flown n w x e s h k = same-tests (flown w s) (flown x s) (go w x e) (go x w (sym e))
+  where
+    go : (w x : Node) → set n w ≡ set n x → T (flown w s) → T (flown x s)
+    go w x e f = in-set n x s (subst (λ (l : List ℕ). In s l) e (set-in n w s h k f)) .2
+
+pub flown-same-set : (n : ℕ) (w x : Node) → ((s : ℕ) → 1 ≤ s → s ≤ n → flown w s ≡ flown x s) → set n w ≡ set n x
+unfolding set
+flown-same-set n w x f = keep-same (flown w) (flown x) (stops n) (λ s m. let h = in-stops n s m in f s (h .0) (h .1))
+
+pub set-same-left : (n : ℕ) (w x : Node) → set n w ≡ set n x → left n w ≡ left n x
+unfolding left
+set-same-left n w x e =
+    keep-same (λ s. not (flown w s)) (λ s. not (flown x s)) (stops n)
+    (λ s m. let h = in-stops n s m in ap not (set-same-flown n w x e s (h .0) (h .1)))
+
+pub set-extend-same : (n : ℕ) (w x : Node) (s : ℕ) → set n w ≡ set n x → set n (extend w s) ≡ set n (extend x s)
+set-extend-same n w x s e = flown-same-set n (extend w s) (extend x s) (λ r h k. go r (set-same-flown n w x e r h k))
+  where
+    go : (r : ℕ) → flown w r ≡ flown x r → flown (extend w s) r ≡ flown (extend x s) r
+    go r f = flown-append w (s ∷ []) r ∙ ap (λ (b : Bool). b || flown (s ∷ []) r) f ∙ sym (flown-append x (s ∷ []) r)

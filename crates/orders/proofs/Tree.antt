@@ -1,0 +1,65 @@
+-- The tree of partial orders, for any problem whose children and completeness are those of this crate, whatever its costs and its
+-- dominance: sizes rise by one up to n, where just the complete nodes stand; a complete node leaves no stop; and a node weighs more
+-- than its children together. Assumes nothing.
+use mathlib.Core.Path.{_≡_, ap, sym, _∙_, subst}
+use mathlib.Core.List.{List, []}
+use Prim.Native.Nat.{ℕ, zero, suc, _*_, _-_, _<_}
+use native.Mathlib.Omega.{arith}
+use lib.Dec.{T, eqb→eq, eqb-refl}
+use lib.ListN.{length}
+use Rattle.lists.specs.Lists.{In, sum}
+use Rattle.lists.proofs.Empty.{in-nonempty, no-members}
+use Rattle.lists.proofs.Numbers.{sum-same, sum-const, sum-map}
+use Rattle.search.specs.Problem.{Problem}
+use Rattle.search.proofs.Laws.{Sized, Weighs}
+use Rattle.orders.specs.Orders.{Node, left, size, complete, extend, children, nodes}
+use Rattle.orders.proofs.Sets.{size-left, size-extend, child-extends}
+
+-- complete nodes
+pub complete-size : (n : ℕ) (x : Node) → T (complete n x) → size n x ≡ n
+unfolding complete
+complete-size n x h = eqb→eq (size n x) n h
+
+pub size-complete : (n : ℕ) (x : Node) → size n x ≡ n → T (complete n x)
+unfolding complete
+size-complete n x e = rw e (eqb-refl n)
+
+pub complete-left : (n : ℕ) (x : Node) → T (complete n x) → left n x ≡ []
+complete-left n x h = no-members (left n x) (λ s m. omega (arith, in-nonempty m, size-left n x, complete-size n x h))
+
+pub left-complete : (n : ℕ) (x : Node) → left n x ≡ [] → T (complete n x)
+left-complete n x e = size-complete n x (omega (arith, size-left n x, ap length e))
+
+-- sizes and weights
+child-size : (n : ℕ) (x c : Node) → In c (children n x) → size n c ≡ suc (size n x)
+child-size n x c m = let (s, i, e) = child-extends n x c m in ap (size n) e ∙ size-extend n x s i
+
+nodes-below : (m : ℕ) → m * nodes (m - 1) < nodes m
+nodes-below zero = omega arith
+nodes-below (suc m) = let e : suc m - 1 ≡ m = omega arith in rw e (omega arith)
+
+children-weigh : (n : ℕ) (x : Node) → sum (λ y. nodes (n - size n y)) (children n x) ≡ length (left n x) * nodes (length (left n x) - 1)
+unfolding children
+children-weigh n x =
+    sum-map (extend x) (λ y. nodes (n - size n y)) (left n x)
+    ∙ sum-same (λ s. nodes (n - size n (extend x s))) (λ s. nodes (length (left n x) - 1)) (left n x) (λ s m. ap nodes (go s m))
+    ∙ sum-const (nodes (length (left n x) - 1)) (left n x)
+  where
+    go : (s : ℕ) → In s (left n x) → n - size n (extend x s) ≡ length (left n x) - 1
+    go s m = omega (arith, size-extend n x s m, size-left n x)
+
+module _
+    (n : ℕ) (P : Problem Node) (kids : (x : Node) → P .children x ≡ children n x) (whole : (x : Node) → P .complete x ≡ complete n x)
+  where
+    pub tree-sized : Sized P (size n) n
+    tree-sized = record {
+      small = λ x. omega (arith, size-left n x);
+      child = λ x c m. child-size n x c (subst (λ (l : List Node). In c l) (kids x) m);
+      whole = λ x h. let e : size n x ≡ n = complete-size n x (subst T (whole x) h) in omega arith;
+      full = λ x h. subst T (sym (whole x)) (size-complete n x (omega (arith, size-left n x)));
+    }
+
+    pub tree-weighs : Weighs P (λ x. nodes (n - size n x))
+    tree-weighs x =
+        let e : n - size n x ≡ length (left n x) = omega (arith, size-left n x) in
+        rw (kids x, children-weigh n x, e) (nodes-below (length (left n x)))
