@@ -41,6 +41,10 @@ pub not-not : (a : Bool) → (T (not a) → ⊥) → T a
 not-not true h = tt
 not-not false h = h tt
 
+pub twice-not : (a : Bool) → T (not (not a)) → T a
+twice-not true h = tt
+twice-not false h = h
+
 pub to-true : (a : Bool) → T a → a ≡ true
 to-true true h = refl
 to-true false h = absurd h

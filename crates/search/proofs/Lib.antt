@@ -4,3 +4,8 @@ pub mod Laws
 pub mod Pick
 pub mod Verdict
 pub mod Queue
+pub mod Learn
+pub mod Move
+pub mod Cover
+pub mod CoverStep
+pub mod Optimal

@@ -1,1 +1,7 @@
 pub mod Examples
+pub mod Paths
+pub mod Ahead
+pub mod Bounds
+pub mod Alike
+pub mod Table
+pub mod Instance
