@@ -1,3 +1,1 @@
-pub mod Cases
-pub mod OwnCases
 pub mod Passes

@@ -16,6 +16,7 @@ use Rattle.stops.specs.Legs.{entry}
 use Rattle.pool.specs.Records.{recordWords, recordsIn}
 use Rattle.planner.specs.Call.{Call}
 use Rattle.planner.specs.Checks.{cause₁, cause₂, cause₃, cause₄, cause₅, cause₆, isEmpty, orLater, cause}
+use Rattle.planner.specs.Cases
 
 pub record Passes (c : Call) : Type 0 where
   pub some : 1 ≤ c .n

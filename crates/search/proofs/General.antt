@@ -18,6 +18,7 @@ use Rattle.search.specs.Problem.{Problem, State, upper}
 use Rattle.search.specs.Selection.{Choice, nothing, chosen, behind, empty}
 use Rattle.search.specs.Step.{survivors, lost, learn}
 use Rattle.search.specs.Run.{withBranched}
+use Rattle.search.specs.Examples
 
 pub record Tree (N : Type 0) : Type 0 where
   pub problem : Problem N

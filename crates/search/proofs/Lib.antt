@@ -1,4 +1,3 @@
-pub mod Examples
 pub mod General
 pub mod Laws
 pub mod Pick
@@ -9,3 +8,8 @@ pub mod Move
 pub mod Cover
 pub mod CoverStep
 pub mod Optimal
+pub mod PlainSelection
+pub mod Plain
+pub mod Ends
+pub mod Counts
+pub mod Outcome

@@ -8,9 +8,8 @@ use mathlib.Core.List.{[]}
 use Prim.Native.Nat.{ℕ, _-_, _≤_, _<_}
 use native.Mathlib.Omega.{arith}
 use Rattle.lists.proofs.Members.{distinct-from}
-use Rattle.search.specs.Problem.{Problem}
-use Rattle.search.proofs.General.{Tree}
 use Rattle.search.proofs.Laws.{Lawful, BoundLaws, Weighs, Solvable}
+use Rattle.search.proofs.Plain.{tree}
 use Rattle.orders.specs.Orders.{Node, stops, size, Order, nodes}
 use Rattle.orders.proofs.Sets.{in-stops, stops-in}
 use Rattle.orders.proofs.Tree.{complete-size, tree-sized, tree-weighs}
@@ -22,10 +21,6 @@ use Rattle.stops.specs.Stops.{aboveEveryCost, problem}
 use Rattle.stops.proofs.Paths.{Within, cost-small}
 use Rattle.stops.proofs.Bounds.{bound-grows, bound-exact}
 use Rattle.stops.proofs.Alike.{dominator-alike, alike-trans, alike-dominates, alike-size, alike-good, alike-bound}
-
--- a problem as a tree: the price of a cost is the cost, and there are no dead children
-abbrev pub tree : Problem Node → Tree Node
-tree P = record { problem = P; price = λ u. u; withDead = λ b k. k }
 
 pub tree-lawful : (n : ℕ) → 1 ≤ n → (L : Legs) → Lawful (tree (problem n L)) (size n) n
 unfolding problem

@@ -1,4 +1,3 @@
-pub mod Examples
 pub mod Paths
 pub mod Ahead
 pub mod Bounds

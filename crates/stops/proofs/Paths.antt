@@ -9,6 +9,7 @@ use native.Mathlib.Omega.{arith}
 use lib.ListN.{length}
 use Rattle.orders.specs.Orders.{Node, extend}
 use Rattle.stops.specs.Legs.{Legs, pathFrom, lastFrom, path, last, cost}
+use Rattle.stops.specs.Examples
 
 module _ (L : Legs) where
   pathFrom-append : (place : ℕ) (x y : Node) → pathFrom L place (x ++ y) ≡ pathFrom L place x + pathFrom L (lastFrom place x) y

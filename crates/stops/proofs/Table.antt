@@ -16,6 +16,7 @@ use Rattle.lists.proofs.Tests.{to-true, to-false, and-left, and-right, and-both
 use Rattle.lists.proofs.Members.{in-head, length-from}
 use Rattle.stops.specs.Legs.{entry, rows, rowLeg, legs}
 use Rattle.stops.proofs.Paths.{Within}
+use Rattle.stops.specs.Examples
 
 -- element i of the list of f of a, a + 1, ..
 getD-from : {A : Type 0} (f : ℕ → A) (a k i j : ℕ) (d : A) → i < k → a + i ≡ j → getD (map f (from a k)) i d ≡ f j

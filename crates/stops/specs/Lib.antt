@@ -1,3 +1,4 @@
 pub mod Legs
 pub mod Bounds
 pub mod Stops
+pub mod Examples

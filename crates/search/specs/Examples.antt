@@ -1,5 +1,5 @@
 -- Worked examples of the written run on free trees that are small enough to follow by hand: where a run depends on a tie, on the
--- sequence of a step's parts or on what a rule looks at, one of these shows it. They stand before every law, so that a wrong
+-- sequence of a step's parts or on what a rule looks at, one of these shows it. They stand beside the definitions, so that a wrong
 -- definition is met here first.
 --
 -- A tree is given by tables: the children of node i, the complete nodes, the bounds (for a complete node its cost), and which nodes

@@ -1,5 +1,5 @@
--- Worked examples on document 01's table T: the costs of its six orders, case k on the bounds, and dominance. They stand before every
--- law, so that a wrong definition is met here first. Assumes nothing.
+-- Worked examples on document 01's table T: the costs of its six orders, case k on the bounds, and dominance. They stand beside
+-- the definitions, and the laws name this module so that it is checked before them: a wrong definition is met here first. Assumes nothing.
 use mathlib.Core.Path.{_≡_, refl}
 use mathlib.Core.Bool.{true, false}
 use mathlib.Core.List.{List, [], _∷_, map}

@@ -10,7 +10,7 @@ use lib.ListN.{replicate}
 use Rattle.lists.specs.Lists.{each, from}
 use Rattle.planner.specs.Call.{Call, Answer}
 use Rattle.planner.specs.Answer.{answer}
-use Rattle.planner.proofs.Cases.{call, found, refused, computed, tableT}
+use Rattle.planner.specs.Cases.{call, found, refused, computed, tableT}
 
 -- the table of n stops whose legs all cost 1
 ones : ℕ → List ℕ

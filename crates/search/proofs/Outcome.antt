@@ -1,0 +1,219 @@
+-- What the outcomes of a run mean.
+--   Ended, search-ended             the general run: the state that stands is reached, and its verdict is the outcome's
+--   Stepped, Steps, Overflows       one step of the written run that fits the pool; some of them; a next step that does not fit
+--   full-means, overflow-full       the pool is called full when, and only when, some steps come to such a state: the first of them
+--   finished-means, finish-finished, finish-whatever-pool    the run is finished just at the state that the finish test ends, in any pool
+--   steps-reached, reached-steps    what is proved of reached states is true of the states of the written run
+-- Assumes nothing.
+use mathlib.Core.Path.{_≡_, refl, ap, sym, _∙_, subst}
+use mathlib.Core.Bool.{Bool, true, false, not}
+use mathlib.Core.List.{List}
+use Prim.Native.Nat.{ℕ, zero, suc, _≤_, _<_}
+use native.Mathlib.Omega.{arith}
+use lib.Dec.{T, ltb, ltb→lt, nltb→le, not-T}
+use lib.ListN.{length}
+use Rattle.lists.specs.Lists.{sum}
+use Rattle.lists.proofs.Tests.{tests, to-true, to-false}
+use Rattle.search.specs.Problem.{Problem, Choices, State}
+use Rattle.search.specs.Selection.{Choice, nothing, chosen, select, finishes}
+use Rattle.search.specs.Step.{step}
+use Rattle.search.specs.Run.{held, Next, finish, overflow, go, Outcome, finished, full, unfinished, unless, ifFits, fitting, decide, next, follow, run}
+use Rattle.search.proofs.General.{Tree, Plan, Cut, Verdict, stop, pause, refuse, onward, Result, done, paused, overfull, stuck, verdict, obey, search, Reached, here, then}
+use Rattle.search.proofs.Laws.{Weighs}
+use Rattle.search.proofs.Plain.{tree, planOf, cutOf, verdictOf, next-is-verdict}
+use Rattle.search.proofs.Ends.{run-ends}
+
+module _ {N : Type 0} (t : Tree N) (p : Plan N) (c : Cut N) (pool : ℕ) where
+  -- what a result says of the state s that the run began at
+  abbrev pub Ended : State N → Result N → Type 0
+  Ended s (done e) = Reached t p c pool s e × (verdict t p c pool e ≡ stop)
+  Ended s (paused e) = Reached t p c pool s e × (verdict t p c pool e ≡ pause)
+  Ended s (overfull e) = Reached t p c pool s e × (verdict t p c pool e ≡ refuse)
+  Ended s (stuck e) = Reached t p c pool s e
+
+  search-from : (fuel : ℕ) {s s′ : State N} → Reached t p c pool s s′ → Ended s (search t p c pool fuel s′)
+  unfolding search
+  search-from zero r = r
+  search-from (suc fuel) {s} {s′} r = cases (verdict t p c pool s′) refl (λ s″ k. search-from fuel k)
+    where
+      cases :
+          (v : Verdict N) → verdict t p c pool s′ ≡ v
+          → ((s″ : State N) → Reached t p c pool s s″ → Ended s (search t p c pool fuel s″))
+          → Ended s (obey t p c pool (search t p c pool fuel) s′ v)
+      cases stop e again = (r, e)
+      cases pause e again = (r, e)
+      cases refuse e again = (r, e)
+      cases (onward s″) e again = again s″ (then r e)
+
+  pub search-ended : (fuel : ℕ) (s : State N) (result : Result N) → search t p c pool fuel s ≡ result → Ended s result
+  search-ended fuel s result e = subst (Ended s) e (search-from fuel here)
+
+module _ {N : Type 0} (P : Problem N) (C : Choices N) (records : ℕ) where
+  -- s′ comes of s by one step of the written run, which leaves no more nodes to keep than there are records
+  pub record Stepped (s s′ : State N) : Type 0 where
+    pub b : N
+    pub rest : List N
+    pub selects : select P C (s .active) ≡ chosen b rest
+    pub goes : T (not (finishes P C (s .best) b rest))
+    pub fits : length (held (C .rules) (step P C s b rest)) ≤ records
+    pub steps : s′ ≡ step P C s b rest
+
+  -- e comes of s by such steps
+  pub data Steps (s : State N) : State N → Type 0 where
+    none : Steps s s
+    more : {s′ e : State N} → Steps s s′ → Stepped s′ e → Steps s e
+
+  -- the next step from s would leave more nodes to keep than there are records
+  pub record Overflows (s : State N) : Type 0 where
+    pub b : N
+    pub rest : List N
+    pub selects : select P C (s .active) ≡ chosen b rest
+    pub goes : T (not (finishes P C (s .best) b rest))
+    pub outnumber : records < length (held (C .rules) (step P C s b rest))
+
+  -- what comes next of a state says how it comes
+  abbrev Says : State N → Next N → Type 0
+  Says s finish = Unit {0}
+  Says s overflow = Overflows s
+  Says s (go s′) = Stepped s s′
+
+  next-says : (s : State N) → Says s (next P C records s)
+  unfolding next decide fitting
+  next-says s = at (select P C (s .active)) refl
+    where
+      at : (c : Choice N) → select P C (s .active) ≡ c → Says s (decide P C records s c)
+      at nothing e = tt
+      at (chosen b rest) e =
+          cases (finishes P C (s .best) b rest) (ltb records kept) (λ h. h) (ltb→lt records kept) (nltb→le records kept)
+        where
+          kept : ℕ
+          kept = length (held (C .rules) (step P C s b rest))
+
+          cases :
+              (f o : Bool) → (T (not f) → T (not (finishes P C (s .best) b rest))) → (T o → records < kept) → (T (not o) → kept ≤ records)
+              → Says s (unless f (ifFits o (step P C s b rest)))
+          cases true o goes over fits = tt
+          cases false true goes over fits = record { b = b; rest = rest; selects = e; goes = goes tt; outnumber = over tt }
+          cases false false goes over fits = record { b = b; rest = rest; selects = e; goes = goes tt; fits = fits tt; steps = refl }
+
+  -- a step that the finish test lets through is put to the pool
+  goes-next :
+      (s : State N) (b : N) (rest : List N) → select P C (s .active) ≡ chosen b rest → T (not (finishes P C (s .best) b rest))
+      → next P C records s ≡ fitting P C records (step P C s b rest)
+  unfolding next decide
+  goes-next s b rest e h = rw (e, to-false (finishes P C (s .best) b rest) h)
+
+  stepped-next : {s s′ : State N} → Stepped s s′ → next P C records s ≡ go s′
+  unfolding fitting
+  stepped-next {s} h =
+      rw (
+        goes-next s (h .b) (h .rest) (h .selects) (h .goes),
+        to-false (ltb records (length (held (C .rules) (step P C s (h .b) (h .rest)))))
+            (not-T (ltb records (length (held (C .rules) (step P C s (h .b) (h .rest))))) (λ o. omega (arith, tests))),
+        h .steps,
+      )
+
+  overflows-next : {s : State N} → Overflows s → next P C records s ≡ overflow
+  unfolding fitting
+  overflows-next {s} h =
+      rw (
+        goes-next s (h .b) (h .rest) (h .selects) (h .goes),
+        to-true (ltb records (length (held (C .rules) (step P C s (h .b) (h .rest))))) (omega (arith, tests)),
+      )
+
+  -- Where the finish test ends a run, the pool has no say.
+  pub finish-whatever-pool : (s : State N) → next P C records s ≡ finish → (r : ℕ) → next P C r s ≡ finish
+  unfolding next decide fitting
+  finish-whatever-pool s e r = at (select P C (s .active)) e
+    where
+      at : (c : Choice N) → decide P C records s c ≡ finish → decide P C r s c ≡ finish
+      at nothing e = refl
+      at (chosen b rest) e = cases (finishes P C (s .best) b rest) (ltb records (length (held (C .rules) (step P C s b rest)))) e
+        where
+          cases :
+              (f o : Bool) → unless f (ifFits o (step P C s b rest)) ≡ finish → unless f (fitting P C r (step P C s b rest)) ≡ finish
+          cases true o e = refl
+          cases false true e = cc
+          cases false false e = cc
+
+  -- What an outcome says of the state that the run began at.
+  abbrev Means : State N → Outcome N → Type 0
+  Means s (finished e) = Steps s e × (next P C records e ≡ finish)
+  Means s (full e) = Steps s e × Overflows e
+  Means s (unfinished e) = Steps s e
+
+  run-from : (fuel : ℕ) {s s′ : State N} → Steps s s′ → Means s (run P C records fuel s′)
+  unfolding run
+  run-from zero r = r
+  run-from (suc fuel) {s} {s′} r = cases (next P C records s′) refl (next-says s′) (λ s″ k. run-from fuel k)
+    where
+      cases :
+          (n : Next N) → next P C records s′ ≡ n → Says s′ n → ((s″ : State N) → Steps s s″ → Means s (run P C records fuel s″))
+          → Means s (follow P C records (run P C records fuel) s′ n)
+      cases finish e h again = (r, e)
+      cases overflow e h again = (r, h)
+      cases (go s″) e h again = again s″ (more r h)
+
+  pub finished-means : (fuel : ℕ) (s e : State N) → run P C records fuel s ≡ finished e → Steps s e × (next P C records e ≡ finish)
+  finished-means fuel s e q = subst (Means s) q (run-from fuel none)
+
+  pub full-means : (fuel : ℕ) (s e : State N) → run P C records fuel s ≡ full e → Steps s e × Overflows e
+  full-means fuel s e q = subst (Means s) q (run-from fuel none)
+
+  -- The converses. The run from s goes through the states that its steps come to, so with more fuel it ends as the run from any of
+  -- them does; and a run that has ended ends the same with more fuel.
+  abbrev EndsWith : ℕ → State N → Type 0
+  EndsWith fuel s = (e : State N) → run P C records fuel s ≡ unfinished e → ⊥
+
+  more-fuel : (f f′ : ℕ) (s : State N) → f ≤ f′ → EndsWith f s → run P C records f s ≡ run P C records f′ s
+  unfolding run
+  more-fuel zero f′ s h ends = absurd (ends s refl)
+  more-fuel (suc f) zero s h ends = absurd (omega arith)
+  more-fuel (suc f) (suc f′) s h ends = cases (next P C records s) ends (λ s′ k. more-fuel f f′ s′ (omega arith) k)
+    where
+      cases :
+          (n : Next N) → ((e : State N) → follow P C records (run P C records f) s n ≡ unfinished e → ⊥)
+          → ((s′ : State N) → EndsWith f s′ → run P C records f s′ ≡ run P C records f′ s′)
+          → follow P C records (run P C records f) s n ≡ follow P C records (run P C records f′) s n
+      cases finish ends again = refl
+      cases overflow ends again = refl
+      cases (go s′) ends again = again s′ ends
+
+  steps-run : {s e : State N} → Steps s e → (f : ℕ) → (f′ : ℕ) × (f ≤ f′) × (run P C records f′ s ≡ run P C records f e)
+  unfolding run
+  steps-run none f = (f, omega arith, refl)
+  steps-run (more {s′} r h) f =
+      let (f′, k, q) = steps-run r (suc f) in
+      (f′, omega arith, q ∙ ap (follow P C records (run P C records f) s′) (stepped-next h))
+
+  module _
+      {weight : N → ℕ} (weighs : Weighs P weight) (fuel : ℕ) {s e : State N} (enough : sum weight (s .active) < fuel) (steps : Steps s e)
+    where
+      stands : run P C records fuel s ≡ run P C records (suc fuel) e
+      stands =
+          let (f, k, q) = steps-run steps (suc fuel) in
+          more-fuel fuel f s (omega arith) (run-ends P C records weighs fuel s enough) ∙ q
+
+      pub finish-finished : next P C records e ≡ finish → run P C records fuel s ≡ finished e
+      unfolding run
+      finish-finished h = stands ∙ ap (follow P C records (run P C records fuel) e) h
+
+      pub overflow-full : Overflows e → run P C records fuel s ≡ full e
+      unfolding run
+      overflow-full h = stands ∙ ap (follow P C records (run P C records fuel) e) (overflows-next h)
+
+  -- The steps of the written run are those of the general run.
+  module _ (known : C .selection ≤ 3) where
+    pub steps-reached : {s e : State N} → Steps s e → Reached (tree P) (planOf P C) (cutOf C) records s e
+    steps-reached none = here
+    steps-reached (more {s′} r h) = then (steps-reached r) (next-is-verdict P C records known s′ ∙ ap verdictOf (stepped-next h))
+
+    pub reached-steps : {s e : State N} → Reached (tree P) (planOf P C) (cutOf C) records s e → Steps s e
+    reached-steps here = none
+    reached-steps (then {s′} {s″} r v) =
+        more (reached-steps r) (cases (next P C records s′) (next-says s′) (sym (next-is-verdict P C records known s′) ∙ v))
+      where
+        cases : (n : Next N) → Says s′ n → verdictOf n ≡ onward s″ → Stepped s′ s″
+        cases finish h e = absurd (let z : _≡_ {A = ℕ} 0 1 = cc in omega arith)
+        cases overflow h e = absurd (let z : _≡_ {A = ℕ} 0 1 = cc in omega arith)
+        cases (go s‴) h e = let q : s‴ ≡ s″ = cc in subst (Stepped s′) q h

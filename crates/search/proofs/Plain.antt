@@ -1,0 +1,163 @@
+-- The run that document 01 writes (specs/) is the general run (`General`) at one instance: the price of a cost is the cost, there are
+-- no dead children, every number of branchings is allowed, a bound can end the run, and the selection's number gives side and rank.
+--   tree, planOf, cutOf    the instance
+--   step-is-move, finishes-is-ends, held-is-kept, next-is-verdict    the parts of the run are the general run's parts
+--   search-is-run, run-is-search    so are the outcomes; no general run of this instance is `paused`
+--   plan-manner, strict, adds    the laws that `Laws` asks of a plan and a tree, at this instance
+-- Assumes nothing.
+use mathlib.Core.Path.{_≡_, refl, ap, sym, _∙_}
+use mathlib.Core.Bool.{Bool, true, false, _||_, cond}
+use mathlib.Core.List.{List}
+use mathlib.Core.Logic.{_↔_}
+use Prim.Native.Nat.{ℕ, zero, suc, _≤_}
+use native.Mathlib.Omega.{arith}
+use lib.Dec.{T, ltb, eqb}
+use lib.ListN.{length}
+use Rattle.search.specs.Problem.{Problem, Choices, State}
+use Rattle.search.specs.Selection.{Choice, nothing, chosen, select, finishes}
+use Rattle.search.specs.Step.{on, children₁, best₂, over₃, children₃, rest₃, dominated₄, children₄, dominated₅, children₅, dominated₆, rest₆, active₇, step}
+use Rattle.search.specs.Run.{held, Next, finish, overflow, go, Outcome, finished, full, unfinished, unless, ifFits, fitting, decide, next, follow, run}
+use Rattle.search.proofs.General.{Tree, Plan, Cut, taken, cap, over, kids, learnt, kids₃, others₃, kids₄, kids₅, others₆, move, ends, Verdict, stop, refuse, onward, Result, done, paused, overfull, stuck, stopIf, refuseIf, kept, verdictOn, verdict, obey, search}
+use Rattle.search.proofs.Laws.{BoundLaws, Manner, least, stack, queue, Strict, Adds}
+use Rattle.search.proofs.PlainSelection.{lateBy, rankBy, waits, select-is-pick}
+
+module _ {N : Type 0} where
+  abbrev pub tree : Problem N → Tree N
+  tree P = record { problem = P; price = λ u. u; withDead = λ b k. k }
+
+  abbrev pub planOf : Problem N → Choices N → Plan N
+  planOf P C = record {
+    late = lateBy (C .selection);
+    rank = rankBy P (C .bound) (C .selection);
+    lone = eqb (C .selection) 2 || eqb (C .selection) 3;
+    early = true;
+    rule2 = on 2 (C .rules);
+    rule4 = on 4 (C .rules);
+    rule8 = on 8 (C .rules);
+  }
+
+  abbrev pub cutOf : Choices N → Cut N
+  cutOf C = record { rule1 = on 1 (C .rules); bound = C .bound; allows = λ k. true }
+
+  -- what comes next, and an outcome, in the words of the general run
+  abbrev pub verdictOf : Next N → Verdict N
+  verdictOf finish = stop
+  verdictOf overflow = refuse
+  verdictOf (go s) = onward s
+
+  abbrev pub resultOf : Outcome N → Result N
+  resultOf (finished e) = done e
+  resultOf (full e) = overfull e
+  resultOf (unfinished e) = stuck e
+
+  -- a result in the words of document 01, which knows no pause
+  abbrev pub plainly : Result N → Outcome N
+  plainly (done e) = finished e
+  plainly (paused e) = unfinished e
+  plainly (overfull e) = full e
+  plainly (stuck e) = unfinished e
+
+  plainly-resultOf : (o : Outcome N) → plainly (resultOf o) ≡ o
+  plainly-resultOf (finished e) = refl
+  plainly-resultOf (full e) = refl
+  plainly-resultOf (unfinished e) = refl
+
+pub adds : {N : Type 0} (P : Problem N) → Adds (tree P)
+adds P b k = omega arith
+
+-- How each selection lets a run end at a complete node; by the number, for a record's field cannot be split.
+module _ {N : Type 0} (P : Problem N) (bound : N → ℕ) (laws : BoundLaws (tree P) bound) where
+  -- under a least bound: b's bound is its cost, and it is at most the bound of x
+  cost-le : (b x : N) (v : ℕ) → T (P .complete b) → bound b ≤ bound x → bound x ≤ v → P .cost b ≤ v
+  cost-le b x v whole h k = let e : bound b ≡ P .cost b = laws .exact b whole in omega arith
+
+  -- under LIFO: b waits, so x waits
+  waits-whole : (b x : N) → T (P .complete b) → waits P b ≤ waits P x → T (P .complete x)
+  waits-whole b x = go (P .complete b) (P .complete x)
+    where
+      go : (y z : Bool) → T y → cond {A = ℕ} y 1 0 ≤ cond z 1 0 → T z
+      go true true t h = tt
+      go true false t h = omega arith
+      go false z t h = absurd t
+
+  manner-by : (k rules : ℕ) → k ≤ 3 → Manner (tree P) (planOf P (record { selection = k; rules = rules; bound = bound })) bound
+  manner-by zero rules known = least tt (λ x y h. h) (λ b x v whole part h k. cost-le b x v whole h k)
+  manner-by (suc zero) rules known = least tt (λ x y h. h) (λ b x v whole part h k. cost-le b x v whole h k)
+  manner-by (suc (suc zero)) rules known = queue tt refl (λ x y. refl)
+  manner-by (suc (suc (suc zero))) rules known = stack tt waits-whole
+  manner-by (suc (suc (suc (suc k)))) rules known = absurd (omega arith)
+
+module _ {N : Type 0} (P : Problem N) (C : Choices N) where
+  pub step-is-move : (s : State N) (b : N) (rest : List N) → step P C s b rest ≡ move (tree P) (planOf P C) (cutOf C) s b rest
+  unfolding step active₇ rest₆ dominated₆ children₅ dominated₅ children₄ dominated₄ rest₃ children₃ over₃ best₂ children₁
+      move others₆ kids₅ kids₄ others₃ kids₃ learnt kids over cap taken
+  step-is-move s b rest = refl
+
+  pub finishes-is-ends :
+      (s : State N) (b : N) (rest : List N) → finishes P C (s .best) b rest ≡ ends (tree P) (planOf P C) (cutOf C) s b rest
+  unfolding finishes ends cap
+  finishes-is-ends s b rest = refl
+
+  pub held-is-kept : (records : ℕ) (s : State N) → held (C .rules) s ≡ kept (tree P) (planOf P C) (cutOf C) records s
+  unfolding held kept
+  held-is-kept records s = refl
+
+  module _ (records : ℕ) where
+    decide-is-verdictOn :
+        (s : State N) (c : Choice N) → verdictOn (tree P) (planOf P C) (cutOf C) records s c ≡ verdictOf (decide P C records s c)
+    unfolding decide fitting verdictOn
+    decide-is-verdictOn s nothing = refl
+    decide-is-verdictOn s (chosen b rest) =
+        rw (← finishes-is-ends, ← step-is-move, ← held-is-kept)
+        (cases (finishes P C (s .best) b rest) (ltb records (length (held (C .rules) (step P C s b rest)))))
+      where
+        cases : (f o : Bool) → stopIf f (refuseIf o (step P C s b rest)) ≡ verdictOf (unless f (ifFits o (step P C s b rest)))
+        cases true o = refl
+        cases false true = refl
+        cases false false = refl
+
+    pub next-is-verdict :
+        C .selection ≤ 3 → (s : State N) → verdict (tree P) (planOf P C) (cutOf C) records s ≡ verdictOf (next P C records s)
+    unfolding verdict next select
+    next-is-verdict h s = rw (← select-is-pick P (C .bound) (C .selection) h (s .active)) (decide-is-verdictOn s (select P C (s .active)))
+
+    -- by recursion on the fuel: what is the same of one state is the same of the run
+    pub search-is-run :
+        C .selection ≤ 3 → (fuel : ℕ) (s : State N)
+        → search (tree P) (planOf P C) (cutOf C) records fuel s ≡ resultOf (run P C records fuel s)
+    unfolding search run
+    search-is-run known zero s = refl
+    search-is-run known (suc fuel) s =
+        rw (next-is-verdict known s) (cases (next P C records s) (λ s′. search-is-run known fuel s′))
+      where
+        more : State N → Result N
+        more = search (tree P) (planOf P C) (cutOf C) records fuel
+
+        cases :
+            (n : Next N) → ((s′ : State N) → more s′ ≡ resultOf (run P C records fuel s′))
+            → obey (tree P) (planOf P C) (cutOf C) records more s (verdictOf n) ≡ resultOf (follow P C records (run P C records fuel) s n)
+        cases finish again = refl
+        cases overflow again = refl
+        cases (go s′) again = again s′
+
+    module _ (known : C .selection ≤ 3) (fuel : ℕ) (s : State N) where
+      pub run-is-search : run P C records fuel s ≡ plainly (search (tree P) (planOf P C) (cutOf C) records fuel s)
+      run-is-search = sym (ap plainly (search-is-run known fuel s) ∙ plainly-resultOf (run P C records fuel s))
+
+      pub finished-iff-done :
+          (e : State N) → (run P C records fuel s ≡ finished e) ↔ (search (tree P) (planOf P C) (cutOf C) records fuel s ≡ done e)
+      finished-iff-done e = (λ q. search-is-run known fuel s ∙ ap resultOf q, λ q. run-is-search ∙ ap plainly q)
+
+      pub full-iff-overfull :
+          (e : State N) → (run P C records fuel s ≡ full e) ↔ (search (tree P) (planOf P C) (cutOf C) records fuel s ≡ overfull e)
+      full-iff-overfull e = (λ q. search-is-run known fuel s ∙ ap resultOf q, λ q. run-is-search ∙ ap plainly q)
+
+      pub unfinished-stuck :
+          (e : State N) → run P C records fuel s ≡ unfinished e → search (tree P) (planOf P C) (cutOf C) records fuel s ≡ stuck e
+      unfinished-stuck e q = search-is-run known fuel s ∙ ap resultOf q
+
+  pub strict : Strict (tree P) (planOf P C)
+  strict early u v h = h
+
+  pub plan-manner : C .selection ≤ 3 → BoundLaws (tree P) (C .bound) → Manner (tree P) (planOf P C) (C .bound)
+  plan-manner known laws = manner-by P (C .bound) laws (C .selection) (C .rules) known
