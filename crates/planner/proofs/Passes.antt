@@ -101,15 +101,15 @@ passes c e =
     let (h₄, e₄) = none-first (cause₄ c) 3 (after₄ c) e₃ in
     let (h₅, e₅) = none-first (cause₅ c) 4 (after₅ c) e₄ in
     let (h₆, e₆) = none-first (cause₆ c) 5 0 e₅ in
-    record
-      { some = stops-pass c h₁ .0
-      ; few = stops-pass c h₁ .1
-      ; square = table-passes c h₂
-      ; cheap = legs-pass c h₃
-      ; selection = choices-pass c h₄ .0
-      ; rules = choices-pass c h₄ .1
-      ; bound = choices-pass c h₄ .2
-      ; start = start-passes c h₅
-      ; pool = pool-passes c h₆ .0
-      ; whole = pool-passes c h₆ .1
-      }
+    record {
+      some = stops-pass c h₁ .0;
+      few = stops-pass c h₁ .1;
+      square = table-passes c h₂;
+      cheap = legs-pass c h₃;
+      selection = choices-pass c h₄ .0;
+      rules = choices-pass c h₄ .1;
+      bound = choices-pass c h₄ .2;
+      start = start-passes c h₅;
+      pool = pool-passes c h₆ .0;
+      whole = pool-passes c h₆ .1;
+    }

@@ -13,3 +13,8 @@ pub mod Plain
 pub mod Ends
 pub mod Counts
 pub mod Outcome
+pub mod Thin
+pub mod Below
+pub mod Runs
+pub mod BelowEnd
+pub mod Compare

@@ -1,0 +1,214 @@
+-- Demand 3, second half, of the reports: "let A and B be jobs over one table that share selection and dominance rules; A uses the
+-- upper-cost rule if B does, starts from an order no dearer than B's (or B has none), and uses B's bound or, under FIFO and LIFO only,
+-- one at least as close. Whichever pool B finishes in, A finishes in every pool of whole records at least as large, and none of
+-- branched, generated and most in A's report exceeds the same count in B's."
+-- A is any call that every check lets pass; B is any call that finishes. Assumes nothing.
+use mathlib.Core.Path.{_≡_, refl, sym, _∙_, ap, subst}
+use mathlib.Core.Bool.{true, _||_}
+use mathlib.Core.List.{List, [], _∷_}
+use mathlib.Core.Logic.{_⊎_, inl, inr}
+use mathlib.Core.Option.{Option}
+use Prim.Native.Nat.{ℕ, zero, suc, _≤_}
+use native.Mathlib.Omega.{arith}
+use lib.Dec.{T, eqb}
+use lib.ListN.{length}
+use Rattle.search.specs.Problem.{Problem, State, upper, start}
+use Rattle.search.specs.Step.{on}
+use Rattle.search.specs.Run.{finished}
+use Rattle.search.proofs.General.{Plan, cap, search, done}
+use Rattle.search.proofs.Laws.{Good, KnownIn, unknown, known, Solvable}
+use Rattle.search.proofs.Cover.{good-bound}
+use Rattle.search.proofs.PlainSelection.{lateBy, rankBy}
+use Rattle.search.proofs.Plain.{tree, planOf, cutOf, adds, finished-iff-done}
+use Rattle.search.proofs.Below.{Closer}
+use Rattle.search.proofs.Compare.{compare-runs}
+use Rattle.orders.specs.Orders.{Node, size, Order, nodes}
+use Rattle.stops.specs.Legs.{cost}
+use Rattle.stops.specs.Bounds.{boundBy}
+use Rattle.stops.specs.Stops.{problem, choices}
+use Rattle.stops.proofs.Bounds.{bound-closer}
+use Rattle.stops.proofs.Instance.{order-below}
+use Rattle.pool.specs.Records.{recordsIn}
+use Rattle.planner.specs.Call.{Call, Report, Answer}
+use Rattle.planner.specs.Checks.{cause}
+use Rattle.planner.specs.Answer.{legsOf, problemOf, choicesOf, given, outcome, reportWith, ending, respond, answer}
+use Rattle.planner.proofs.Passes.{Passes, passes}
+use Rattle.planner.proofs.Instance.{legs-small, call-lawful, bound-laws, call-manner, call-solvable, start-known, selection-small}
+use Rattle.planner.proofs.Ending.{Finished, number-0}
+
+-- A stands to B as the letter asks.
+pub record Favours (a b : Call) : Type 0 where
+  -- over one table
+  pub n : a .n ≡ b .n
+  pub table : a .table ≡ b .table
+  -- share selection and dominance rules
+  pub selection : a .selection ≡ b .selection
+  pub rule-2 : on 2 (a .rules) ≡ on 2 (b .rules)
+  pub rule-4 : on 4 (a .rules) ≡ on 4 (b .rules)
+  pub rule-8 : on 8 (a .rules) ≡ on 8 (b .rules)
+  -- A uses the upper-cost rule if B does
+  pub rule-1 : T (on 1 (b .rules)) → T (on 1 (a .rules))
+  -- A starts from an order no dearer than B's, or B has none
+  pub start : (b .start ≡ []) ⊎ ((a .start ≡ [] → ⊥) × (cost (legsOf a) (a .start) ≤ cost (legsOf a) (b .start)))
+  -- A uses B's bound or, under FIFO and LIFO only, one at least as close: close (1) is at least as close as plain (0)
+  pub bound : (a .bound ≡ b .bound) ⊎ ((2 ≤ a .selection) × (b .bound ≤ a .bound))
+  -- A's pool is at least as large
+  pub pool : length (b .pool) ≤ length (a .pool)
+
+-- B over A's own n, table and selection
+abbrev alongside : Call → ℕ → ℕ → List ℕ → List ℕ → Call
+alongside a rules bound start pool =
+    record { n = a .n; table = a .table; selection = a .selection; rules = rules; bound = bound; start = start; pool = pool }
+
+-- the rank of a node under FIFO and LIFO does not look at its bound
+same-rank : (P : Problem Node) (f g : Node → ℕ) (k : ℕ) → 2 ≤ k → rankBy P f k ≡ rankBy P g k
+same-rank P f g zero h = absurd (omega arith)
+same-rank P f g (suc zero) h = absurd (omega arith)
+same-rank P f g (suc (suc zero)) h = refl
+same-rank P f g (suc (suc (suc k))) h = refl
+
+-- a known order, or the cheapest of all: some order costs at most U
+good-start : {P : Problem Node} {best : Option Node} → Solvable P → KnownIn P best → Good P (upper P best) (P .root)
+good-start (y, whole, leads, cheap) unknown = record { leaf = y; leads = leads; whole = whole; cheap = omega arith }
+good-start solvable (known x whole leads) = record { leaf = x; leads = leads; whole = whole; cheap = omega arith }
+
+module _ (a : Call) (ok : Passes a) (rules bound : ℕ) (first pool : List ℕ) (favours : Favours a (alongside a rules bound first pool)) where
+  -- the bound numbers are those of the checks: B's is at most A's
+  bound-below : bound ≤ a .bound
+  bound-below = go (favours .bound)
+    where
+      go : (a .bound ≡ bound) ⊎ ((2 ≤ a .selection) × (bound ≤ a .bound)) → bound ≤ a .bound
+      go (inl e) = omega arith
+      go (inr h) = h .1
+
+  one-rank :
+      rankBy (problemOf a) (boundBy bound (a .n) (legsOf a)) (a .selection)
+      ≡ rankBy (problemOf a) (boundBy (a .bound) (a .n) (legsOf a)) (a .selection)
+  one-rank = go (favours .bound)
+    where
+      go :
+          (a .bound ≡ bound) ⊎ ((2 ≤ a .selection) × (bound ≤ a .bound))
+          → rankBy (problemOf a) (boundBy bound (a .n) (legsOf a)) (a .selection)
+          ≡ rankBy (problemOf a) (boundBy (a .bound) (a .n) (legsOf a)) (a .selection)
+      go (inl e) = ap (λ (k : ℕ). rankBy (problemOf a) (boundBy k (a .n) (legsOf a)) (a .selection)) (sym e)
+      go (inr h) = same-rank (problemOf a) (boundBy bound (a .n) (legsOf a)) (boundBy (a .bound) (a .n) (legsOf a)) (a .selection) (h .0)
+
+  -- both runs share the plan: ranks and dominance rules agree
+  one-plan : planOf (problemOf a) (choicesOf (alongside a rules bound first pool)) ≡ planOf (problemOf a) (choicesOf a)
+  unfolding choicesOf choices legsOf
+  one-plan = λ i. record {
+    late = lateBy (a .selection);
+    rank = one-rank i;
+    lone = eqb (a .selection) 2 || eqb (a .selection) 3;
+    early = true;
+    rule2 = sym (favours .rule-2) i;
+    rule4 = sym (favours .rule-4) i;
+    rule8 = sym (favours .rule-8) i;
+  }
+
+  closer : Closer (cutOf (choicesOf a)) (cutOf (choicesOf (alongside a rules bound first pool)))
+  unfolding choicesOf choices legsOf
+  closer = record {
+    closer = bound-closer bound (a .bound) bound-below (ok .bound) (a .n) (legsOf a);
+    stricter = favours .rule-1;
+    longer = λ j k h t. tt;
+  }
+
+  -- A's U is no higher than B's at the start
+  lower-start : upper (problemOf a) (given (a .start)) ≤ upper (problemOf a) (given first)
+  unfolding problemOf problem
+  lower-start = go (a .start) first (ok .start) (favours .start)
+    where
+      below : (x : Node) → (x ≡ []) ⊎ Order (a .n) x → upper (problemOf a) (given x) ≤ problemOf a .above
+      below [] o = omega arith
+      below (s ∷ x) (inl e) = absurd (let z : _≡_ {A = ℕ} 0 1 = cc in omega arith)
+      below (s ∷ x) (inr o) = omega (arith, order-below (a .n) (ok .few) (legsOf a) (legs-small a ok) (s ∷ x) o)
+
+      go :
+          (x y : Node) → (x ≡ []) ⊎ Order (a .n) x → (y ≡ []) ⊎ ((x ≡ [] → ⊥) × (cost (legsOf a) x ≤ cost (legsOf a) y))
+          → upper (problemOf a) (given x) ≤ upper (problemOf a) (given y)
+      go x [] o h = below x o
+      go x (r ∷ y) o (inl e) = absurd (let z : _≡_ {A = ℕ} 0 1 = cc in omega arith)
+      go [] (r ∷ y) o (inr h) = absurd (h .0 refl)
+      go (s ∷ x) (r ∷ y) o (inr h) = h .1
+
+  -- and e's bound is within it
+  root-within : choicesOf a .bound (problemOf a .root) ≤ upper (problemOf a) (given (a .start))
+  root-within =
+      good-bound (call-lawful a ok) (bound-laws a ok) (upper (problemOf a) (given (a .start)))
+      (problemOf a .root) (good-start (call-solvable a ok) (start-known a ok))
+
+  -- more words, more records
+  more-records : recordsIn pool ≤ recordsIn (a .pool)
+  unfolding recordsIn
+  more-records = let h : length pool ≤ length (a .pool) = favours .pool in omega arith
+
+  -- B's run, over A's problem and plan
+  other-done :
+      (e : State Node) → outcome (alongside a rules bound first pool) ≡ finished e
+      → search (tree (problemOf a)) (planOf (problemOf a) (choicesOf a)) (cutOf (choicesOf (alongside a rules bound first pool))) (recordsIn pool)
+      (suc (nodes (a .n))) (start (problemOf a) (given first))
+      ≡ done e
+  unfolding outcome problemOf choicesOf choices legsOf
+  other-done e h =
+      subst
+      (λ (p : Plan Node).
+      search (tree (problemOf a)) p (cutOf (choicesOf (alongside a rules bound first pool))) (recordsIn pool) (suc (nodes (a .n)))
+      (start (problemOf a) (given first))
+      ≡ done e)
+      one-plan
+      (finished-iff-done (problemOf a) (choicesOf (alongside a rules bound first pool)) (recordsIn pool) (ok .selection) (suc (nodes (a .n)))
+      (start (problemOf a) (given first)) e .0 h)
+
+  -- so A's run is finished too, with no higher counts
+  beside-finishes :
+      (e : State Node) → outcome (alongside a rules bound first pool) ≡ finished e
+      → (d : State Node) × (outcome a ≡ finished d) × (length (d .branched) ≤ length (e .branched)) × (d .generated ≤ e .generated)
+      × (d .most ≤ e .most)
+  unfolding outcome cap
+  beside-finishes e h =
+      let (d, ran, branched, generated, most) =
+      compare-runs (tree (problemOf a)) (planOf (problemOf a) (choicesOf a)) (cutOf (choicesOf a))
+      (cutOf (choicesOf (alongside a rules bound first pool))) (size (a .n)) (a .n) (call-lawful a ok) (adds (problemOf a)) (bound-laws a ok)
+      (call-manner a ok) closer (recordsIn (a .pool)) (recordsIn pool) more-records (given (a .start)) (given first) lower-start root-within
+      (suc (nodes (a .n))) e (other-done e h) in (
+        d,
+        finished-iff-done (problemOf a) (choicesOf a) (recordsIn (a .pool)) (selection-small a ok) (suc (nodes (a .n)))
+            (start (problemOf a) (given (a .start))) d .1 ran,
+        branched,
+        generated,
+        most,
+      )
+
+-- B is the call alongside A that has its rules, bound, starting order and pool.
+same-call : (a b : Call) → Favours a b → b ≡ alongside a (b .rules) (b .bound) (b .start) (b .pool)
+same-call a b f = λ i. record {
+  n = sym (f .n) i;
+  table = sym (f .table) i;
+  selection = sym (f .selection) i;
+  rules = b .rules;
+  bound = b .bound;
+  start = b .start;
+  pool = b .pool;
+}
+
+-- what A's report owes to B's
+pub record NoWorse (a b : Report) : Type 0 where
+  pub finishes : a .number ≡ 0
+  pub branched : a .branched ≤ b .branched
+  pub generated : a .generated ≤ b .generated
+  pub most : a .most ≤ b .most
+
+pub favoured-finishes :
+    (a b : Call) → Favours a b → cause a ≡ 0 → answer b .report .number ≡ 0 → NoWorse (answer a .report) (answer b .report)
+unfolding answer respond ending reportWith
+favoured-finishes a b f passed h =
+    let fb : Finished b = number-0 b h in
+    let e : b ≡ alongside a (b .rules) (b .bound) (b .start) (b .pool) = same-call a b f in
+    let (d, ran, branched, generated, most) =
+    beside-finishes a (passes a passed) (b .rules) (b .bound) (b .start) (b .pool) (subst (Favours a) e f) (fb .state)
+    (ap outcome (sym e) ∙ fb .ran) in
+    let answered : answer a ≡ ending a (finished d) = ap (respond a) passed ∙ ap (ending a) ran in
+    subst (λ (x : Answer). NoWorse (x .report) (answer b .report)) (sym answered)
+    (subst (λ (y : Answer). NoWorse (ending a (finished d) .report) (y .report)) (sym (fb .answered))
+    (record { finishes = refl; branched = branched; generated = generated; most = most }))

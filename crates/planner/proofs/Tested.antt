@@ -1,0 +1,80 @@
+-- The active set is never empty, and the bound that the finish test holds against U never exceeds U; so document 000's test "equal to
+-- U" and ours, "at least U", agree on every run. Under FIFO and LIFO the bound is tested only where b is the only active node.
+-- Assumes nothing.
+use mathlib.Core.Path.{_≡_, refl, sym, _∙_, ap}
+use mathlib.Core.Bool.{Bool, true, false, not, _&&_, _||_}
+use mathlib.Core.List.{List, [], _∷_}
+use mathlib.Core.Logic.{_⊎_, inl, inr}
+use mathlib.Core.Option.{Option}
+use Prim.Native.Nat.{ℕ, _≤_}
+use native.Mathlib.Omega.{arith}
+use lib.Dec.{T, leb, eqb, leb→le, eqb→eq, eqb-refl, le→leb}
+use Rattle.lists.specs.Lists.{In}
+use Rattle.lists.proofs.Tests.{same-tests}
+use Rattle.search.specs.Problem.{Problem, Choices, State, upper}
+use Rattle.search.specs.Selection.{Choice, chosen, select, empty, finishes}
+use Rattle.search.proofs.General.{cap, pick}
+use Rattle.search.proofs.Plain.{tree, planOf, cutOf}
+use Rattle.search.proofs.PlainSelection.{lateBy, rankBy, select-is-pick}
+use Rattle.search.proofs.Optimal.{active-some, tested-within}
+use Rattle.orders.specs.Orders.{Node, size}
+use Rattle.pool.specs.Records.{recordsIn}
+use Rattle.planner.specs.Call.{Call}
+use Rattle.planner.specs.Checks.{cause}
+use Rattle.planner.specs.Answer.{problemOf, choicesOf, given}
+use Rattle.planner.proofs.Passes.{Passes, passes}
+use Rattle.planner.proofs.Instance.{StateOf, state-reached, call-lawful, bound-laws, call-manner, call-solvable, start-known, selection-small}
+
+pub active-never-empty : (c : Call) → cause c ≡ 0 → (s : State Node) → StateOf c s → (x : Node) × In x (s .active)
+active-never-empty c e s steps =
+    let ok : Passes c = passes c e in
+    active-some (tree (problemOf c)) (planOf (problemOf c) (choicesOf c)) (cutOf (choicesOf c)) (recordsIn (c .pool)) (size (c .n)) (c .n)
+    (call-lawful c ok) (bound-laws c ok) (given (c .start)) (start-known c ok) (call-solvable c ok) s (state-reached c ok steps)
+
+-- the bound counts in the finish test: under selections 0 and 1 always, under 2 and 3 where b is the only active node
+abbrev Counts : Call → List Node → Bool
+Counts c rest = not (eqb (choicesOf c .selection) 2 || eqb (choicesOf c .selection) 3) || empty rest
+
+pub tested-bound-within-U :
+    (c : Call) → cause c ≡ 0 → (s : State Node) → StateOf c s → (b : Node) (rest : List Node)
+    → select (problemOf c) (choicesOf c) (s .active) ≡ chosen b rest → T (Counts c rest)
+    → choicesOf c .bound b ≤ upper (problemOf c) (s .best)
+unfolding select cap
+tested-bound-within-U c e s steps b rest chose counts =
+    let ok : Passes c = passes c e in
+    tested-within (tree (problemOf c)) (planOf (problemOf c) (choicesOf c)) (cutOf (choicesOf c)) (recordsIn (c .pool)) (size (c .n)) (c .n)
+    (call-lawful c ok) (bound-laws c ok) (given (c .start)) (start-known c ok) (call-solvable c ok) (call-manner c ok) s
+    (state-reached c ok steps) b rest
+    (sym (select-is-pick (problemOf c) (choicesOf c .bound) (choicesOf c .selection) (selection-small c ok) (s .active)) ∙ chose)
+    (either-way (eqb (choicesOf c .selection) 2 || eqb (choicesOf c .selection) 3) rest counts)
+  where
+    either-way : (lone : Bool) (rest : List Node) → T (not lone || empty rest) → T (not lone) ⊎ (rest ≡ [])
+    either-way false rest h = inl tt
+    either-way true [] h = inr refl
+    either-way true (x ∷ xs) h = absurd h
+
+-- document 000's finish test
+pub finishesWhenEqual : {N : Type 0} → Problem N → Choices N → Option N → N → List N → Bool
+finishesWhenEqual P C best b rest =
+    eqb (upper P best) (C .bound b) && (not (eqb (C .selection) 2 || eqb (C .selection) 3) || empty rest) || P .complete b
+
+pub tests-agree :
+    (c : Call) → cause c ≡ 0 → (s : State Node) → StateOf c s → (b : Node) (rest : List Node)
+    → select (problemOf c) (choicesOf c) (s .active) ≡ chosen b rest
+    → finishes (problemOf c) (choicesOf c) (s .best) b rest ≡ finishesWhenEqual (problemOf c) (choicesOf c) (s .best) b rest
+unfolding finishes finishesWhenEqual
+tests-agree c e s steps b rest chose =
+    agree (upper (problemOf c) (s .best)) (choicesOf c .bound b) (Counts c rest) (problemOf c .complete b)
+    (tested-bound-within-U c e s steps b rest chose)
+  where
+    never : (a : Bool) → (a && false) ≡ false
+    never true = refl
+    never false = refl
+
+    agree : (u v : ℕ) (counts whole : Bool) → (T counts → v ≤ u) → (leb u v && counts || whole) ≡ (eqb u v && counts || whole)
+    agree u v false whole h = ap (λ (k : Bool). k || whole) (never (leb u v) ∙ sym (never (eqb u v)))
+    agree u v true whole h =
+        ap (λ (k : Bool). k && true || whole)
+        (same-tests (leb u v) (eqb u v)
+        (λ t. let i : v ≤ u = h tt in let j : u ≤ v = leb→le u v t in let q : u ≡ v = omega arith in rw q (eqb-refl v))
+        (λ t. let q : u ≡ v = eqb→eq u v t in le→leb u v (omega arith)))
