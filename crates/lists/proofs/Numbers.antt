@@ -23,9 +23,6 @@ module _ {A : Type 0} where
       go true e = omega arith
       go false e = omega arith
 
-  pub length-keep : (test : A → Bool) (xs : List A) → length (keep test xs) ≤ length xs
-  length-keep test xs = omega (arith, keep-parts test xs)
-
   -- sum
   pub sum-append : (f : A → ℕ) (xs ys : List A) → sum f (xs ++ ys) ≡ sum f xs + sum f ys
   sum-append f [] ys = omega arith

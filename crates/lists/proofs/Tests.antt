@@ -57,10 +57,6 @@ pub not-either : (a b : Bool) → T (not (a || b)) → T (not a) × T (not b)
 not-either true b h = absurd h
 not-either false b h = (tt, h)
 
-pub not-both : (a b : Bool) → T (not (a && b)) → T (not a) ⊎ T (not b)
-not-both true b h = inr h
-not-both false b h = inl tt
-
 pub same-tests : (a b : Bool) → (T a → T b) → (T b → T a) → a ≡ b
 same-tests true true f g = refl
 same-tests true false f g = absurd (f tt)

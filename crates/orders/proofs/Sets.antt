@@ -32,7 +32,7 @@ pub flown-in : (x : Node) (s : ℕ) → T (flown x s) → In s x
 unfolding flown
 flown-in x s h = let (r, m, e) = any-in (eqb s) x h in subst (λ (k : ℕ). In k x) (sym (eqb→eq s r e)) m
 
-pub flown-append : (x y : Node) (s : ℕ) → flown (x ++ y) s ≡ (flown x s || flown y s)
+flown-append : (x y : Node) (s : ℕ) → flown (x ++ y) s ≡ (flown x s || flown y s)
 unfolding flown
 flown-append x y s = any-append (eqb s) x y
 
@@ -41,7 +41,7 @@ pub in-set : (n : ℕ) (x : Node) (s : ℕ) → In s (set n x) → (1 ≤ s) × 
 unfolding set
 in-set n x s m = let (i, f) = in-keep (flown x) (stops n) s m in let h = in-stops n s i in (h .0, h .1, f)
 
-pub set-in : (n : ℕ) (x : Node) (s : ℕ) → 1 ≤ s → s ≤ n → T (flown x s) → In s (set n x)
+set-in : (n : ℕ) (x : Node) (s : ℕ) → 1 ≤ s → s ≤ n → T (flown x s) → In s (set n x)
 unfolding set
 set-in n x s h k f = keep-in (flown x) (stops n) s (stops-in n s h k) f
 
@@ -52,10 +52,6 @@ in-left n x s m = let (i, f) = in-keep (λ r. not (flown x r)) (stops n) s m in 
 pub left-in : (n : ℕ) (x : Node) (s : ℕ) → 1 ≤ s → s ≤ n → T (not (flown x s)) → In s (left n x)
 unfolding left
 left-in n x s h k f = keep-in (λ r. not (flown x r)) (stops n) s (stops-in n s h k) f
-
-pub distinct-set : (n : ℕ) (x : Node) → Distinct (set n x)
-unfolding set
-distinct-set n x = distinct-keep (flown x) (distinct-from 1 n)
 
 pub distinct-left : (n : ℕ) (x : Node) → Distinct (left n x)
 unfolding left
@@ -102,13 +98,13 @@ unfolding children
 extend-child n x s m = map-in (extend x) m
 
 -- nodes of one set
-pub set-same-flown : (n : ℕ) (w x : Node) → set n w ≡ set n x → (s : ℕ) → 1 ≤ s → s ≤ n → flown w s ≡ flown x s
+set-same-flown : (n : ℕ) (w x : Node) → set n w ≡ set n x → (s : ℕ) → 1 ≤ s → s ≤ n → flown w s ≡ flown x s
 set-same-flown n w x e s h k = same-tests (flown w s) (flown x s) (go w x e) (go x w (sym e))
   where
     go : (w x : Node) → set n w ≡ set n x → T (flown w s) → T (flown x s)
     go w x e f = in-set n x s (subst (λ (l : List ℕ). In s l) e (set-in n w s h k f)) .2
 
-pub flown-same-set : (n : ℕ) (w x : Node) → ((s : ℕ) → 1 ≤ s → s ≤ n → flown w s ≡ flown x s) → set n w ≡ set n x
+flown-same-set : (n : ℕ) (w x : Node) → ((s : ℕ) → 1 ≤ s → s ≤ n → flown w s ≡ flown x s) → set n w ≡ set n x
 unfolding set
 flown-same-set n w x f = keep-same (flown w) (flown x) (stops n) (λ s m. let h = in-stops n s m in f s (h .0) (h .1))
 
