@@ -17,8 +17,8 @@ use Rattle.orders.specs.Orders.{Node, size, Order, nodes}
 use Rattle.orders.proofs.Partial.{partial-root, partial-size}
 use Rattle.orders.proofs.Order.{order-complete, order-leads}
 use Rattle.stops.specs.Stops.{problem, choices}
-use Rattle.stops.proofs.Paths.{Within}
-use Rattle.stops.proofs.Table.{legs-within}
+use Rattle.stops.specs.Record.{Within}
+use Rattle.stops.proofs.LegTable.{legs-within}
 use Rattle.stops.proofs.Instance.{tree-lawful, bound-lawful, stops-weigh, stops-solvable}
 use Rattle.pool.specs.Records.{recordsIn}
 use Rattle.planner.specs.Call.{Call}

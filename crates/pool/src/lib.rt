@@ -1,1 +1,7 @@
-// The pool: node records of six words and the pool's words for a state (specs/). The planner's functions on the pool will stand here.
+// The pool behind a view: what its functions promise speaks of lists of records (specs/View, specs/Passes), and only `record` sees a
+// word. The record's six numbers and the pool's words for a state are document 01's (specs/Records). The functions are public for the
+// crate above and not for hosts; what they require, that crate meets.
+pub mod choose;
+pub mod record;
+pub mod settle;
+pub mod sift;

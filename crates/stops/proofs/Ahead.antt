@@ -16,6 +16,7 @@ use Rattle.lists.proofs.Distinct.{sum-without}
 use Rattle.lists.proofs.Numbers.{sum-mono, least-le, least-in}
 use Rattle.stops.specs.Legs.{Legs}
 use Rattle.stops.specs.Bounds.{without, cheapestInto, remainder}
+use Rattle.stops.specs.Record.{ahead}
 use Rattle.stops.specs.Examples
 
 -- the least of all candidates is at most the least of some of them
@@ -26,12 +27,6 @@ least-of-some f xs y ys some =
     let (z, m, e) = least-in f y ys in
     let k : least f xs ≤ f z = least-le f xs z (some z m) in
     omega arith
-
--- The leg home if no stop is left; else nothing (k = 0, plain) or the remainder (k = 1, close).
-unfoldable pub ahead : ℕ → Legs → ℕ → List ℕ → ℕ
-ahead k L place [] = L .home place
-ahead zero L place (r ∷ rs) = 0
-ahead (suc k) L place (r ∷ rs) = remainder L place (r ∷ rs)
 
 -- The stop s, one of the distinct stops `rest`, is flown to from a place. The remainder falls by at most that leg:
 --   into each other stop r, the candidates afterwards are s and the others left, which were candidates before, so the cheapest leg

@@ -2,5 +2,5 @@ pub mod Paths
 pub mod Ahead
 pub mod Bounds
 pub mod Alike
-pub mod Table
+pub mod LegTable
 pub mod Instance

@@ -9,6 +9,7 @@ use native.Mathlib.Omega.{arith}
 use lib.ListN.{length}
 use Rattle.orders.specs.Orders.{Node, extend}
 use Rattle.stops.specs.Legs.{Legs, pathFrom, lastFrom, path, last, cost}
+use Rattle.stops.specs.Record.{Within}
 use Rattle.stops.specs.Examples
 
 module _ (L : Legs) where
@@ -33,11 +34,6 @@ last-append x y = lastFrom-append 0 x y
 
 pub last-extend : (x : Node) (s : ℕ) → last (extend x s) ≡ s
 last-extend x s = last-append x (s ∷ [])
-
--- every leg, and every leg home, costs at most m
-pub record Within (m : ℕ) (L : Legs) : Type 0 where
-  pub leg : (i j : ℕ) → L .leg i j ≤ m
-  pub home : (s : ℕ) → L .home s ≤ m
 
 module _ (m : ℕ) (L : Legs) (w : Within m L) where
   pathFrom-small : (place : ℕ) (x : Node) → pathFrom L place x ≤ length x * m

@@ -1,0 +1,77 @@
+-- A node as the six numbers of its record: what the functions of this crate compute on them. `proofs/` shows that these are the numbers
+-- that document 01's definitions give.
+--   stopsIn set           the stops of a set, ascending (stop s adds 2 to the power s-1)
+--   extended x s leg      x with stop s and its leg added; its bound is not yet known
+--   lastStop x            the last stop flown; 0 for e, and for numbers that are no node's
+--   recDominates y z      dominance, on records
+--   ahead k L place rest  what bound number k adds to the path cost at a place, with the stops of rest to come
+--   rowOf n part          a row of seventeen numbers
+--   Within m L            no leg is above m
+-- Assumes nothing.
+use mathlib.Core.Bool.{Bool, not, _&&_, cond}
+use mathlib.Core.List.{List, [], _∷_, map}
+use Prim.Native.Nat.{ℕ, zero, suc, _+_, _*_, _-_, _^_, _/_, _%_, _≤_, _<_}
+use lib.Count.{ones}
+use lib.Dec.{leb, ltb, eqb}
+use lib.ListN.{getD}
+use Rattle.lists.specs.Lists.{put, from}
+use Rattle.stops.specs.Legs.{Legs}
+use Rattle.stops.specs.Bounds.{remainder}
+use Rattle.stops.specs.declared.node.Node.{Node as Record}
+
+-- the stops of the lowest k digits of m, whose first stands for stop s
+unfoldable pub bits : ℕ → ℕ → ℕ → List ℕ
+bits zero s m = []
+bits (suc k) s m = put (eqb (m % 2) 1) s (bits k (suc s) (m / 2))
+
+unfoldable pub stopsIn : ℕ → List ℕ
+stopsIn set = bits 16 1 set
+
+unfoldable pub emptyRecord : Record
+emptyRecord = record { size = 0; set = 0; path = 0; bound = 0; first = 0; second = 0 }
+
+-- four bits a stop, eight stops a number, the first lowest
+unfoldable pub extended : Record → ℕ → ℕ → Record
+extended x stop leg = record
+  { size = ones (x .set + 2 ^ (stop - 1))
+  ; set = x .set + 2 ^ (stop - 1)
+  ; path = x .path + leg
+  ; bound = 0
+  ; first = x .first + cond (ltb (x .size) 8) ((stop - 1) * 16 ^ x .size) 0
+  ; second = x .second + cond (ltb (x .size) 8) 0 ((stop - 1) * 16 ^ (x .size - 8))
+  }
+
+unfoldable pub lastStop : Record → ℕ
+lastStop x =
+    cond (eqb (x .size) 0) 0
+    (cond (leb (x .size) 8) (x .first / 16 ^ (x .size - 1) % 16 + 1)
+    (cond (leb (x .size) 16) (x .second / 16 ^ (x .size - 9) % 16 + 1) 0))
+
+-- the numbers have room for one stop more
+pub record Wide (x : Record) (stop leg : ℕ) : Type 0 where
+  pub some : 1 ≤ stop
+  pub few : stop ≤ 16
+  pub room : x .size < 16
+  pub set-small : x .set < 2 ^ 16
+  pub path-small : x .path + leg < 2 ^ 32
+  pub first-small : x .size < 8 → x .first < 16 ^ x .size
+  pub second-small : 8 ≤ x .size → x .second < 16 ^ (x .size - 8)
+
+unfoldable pub recDominates : Record → Record → Bool
+recDominates y z =
+    eqb (y .size) (z .size) && eqb (y .set) (z .set) && leb (y .path) (z .path) && eqb (lastStop y) (lastStop z)
+    && not (eqb (y .first) (z .first) && eqb (y .second) (z .second))
+
+-- the leg home where no stop is to come; else nothing (plain) or the remainder (close)
+unfoldable pub ahead : ℕ → Legs → ℕ → List ℕ → ℕ
+ahead k L place [] = L .home place
+ahead zero L place (r ∷ rest) = 0
+ahead (suc k) L place (r ∷ rest) = remainder L place (r ∷ rest)
+
+-- a row of seventeen: the first n + 1 numbers of a part of the table, and zeros
+unfoldable pub rowOf : ℕ → List ℕ → List ℕ
+rowOf n part = map (λ j. cond (leb j n) (getD part j 0) 0) (from 0 17)
+
+pub record Within (m : ℕ) (L : Legs) : Type 0 where
+  pub leg : (i j : ℕ) → L .leg i j ≤ m
+  pub home : (s : ℕ) → L .home s ≤ m

@@ -1,0 +1,91 @@
+// What a bound adds to the path cost. A set of stops is a number: stop s adds 2 to the power s-1.
+ghost use mathlib.Core.Path.{_≡_};
+ghost use mathlib.Core.List.{_∷_};
+ghost use Prim.Native.Nat.{_+_, _-_, _^_, _≤_, _<_, min};
+ghost use lib.Count.{trailingZeros};
+ghost use Rattle.lists.specs.Lists.{In, least};
+ghost use Rattle.stops.specs.Legs.{rowLeg, legs};
+ghost use Rattle.stops.specs.Bounds.{remainder};
+ghost use Rattle.stops.specs.Record.{stopsIn, ahead, Within};
+
+fn lesser(a: u32, b: u32) -> u32
+    ensures { λ r. ⌜ r ≡ min a b ⌝ }
+{
+    if b < a { b } else { a }
+}
+
+// The next stop of a set: its lowest.
+pub fn next(set: u32) -> u32
+    requires { ⌜ (0 < set) × (set < 2 ^ 16) ⌝ }
+    ensures { λ r. ⌜ (r ≡ trailingZeros 32 set + 1) × (r ≤ 16) ⌝ }
+{
+    u32::trailing_zeros(set) + 1
+}
+
+// The set without a stop of it.
+pub fn without(set: u32, stop: u32) -> u32
+    requires { ⌜ (set < 2 ^ 16) × In stop (stopsIn set) ⌝ }
+    ensures { λ r. ⌜ r ≡ set - 2 ^ (stop - 1) ⌝ }
+{
+    set - (1u32 << (stop - 1))
+}
+
+// The cheapest leg into s from a place or one of some other stops.
+fn into(t: &[[u32; 17]; 17], place: u32, others: u32, s: u32) -> u32
+    requires { ⌜ (place ≤ 16) × ((others < 2 ^ 16) × (s ≤ 16)) ⌝ }
+    ensures { λ r. ⌜ r ≡ least (λ p. rowLeg (now (t .entry)) p s) (place ∷ stopsIn others) ⌝ }
+{
+    let mut least = t[place as usize][s as usize];
+    let mut left = others;
+    while left != 0 {
+        let r = next(left);
+        left = without(left, r);
+        least = lesser(least, t[r as usize][s as usize]);
+    }
+    least
+}
+
+// The cheapest leg home from one of some stops.
+fn home(t: &[[u32; 17]; 17], rest: u32) -> u32
+    requires { ⌜ (0 < rest) × (rest < 2 ^ 16) ⌝ }
+    ensures { λ r. ⌜ r ≡ least (λ s. rowLeg (now (t .entry)) s 0) (stopsIn rest) ⌝ }
+{
+    let first = next(rest);
+    let mut least = t[first as usize][0];
+    let mut left = without(rest, first);
+    while left != 0 {
+        let r = next(left);
+        left = without(left, r);
+        least = lesser(least, t[r as usize][0]);
+    }
+    least
+}
+
+// For each stop to come the cheapest leg into it, and the cheapest leg home.
+fn remainder(t: &[[u32; 17]; 17], place: u32, rest: u32) -> u32
+    requires { ⌜ (place ≤ 16) × ((0 < rest) × ((rest < 2 ^ 16) × Within 1000000 (legs (now t)))) ⌝ }
+    ensures { λ r. ⌜ r ≡ remainder (legs (now (t .entry))) place (stopsIn rest) ⌝ }
+{
+    let mut sum = home(t, rest);
+    let mut left = rest;
+    while left != 0 {
+        let s = next(left);
+        left = without(left, s);
+        sum += into(t, place, without(rest, s), s);
+    }
+    sum
+}
+
+// What the bound of a number adds to the path cost of a node at a place that has the stops of rest to come.
+pub fn ahead(t: &[[u32; 17]; 17], number: u32, place: u32, rest: u32) -> u32
+    requires { ⌜ (place ≤ 16) × ((rest < 2 ^ 16) × Within 1000000 (legs (now t))) ⌝ }
+    ensures { λ r. ⌜ r ≡ ahead number (legs (now (t .entry))) place (stopsIn rest) ⌝ }
+{
+    if rest == 0 {
+        return t[place as usize][0];
+    }
+    if number == 0 {
+        return 0;
+    }
+    remainder(t, place, rest)
+}

@@ -1,0 +1,86 @@
+// A node as the six numbers of its record.
+ghost use mathlib.Core.Path.{_≡_};
+ghost use Prim.Native.Nat.{_+_, _-_, _^_, _≤_, _<_};
+ghost use Rattle.stops.specs.Record.{Wide, extended, lastStop, emptyRecord, recDominates};
+
+pub struct Node {
+    pub size: u32,
+    pub set: u32,
+    pub path: u32,
+    pub bound: u32,
+    pub first: u32,
+    pub second: u32,
+}
+
+impl Node {
+    // The empty node, e, with no bound yet.
+    pub fn empty() -> Node
+        ensures { λ r. ⌜ r ≡ emptyRecord ⌝ }
+    {
+        Node {
+            size: 0,
+            set: 0,
+            path: 0,
+            bound: 0,
+            first: 0,
+            second: 0,
+        }
+    }
+
+    // The node with a stop and its leg added, and no bound yet. Its size is the number of stops in its set.
+    pub fn extended(mut self, stop: u32, leg: u32) -> Node
+        requires { ⌜ Wide self stop leg ⌝ }
+        ensures { λ r. ⌜ r ≡ extended self stop leg ⌝ }
+    {
+        let place = self.size;
+        self.set += 1u32 << (stop - 1);
+        self.size = u32::count_ones(self.set);
+        self.path += leg;
+        self.bound = 0;
+        if place < 8 {
+            self.first += (stop - 1) << (4 * place);
+        } else {
+            self.second += (stop - 1) << (4 * (place - 8));
+        }
+        self
+    }
+
+    // The last stop flown; 0 for e, and for numbers that are no node's.
+    pub fn last(self) -> u32
+        ensures { λ r. ⌜ r ≡ lastStop self ⌝ }
+    {
+        let size = self.size;
+        if size == 0 {
+            return 0;
+        }
+        if size <= 8 {
+            return (self.first >> (4 * (size - 1))) % 16 + 1;
+        }
+        if size <= 16 {
+            return (self.second >> (4 * (size - 9))) % 16 + 1;
+        }
+        0
+    }
+
+    // Whether this node dominates another: they differ, have the same set and last stop, and its path cost is at most the other's.
+    pub fn dominates(self, other: Node) -> bool
+        ensures { λ r. ⌜ r ≡ recDominates self other ⌝ }
+    {
+        if self.size != other.size {
+            return false;
+        }
+        if self.set != other.set {
+            return false;
+        }
+        if other.path < self.path {
+            return false;
+        }
+        if self.last() != other.last() {
+            return false;
+        }
+        if self.first != other.first {
+            return true;
+        }
+        self.second != other.second
+    }
+}
