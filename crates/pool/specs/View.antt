@@ -28,11 +28,11 @@ words xs = each six xs
 
 -- the record of a node: `Records.record-of`, as six named numbers
 unfoldable pub encode : ℕ → Legs → ℕ → Node → Record
-encode n L bound x = record
-  { size = size n x
-  ; set = mask (set n x)
-  ; path = path L x
-  ; bound = boundBy bound n L x
-  ; first = orderWord (take 8 x)
-  ; second = orderWord (drop 8 x)
-  }
+encode n L bound x = record {
+  size = size n x;
+  set = mask (set n x);
+  path = path L x;
+  bound = boundBy bound n L x;
+  first = orderWord (take 8 x);
+  second = orderWord (drop 8 x);
+}

@@ -7,10 +7,10 @@ ghost use lib.ListN.{length, take, drop, replicate};
 ghost use lib.Seq.{slice};
 ghost use Rattle.stops.specs.Record.{emptyRecord};
 ghost use Rattle.pool.specs.View.{records};
-use stops::node::Node;
 use crate::record::load;
 use crate::record::store;
 use crate::sift::slide;
+use stops::node::Node;
 
 // Turns the records from `from` to `to` around.
 fn turn(w: &mut [u32], from: usize, to: usize)

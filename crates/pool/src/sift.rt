@@ -10,9 +10,9 @@ ghost use Rattle.lists.specs.Lists.{keep};
 ghost use Rattle.stops.specs.Record.{emptyRecord, recDominates};
 ghost use Rattle.pool.specs.View.{records};
 ghost use Rattle.pool.specs.Passes.{Sifted, isWithin, isFree, isStaying, always};
-use stops::node::Node;
 use crate::record::load;
 use crate::record::store;
+use stops::node::Node;
 
 // Whether record i dominates x. Sets are compared before anything else is read.
 fn beats(w: &[u32], i: usize, x: Node) -> bool
@@ -55,7 +55,14 @@ pub fn within(kids: &mut [u32], m: usize, limit: u32) -> usize
 }
 
 // Rules 2 and 4 on children: keeps those of the first m that no record of w, from `from` to `to`, with a bound up to limit dominates.
-pub fn undominated(kids: &mut [u32], m: usize, w: &[u32], from: usize, to: usize, limit: u32) -> usize
+pub fn undominated(
+    kids: &mut [u32],
+    m: usize,
+    w: &[u32],
+    from: usize,
+    to: usize,
+    limit: u32,
+) -> usize
     requires { ⌜ (m ≤ length (records (now kids))) × ((from ≤ to) × (to ≤ length (records (now w)))) ⌝ }
     ensures { λ r. ⌜ Sifted (isFree limit (slice from to (records (now (w .entry))))) (records (now (kids .entry))) 0 m 0 (records (now (kids .exit))) r ⌝ }
 {
@@ -112,7 +119,15 @@ pub fn staying(w: &[u32], from: usize, to: usize, limit: u32, kids: &[u32], r: u
 }
 
 // Moves those of the records from `from` to `to` that stay active to `at` and behind it.
-pub fn sift(w: &mut [u32], from: usize, to: usize, at: usize, limit: u32, kids: &[u32], r: usize) -> usize
+pub fn sift(
+    w: &mut [u32],
+    from: usize,
+    to: usize,
+    at: usize,
+    limit: u32,
+    kids: &[u32],
+    r: usize,
+) -> usize
     requires { ⌜ (at ≤ from) × ((from ≤ to) × ((to ≤ length (records (now w))) × (r ≤ length (records (now kids))))) ⌝ }
     ensures { λ e. ⌜ Sifted (isStaying limit (take r (records (now (kids .entry))))) (records (now (w .entry))) from to at (records (now (w .exit))) e ⌝ }
 {

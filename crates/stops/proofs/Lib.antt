@@ -1,3 +1,5 @@
+pub mod Digits
+pub mod Dominance
 pub mod Paths
 pub mod Ahead
 pub mod Bounds

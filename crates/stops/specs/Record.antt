@@ -32,14 +32,14 @@ emptyRecord = record { size = 0; set = 0; path = 0; bound = 0; first = 0; second
 
 -- four bits a stop, eight stops a number, the first lowest
 unfoldable pub extended : Record → ℕ → ℕ → Record
-extended x stop leg = record
-  { size = ones (x .set + 2 ^ (stop - 1))
-  ; set = x .set + 2 ^ (stop - 1)
-  ; path = x .path + leg
-  ; bound = 0
-  ; first = x .first + cond (ltb (x .size) 8) ((stop - 1) * 16 ^ x .size) 0
-  ; second = x .second + cond (ltb (x .size) 8) 0 ((stop - 1) * 16 ^ (x .size - 8))
-  }
+extended x stop leg = record {
+  size = ones (x .set + 2 ^ (stop - 1));
+  set = x .set + 2 ^ (stop - 1);
+  path = x .path + leg;
+  bound = 0;
+  first = x .first + cond (ltb (x .size) 8) ((stop - 1) * 16 ^ x .size) 0;
+  second = x .second + cond (ltb (x .size) 8) 0 ((stop - 1) * 16 ^ (x .size - 8));
+}
 
 unfoldable pub lastStop : Record → ℕ
 lastStop x =

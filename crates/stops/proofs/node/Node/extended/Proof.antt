@@ -1,64 +1,85 @@
+-- `Node::extended` meets its contract: the shifts put one bit into the set and one digit into the order (`Digits`). Assumes nothing.
+use mathlib.Core.Path.{_≡_, refl}
+use native.Mathlib.Omega.{arith}
 use borrow.Author.Needs.{needs}
+use borrow.Author.Tests.{lt-ltb, le-ltb}
+use Prim.Native.Nat.{_-_, _<_, _≤_}
+use native.Mathlib.Nat.{add-zero}
+use Rattle.stops.specs.Record.{extended}
+use Rattle.stops.proofs.Digits.{bit-small, bit-shifted, digit-shifted, digit-fits}
 use Rattle.stops.proofs.node.Node.extended.Statement.{statement}
 use Rattle.stops.proofs.node.Node.extended.Tie as tie
 use Rattle.stops.proofs.node.Node.extended.Reads as reads
 use Rattle.stops.proofs.node.Node.extended.Lts as lts
 
--- src/node.rt:36:30
 sub-self : tie.Need-sub-self
 sub-self c = search needs
 
--- src/node.rt:36:21
 shl-self : tie.Need-shl-self
 shl-self c = search needs
 
--- src/node.rt:36:9
 add-self : tie.Need-add-self
-add-self c = ?
+add-self c =
+    let a = c .before .args in
+    let w = c .before .pre in
+    record { fits = rw (bit-shifted (a .stop) (w .few)) (omega (arith, bit-small (a .stop) (w .few), w .set-small)) }
 
--- src/node.rt:38:9
 add-self-2 : tie.Need-add-self-2
 add-self-2 c = search needs
 
--- src/node.rt:41:28
 sub-self-2 : tie.Need-sub-self-2
 sub-self-2 c = search needs
 
--- src/node.rt:41:42
 mul-self : tie.Need-mul-self
 mul-self c = search needs
 
--- src/node.rt:41:27
 shl-self-2 : tie.Need-shl-self-2
 shl-self-2 c = search needs
 
--- src/node.rt:41:13
 add-self-3 : tie.Need-add-self-3
-add-self-3 c = ?
+add-self-3 c =
+    let a = c .before .before .before .before .before .args in
+    let w = c .before .before .before .before .before .pre in
+    let low : a .self .size < 8 = omega arith in
+    record { fits = rw (digit-shifted (a .self .size) (a .stop) low (w .few)) (digit-fits (a .self .size) (a .stop) low (w .few) (a .self .first) (w .first-small low)) }
 
--- src/node.rt:43:29
 sub-self-3 : tie.Need-sub-self-3
 sub-self-3 c = search needs
 
--- src/node.rt:43:43
 mul-self-2 : tie.Need-mul-self-2
 mul-self-2 c = search needs
 
--- src/node.rt:43:28
 shl-self-3 : tie.Need-shl-self-3
 shl-self-3 c = search needs
 
--- src/node.rt:43:13
 add-self-4 : tie.Need-add-self-4
-add-self-4 c = ?
+add-self-4 c =
+    let a = c .before .before .before .before .before .args in
+    let w = c .before .before .before .before .before .pre in
+    let high : 8 ≤ a .self .size = omega arith in
+    let low : a .self .size - 8 < 8 = omega (arith, w .room) in
+    record {
+      fits =
+          rw (digit-shifted (a .self .size - 8) (a .stop) low (w .few))
+          (digit-fits (a .self .size - 8) (a .stop) low (w .few) (a .self .second) (w .second-small high));
+    }
 
--- src/node.rt:31:5
 returns : tie.Need-returns
-returns c = ?
+unfolding extended
+returns c =
+    let a = c .before .before .before .before .before .args in
+    let w = c .before .before .before .before .before .pre in
+    let low : a .self .size < 8 = omega arith in
+    rw (bit-shifted (a .stop) (w .few), digit-shifted (a .self .size) (a .stop) low (w .few), lt-ltb (a .self .size) 8 low, add-zero (a .self .second)) refl
 
--- src/node.rt:31:5
 returns-2 : tie.Need-returns-2
-returns-2 c = ?
+unfolding extended
+returns-2 c =
+    let a = c .before .before .before .before .before .args in
+    let w = c .before .before .before .before .before .pre in
+    let high : 8 ≤ a .self .size = omega arith in
+    let low : a .self .size - 8 < 8 = omega (arith, w .room) in
+    rw (bit-shifted (a .stop) (w .few), digit-shifted (a .self .size - 8) (a .stop) low (w .few), le-ltb (a .self .size) 8 high, add-zero (a .self .first)) refl
 
 pub extended-spec : {M : Type 1} → statement M
 extended-spec =
