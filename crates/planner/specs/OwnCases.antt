@@ -9,6 +9,7 @@ use lib.Dec.{eqb}
 use lib.ListN.{replicate}
 use Rattle.lists.specs.Lists.{each, from}
 use Rattle.planner.specs.Call.{Call, Answer}
+use Rattle.planner.specs.Checks.{cause}
 use Rattle.planner.specs.Answer.{answer}
 use Rattle.planner.specs.Cases.{call, found, refused, computed, tableT}
 
@@ -237,3 +238,42 @@ ownCases = fifo-on-case-i ∷ rule-4-fills ∷ rule-8-keeps-later ∷ rules-2-an
 pub own-cases-hold : AllHold ownCases
 unfolding ownCases
 own-cases-hold = (holds-fifo-on-case-i, (holds-rule-4-fills, (holds-rule-8-keeps-later, (holds-rules-2-and-8, (holds-all-rules-tied, (holds-all-rules-started, (holds-rule-4-eliminates, tt)))))))
+
+-- Each cause by itself, at its edge: document 01's table of causes, row by row. h is case h's table.
+h : List ℕ
+h = 0 ∷ 3 ∷ 5 ∷ 0 ∷ []
+
+abbrev partRecord : Call
+partRecord = record { n = 1; table = h; selection = 0; rules = 0; bound = 0; start = []; pool = replicate 7 7 }
+
+each-cause :
+    map cause
+    (call 0 (0 ∷ []) 0 0 0 [] 1
+    ∷ call 1 (0 ∷ 3 ∷ 5 ∷ []) 0 0 0 [] 1
+    ∷ call 1 (1 ∷ 3 ∷ 5 ∷ 0 ∷ []) 0 0 0 [] 1
+    ∷ call 1 (0 ∷ 3 ∷ 5 ∷ 1 ∷ []) 0 0 0 [] 1
+    ∷ call 1 h 4 0 0 [] 1
+    ∷ call 1 h 0 16 0 [] 1
+    ∷ call 1 h 0 0 2 [] 1
+    ∷ call 1 h 0 0 0 (2 ∷ []) 1
+    ∷ call 1 h 0 0 0 (1 ∷ 1 ∷ []) 1
+    ∷ call 1 h 0 0 0 [] 0
+    ∷ partRecord
+    ∷ call 1 h 3 15 1 (1 ∷ []) 1
+    ∷ [])
+    ≡ 1 ∷ 2 ∷ 3 ∷ 3 ∷ 4 ∷ 4 ∷ 4 ∷ 5 ∷ 5 ∷ 6 ∷ 6 ∷ 0 ∷ []
+unfolding h computed
+each-cause = refl
+
+-- "The lowest number that applies is returned."
+lowest-of-several :
+    map cause
+    (call 17 (1 ∷ []) 4 0 0 (2 ∷ []) 0
+    ∷ call 1 (1 ∷ []) 4 0 0 (2 ∷ []) 0
+    ∷ call 1 (1 ∷ 3 ∷ 5 ∷ 0 ∷ []) 4 0 0 (2 ∷ []) 0
+    ∷ call 1 h 4 0 0 (2 ∷ []) 0
+    ∷ call 1 h 0 0 0 (2 ∷ []) 0
+    ∷ [])
+    ≡ 1 ∷ 2 ∷ 3 ∷ 4 ∷ 5 ∷ []
+unfolding h computed
+lowest-of-several = refl
