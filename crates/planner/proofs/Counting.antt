@@ -10,9 +10,9 @@ use Rattle.orders.specs.Orders.{Node}
 use Rattle.pool.specs.Records.{recordsIn}
 use Rattle.planner.specs.Call.{Call, Report, Answer, refusal}
 use Rattle.planner.specs.Checks.{cause}
-use Rattle.planner.specs.Answer.{problemOf, choicesOf, given, reportWith, ending, answer}
+use Rattle.planner.specs.Answer.{problemOf, choicesOf, given, reportWith, ending, answer, StateOf}
 use Rattle.planner.proofs.Passes.{passes}
-use Rattle.planner.proofs.Instance.{StateOf, finished-state, full-state, state-reached}
+use Rattle.planner.proofs.Instance.{finished-state, full-state, state-reached}
 use Rattle.planner.proofs.Ending.{Ended, refused, filled, planned, call-ends}
 
 abbrev Balanced : State Node → Type 0

@@ -1,5 +1,5 @@
 -- Cases of our own, beside document 01's: rules 4, 8, 10 and 15 on tables with ties, a refusal by 7 under rule 4, and case i's table
--- under FIFO, each with the whole report and every word of the pool at the end. They were worked out by hand, but for the last, and by
+-- under FIFO, each with the whole report and every word of the pool at the end. They were worked out by hand (of the last, the counts) and by
 -- the second planner (host/witness). Assumes nothing.
 use mathlib.Core.Path.{_≡_, refl}
 use mathlib.Core.Bool.{cond}
@@ -174,7 +174,10 @@ holds-all-rules-started : Holds all-rules-started
 unfolding all-rules-started tableT computed
 holds-all-rules-started = refl
 
--- LIFO, rule 4, plain, n = 4: twelve children fall to branched nodes. (Worked out by the second planner alone.)
+-- LIFO, rule 4, plain, n = 4. By hand: no rule 1, so all 1 + 4 + 12 + 24 nodes of sizes 0 to 3 are generated. Those of size 3 go in 12
+-- pairs of one set and last stop, and the later of each pair falls to the branched earlier one: 12 eliminated. The other 12 have one
+-- complete child each: 41 + 12 = 53 generated, 1 + 4 + 12 + 12 = 29 branched, 12 active, and 12 + 29 = 41 records. (Most, and the
+-- sequence of the words, are the second planner's.)
 rule-4-eliminates : OwnCase
 rule-4-eliminates = record {
   given = call 4 (ones 4) 3 4 0 [] 41;
