@@ -69,7 +69,8 @@ abbrev pub factorial : ℕ → ℕ
 factorial zero = 1
 factorial (suc n) = suc n * factorial n
 
--- How many nodes there are with m stops left or fewer below one node, itself included: 1 and, for each stop left, as many as with m - 1.
+-- How many nodes stand at or below a node that leaves m stops: itself and, for each of the m stops, as many as at or below a node
+-- that leaves m - 1.
 abbrev pub nodes : ℕ → ℕ
 nodes zero = 1
 nodes (suc m) = 1 + suc m * nodes m

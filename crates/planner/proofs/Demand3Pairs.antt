@@ -7,7 +7,6 @@ use mathlib.Core.Path.{_≡_, refl, sym, _∙_, ap, subst}
 use mathlib.Core.Bool.{true, _||_}
 use mathlib.Core.List.{List, [], _∷_}
 use mathlib.Core.Logic.{_⊎_, inl, inr}
-use mathlib.Core.Option.{Option}
 use Prim.Native.Nat.{ℕ, zero, suc, _≤_}
 use native.Mathlib.Omega.{arith}
 use lib.Dec.{T, eqb}
@@ -16,8 +15,7 @@ use Rattle.search.specs.Problem.{Problem, State, upper, start}
 use Rattle.search.specs.Step.{on}
 use Rattle.search.specs.Run.{finished}
 use Rattle.search.proofs.General.{Plan, cap, search, done}
-use Rattle.search.proofs.Laws.{Good, KnownIn, unknown, known, Solvable}
-use Rattle.search.proofs.Cover.{good-bound}
+use Rattle.search.proofs.Cover.{root-good, good-bound}
 use Rattle.search.proofs.PlainSelection.{lateBy, rankBy}
 use Rattle.search.proofs.Plain.{tree, planOf, cutOf, adds, finished-iff-done}
 use Rattle.search.proofs.Below.{Closer}
@@ -66,11 +64,6 @@ same-rank P f g zero h = absurd (omega arith)
 same-rank P f g (suc zero) h = absurd (omega arith)
 same-rank P f g (suc (suc zero)) h = refl
 same-rank P f g (suc (suc (suc k))) h = refl
-
--- a known order, or the cheapest of all: some order costs at most U
-good-start : {P : Problem Node} {best : Option Node} → Solvable P → KnownIn P best → Good P (upper P best) (P .root)
-good-start (y, whole, leads, cheap) unknown = record { leaf = y; leads = leads; whole = whole; cheap = omega arith }
-good-start solvable (known x whole leads) = record { leaf = x; leads = leads; whole = whole; cheap = omega arith }
 
 module _ (a : Call) (ok : Passes a) (rules bound : ℕ) (first pool : List ℕ) (favours : Favours a (alongside a rules bound first pool)) where
   -- the bound numbers are those of the checks: B's is at most A's
@@ -136,7 +129,7 @@ module _ (a : Call) (ok : Passes a) (rules bound : ℕ) (first pool : List ℕ) 
   root-within : choicesOf a .bound (problemOf a .root) ≤ upper (problemOf a) (given (a .start))
   root-within =
       good-bound (call-lawful a ok) (bound-laws a ok) (upper (problemOf a) (given (a .start)))
-      (problemOf a .root) (good-start (call-solvable a ok) (start-known a ok))
+      (problemOf a .root) (root-good (call-solvable a ok) (given (a .start)) (start-known a ok))
 
   -- more words, more records
   more-records : recordsIn pool ≤ recordsIn (a .pool)

@@ -1,5 +1,7 @@
 -- Every call ends, with an order or a numbered refusal (demand 1).
---   Ended, call-ends     how a call ends: refused by 1 to 6 with the pool as it was; pool full, 7; or finished, 0
+--   Ended, call-ends     how a call ends: refused by 1 to 6 with the pool as it was; pool full, 7; or finished, 0. No call is left
+--                        `unfinished`: its fuel is never used up (`outcome-ends`, in Instance)
+--   number-0, number-7   the number of a report says which
 -- Assumes nothing.
 use mathlib.Core.Path.{_≡_, refl, ap, sym, _∙_}
 use mathlib.Core.Bool.{Bool, true, false}

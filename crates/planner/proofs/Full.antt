@@ -1,20 +1,20 @@
 -- "A pool is called full when, and only when, the nodes to keep outnumber its records" (demand 2): number 7 is returned just where
 -- the first step after which they do is met; the pool then holds the state before that step; and a run that is finished is never
--- refused. `Overflows` (crate `search`, Outcome) is that next step: a node is selected, the finish test does not end the run, and the
--- nodes to keep after the step outnumber the records. `StateOf` are the states before it: every earlier step fitted.
+-- refused. `Overflows` (crate `search`, specs/Run) is that next step: a node is selected, the finish test does not end the run, and the
+-- nodes to keep after the step outnumber the records. `StateOf` (specs/Answer) are the states before it: every earlier step fitted.
 -- Assumes nothing.
 use mathlib.Core.Path.{_≡_, ap, _∙_}
 use mathlib.Core.List.{[]}
 use Prim.Native.Nat.{ℕ}
 use Rattle.search.specs.Problem.{State}
-use Rattle.search.specs.Run.{finish, next, finished, full}
-use Rattle.search.proofs.Outcome.{Overflows, finish-whatever-pool}
+use Rattle.search.specs.Run.{finish, next, finished, full, Overflows}
+use Rattle.search.proofs.Outcome.{finish-whatever-pool}
 use Rattle.orders.specs.Orders.{Node}
 use Rattle.pool.specs.Records.{recordsIn}
 use Rattle.planner.specs.Call.{Call, Answer}
 use Rattle.planner.specs.Checks.{cause}
-use Rattle.planner.specs.Answer.{problemOf, choicesOf, outcome, reportWith, wordsOf, ending, respond, answer}
-use Rattle.planner.proofs.Instance.{StateOf, full-state, overflow-outcome, finish-outcome}
+use Rattle.planner.specs.Answer.{problemOf, choicesOf, outcome, reportWith, wordsOf, ending, respond, answer, StateOf}
+use Rattle.planner.proofs.Instance.{full-state, overflow-outcome, finish-outcome}
 use Rattle.planner.proofs.Ending.{Filled, number-7}
 
 -- 7 only then: the steps done fitted, the next would not, and report and pool are those of the state before it

@@ -7,12 +7,12 @@ use Prim.Native.Nat.{ℕ, suc, _-_, _≤_, _<_}
 use native.Mathlib.Omega.{arith}
 use Rattle.lists.specs.Lists.{sum}
 use Rattle.search.specs.Problem.{State, start}
-use Rattle.search.specs.Run.{finished, full, unfinished, finish, next}
+use Rattle.search.specs.Run.{finished, full, unfinished, finish, next, Overflows}
 use Rattle.search.proofs.General.{Reached, verdict, stop}
 use Rattle.search.proofs.Laws.{Lawful, BoundLaws, Manner, Solvable, Weighs, KnownIn, unknown, known}
 use Rattle.search.proofs.Plain.{tree, planOf, cutOf, verdictOf, plan-manner, next-is-verdict}
 use Rattle.search.proofs.Ends.{start-ends}
-use Rattle.search.proofs.Outcome.{Steps, Overflows, finished-means, full-means, overflow-full, finish-finished, steps-reached}
+use Rattle.search.proofs.Outcome.{finished-means, full-means, overflow-full, finish-finished, steps-reached}
 use Rattle.orders.specs.Orders.{Node, size, Order, nodes}
 use Rattle.orders.proofs.Partial.{partial-root, partial-size}
 use Rattle.orders.proofs.Order.{order-complete, order-leads}
@@ -22,7 +22,7 @@ use Rattle.stops.proofs.LegTable.{legs-within}
 use Rattle.stops.proofs.Instance.{tree-lawful, bound-lawful, stops-weigh, stops-solvable}
 use Rattle.pool.specs.Records.{recordsIn}
 use Rattle.planner.specs.Call.{Call}
-use Rattle.planner.specs.Answer.{legsOf, problemOf, choicesOf, given, outcome}
+use Rattle.planner.specs.Answer.{legsOf, problemOf, choicesOf, given, outcome, StateOf}
 use Rattle.planner.proofs.Passes.{Passes}
 
 -- a node weighs as much as there are nodes below it, itself included
@@ -46,10 +46,6 @@ pub outcome-ends : (c : Call) (s : State Node) → outcome c ≡ unfinished s �
 unfolding outcome
 outcome-ends c s e =
     start-ends (problemOf c) (choicesOf c) (recordsIn (c .pool)) (call-weighs c) (suc (nodes (c .n))) (given (c .start)) (root-light c) s e
-
--- The states of a call's run: what steps of the written run come to, each of which fitted the pool.
-abbrev pub StateOf : Call → State Node → Type 0
-StateOf c s = Steps (problemOf c) (choicesOf c) (recordsIn (c .pool)) (start (problemOf c) (given (c .start))) s
 
 pub finished-state : (c : Call) (s : State Node) → outcome c ≡ finished s → StateOf c s × (next (problemOf c) (choicesOf c) (recordsIn (c .pool)) s ≡ finish)
 unfolding outcome

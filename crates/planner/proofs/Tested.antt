@@ -21,9 +21,9 @@ use Rattle.orders.specs.Orders.{Node, size}
 use Rattle.pool.specs.Records.{recordsIn}
 use Rattle.planner.specs.Call.{Call}
 use Rattle.planner.specs.Checks.{cause}
-use Rattle.planner.specs.Answer.{problemOf, choicesOf, given}
+use Rattle.planner.specs.Answer.{problemOf, choicesOf, given, StateOf}
 use Rattle.planner.proofs.Passes.{Passes, passes}
-use Rattle.planner.proofs.Instance.{StateOf, state-reached, call-lawful, bound-laws, call-manner, call-solvable, start-known, selection-small}
+use Rattle.planner.proofs.Instance.{state-reached, call-lawful, bound-laws, call-manner, call-solvable, start-known, selection-small}
 
 pub active-never-empty : (c : Call) → cause c ≡ 0 → (s : State Node) → StateOf c s → (x : Node) × In x (s .active)
 active-never-empty c e s steps =

@@ -1,10 +1,11 @@
--- The one function from what a caller hands in to the report and the pool's words afterwards: `answer`. Assumes nothing.
+-- The one function from what a caller hands in to the report and the pool's words afterwards: `answer`.
+-- Document 01, "The report", "The pool" and "Causes and numbers". Assumes nothing.
 use mathlib.Core.List.{List, [], _∷_}
 use mathlib.Core.Option.{Option, none, some}
 use Prim.Native.Nat.{ℕ, zero, suc}
 use lib.ListN.{length, replicate}
 use Rattle.search.specs.Problem.{Problem, Choices, State, upper, start}
-use Rattle.search.specs.Run.{Outcome, finished, full, unfinished, run}
+use Rattle.search.specs.Run.{Outcome, finished, full, unfinished, run, Steps}
 use Rattle.orders.specs.Orders.{Node, nodes}
 use Rattle.stops.specs.Legs.{Legs, rows, legs}
 use Rattle.stops.specs.Stops.{problem, choices}
@@ -31,6 +32,10 @@ unfoldable pub outcome : Call → Outcome Node
 outcome c =
     run (problemOf c) (choicesOf c) (recordsIn (c .pool)) (suc (nodes (c .n))) (start (problemOf c) (given (c .start)))
 
+-- The states of a call's run: what steps of the written run come to, each of which fitted the pool.
+abbrev pub StateOf : Call → State Node → Type 0
+StateOf c s = Steps (problemOf c) (choicesOf c) (recordsIn (c .pool)) (start (problemOf c) (given (c .start))) s
+
 abbrev pub stopsOf : Option Node → List ℕ
 stopsOf none = []
 stopsOf (some x) = x
@@ -48,6 +53,7 @@ reportWith number cost order s = record {
   most = s .most;
 }
 
+-- "Contents before the run play no part": only the pool's length is looked at.
 unfoldable pub wordsOf : Call → State Node → List ℕ
 wordsOf c s = poolWords (c .n) (legsOf c) (c .bound) (c .rules) (length (c .pool)) s
 

@@ -1,5 +1,5 @@
 -- Cases of our own, beside document 01's: rules 4, 8, 10 and 15 on tables with ties, a refusal by 7 under rule 4, and case i's table
--- under FIFO, each with the whole report and every word of the pool at the end. They were worked out by hand, but for the last, and by
+-- under FIFO, each with the whole report and every word of the pool at the end. They were worked out by hand (of the last, the counts) and by
 -- the second planner (host/witness). Assumes nothing.
 use mathlib.Core.Path.{_≡_, refl}
 use mathlib.Core.Bool.{cond}
@@ -9,6 +9,7 @@ use lib.Dec.{eqb}
 use lib.ListN.{replicate}
 use Rattle.lists.specs.Lists.{each, from}
 use Rattle.planner.specs.Call.{Call, Answer}
+use Rattle.planner.specs.Checks.{cause}
 use Rattle.planner.specs.Answer.{answer}
 use Rattle.planner.specs.Cases.{call, found, refused, computed, tableT}
 
@@ -173,7 +174,10 @@ holds-all-rules-started : Holds all-rules-started
 unfolding all-rules-started tableT computed
 holds-all-rules-started = refl
 
--- LIFO, rule 4, plain, n = 4: twelve children fall to branched nodes. (Worked out by the second planner alone.)
+-- LIFO, rule 4, plain, n = 4. By hand: no rule 1, so all 1 + 4 + 12 + 24 nodes of sizes 0 to 3 are generated. Those of size 3 go in 12
+-- pairs of one set and last stop, and the later of each pair falls to the branched earlier one: 12 eliminated. The other 12 have one
+-- complete child each: 41 + 12 = 53 generated, 1 + 4 + 12 + 12 = 29 branched, 12 active, and 12 + 29 = 41 records. (Most, and the
+-- sequence of the words, are the second planner's.)
 rule-4-eliminates : OwnCase
 rule-4-eliminates = record {
   given = call 4 (ones 4) 3 4 0 [] 41;
@@ -237,3 +241,42 @@ ownCases = fifo-on-case-i ∷ rule-4-fills ∷ rule-8-keeps-later ∷ rules-2-an
 pub own-cases-hold : AllHold ownCases
 unfolding ownCases
 own-cases-hold = (holds-fifo-on-case-i, (holds-rule-4-fills, (holds-rule-8-keeps-later, (holds-rules-2-and-8, (holds-all-rules-tied, (holds-all-rules-started, (holds-rule-4-eliminates, tt)))))))
+
+-- Each cause by itself, at its edge: document 01's table of causes, row by row. h is case h's table.
+h : List ℕ
+h = 0 ∷ 3 ∷ 5 ∷ 0 ∷ []
+
+abbrev partRecord : Call
+partRecord = record { n = 1; table = h; selection = 0; rules = 0; bound = 0; start = []; pool = replicate 7 7 }
+
+each-cause :
+    map cause
+    (call 0 (0 ∷ []) 0 0 0 [] 1
+    ∷ call 1 (0 ∷ 3 ∷ 5 ∷ []) 0 0 0 [] 1
+    ∷ call 1 (1 ∷ 3 ∷ 5 ∷ 0 ∷ []) 0 0 0 [] 1
+    ∷ call 1 (0 ∷ 3 ∷ 5 ∷ 1 ∷ []) 0 0 0 [] 1
+    ∷ call 1 h 4 0 0 [] 1
+    ∷ call 1 h 0 16 0 [] 1
+    ∷ call 1 h 0 0 2 [] 1
+    ∷ call 1 h 0 0 0 (2 ∷ []) 1
+    ∷ call 1 h 0 0 0 (1 ∷ 1 ∷ []) 1
+    ∷ call 1 h 0 0 0 [] 0
+    ∷ partRecord
+    ∷ call 1 h 3 15 1 (1 ∷ []) 1
+    ∷ [])
+    ≡ 1 ∷ 2 ∷ 3 ∷ 3 ∷ 4 ∷ 4 ∷ 4 ∷ 5 ∷ 5 ∷ 6 ∷ 6 ∷ 0 ∷ []
+unfolding h computed
+each-cause = refl
+
+-- "The lowest number that applies is returned."
+lowest-of-several :
+    map cause
+    (call 17 (1 ∷ []) 4 0 0 (2 ∷ []) 0
+    ∷ call 1 (1 ∷ []) 4 0 0 (2 ∷ []) 0
+    ∷ call 1 (1 ∷ 3 ∷ 5 ∷ 0 ∷ []) 4 0 0 (2 ∷ []) 0
+    ∷ call 1 h 4 0 0 (2 ∷ []) 0
+    ∷ call 1 h 0 0 0 (2 ∷ []) 0
+    ∷ [])
+    ≡ 1 ∷ 2 ∷ 3 ∷ 4 ∷ 5 ∷ []
+unfolding h computed
+lowest-of-several = refl

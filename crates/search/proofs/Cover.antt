@@ -4,13 +4,14 @@
 -- That a step keeps both is in `CoverStep`. Assumes nothing.
 use mathlib.Core.Path.{_≡_}
 use mathlib.Core.Logic.{_⊎_, inl, inr}
+use mathlib.Core.Option.{Option}
 use Prim.Native.Nat.{ℕ, _≤_}
 use native.Mathlib.Omega.{arith}
 use lib.Dec.{T}
 use Rattle.lists.specs.Lists.{In}
 use Rattle.search.specs.Problem.{Problem, State, upper}
 use Rattle.search.proofs.General.{Tree}
-use Rattle.search.proofs.Laws.{Leads, stay, down, Good, Sized, Lawful, BoundLaws, KnownIn}
+use Rattle.search.proofs.Laws.{Leads, stay, down, Good, Sized, Lawful, BoundLaws, KnownIn, unknown, known, Solvable}
 
 module _ {N : Type 0} (P : Problem N) where
   -- w stands for x
@@ -45,6 +46,11 @@ module _ {N : Type 0} {P : Problem N} where
   -- what leads to a complete node is good at its cost
   pub leaf-good : (x y : N) → T (P .complete y) → Leads P x y → Good P (P .cost y) x
   leaf-good x y whole leads = record { leaf = y; leads = leads; whole = whole; cheap = omega arith }
+
+  -- the root is good at the upper cost, known or "above every cost"
+  pub root-good : Solvable P → (best : Option N) → KnownIn P best → Good P (upper P best) (P .root)
+  root-good (y, whole, leads, cheap) best unknown = record { leaf = y; leads = leads; whole = whole; cheap = omega arith }
+  root-good solvable best (known x whole leads) = leaf-good (P .root) x whole leads
 
   -- a good node is the leaf itself, or a child of it is as good
   pub good-cases :

@@ -21,7 +21,7 @@ use Rattle.search.proofs.Laws.{Leads, stay, Good, Lawful, BoundLaws, Ma
 use Rattle.search.proofs.Pick.{Picked, picked-of, picked-none, picked-in, in-rest}
 use Rattle.search.proofs.Verdict.{stop-cases, ends-cases, reached-keeps}
 use Rattle.search.proofs.Queue.{all-complete}
-use Rattle.search.proofs.Cover.{Live, Cover, Covered, Sound, leaf-good, good-cases, complete-good, covers-good, covers-size, good-bound}
+use Rattle.search.proofs.Cover.{Live, Cover, Covered, Sound, leaf-good, root-good, good-cases, complete-good, covers-good, covers-size, good-bound}
 use Rattle.search.proofs.CoverStep.{step-keeps-cover, step-keeps-sound}
 
 -- From a live good node to an active one: a branched node is not complete, so its good leaf goes through a child; a live node covers
@@ -187,15 +187,11 @@ module _
           go best unknown h = absurd (omega (arith, solvable .3))
           go best (known x whole leads) h = (x, refl, whole, leads)
 
-      root-good : (best : Option N) → KnownIn (t .problem) best → Good (t .problem) (upper (t .problem) best) (t .problem .root)
-      root-good best unknown = record { leaf = solvable .0; leads = solvable .2; whole = solvable .1; cheap = omega (arith, solvable .3) }
-      root-good best (known x whole leads) = leaf-good (t .problem .root) x whole leads
-
       -- some active node leads to an order as cheap as the known one
       live-some :
           (s : State N) → Reached t p c pool (start (t .problem) best₀) s
           → (x : N) × In x (s .active) × Good (t .problem) (upper (t .problem) (s .best)) x
-      live-some s r = reached-alive s r (upper (t .problem) (s .best)) (omega arith) (root-good (s .best) (reached-known s r))
+      live-some s r = reached-alive s r (upper (t .problem) (s .best)) (omega arith) (root-good solvable (s .best) (reached-known s r))
 
       -- the active set is never empty
       pub active-some : (s : State N) → Reached t p c pool (start (t .problem) best₀) s → (x : N) × In x (s .active)

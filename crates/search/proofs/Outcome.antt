@@ -1,6 +1,5 @@
 -- What the outcomes of a run mean.
 --   Ended, search-ended             the general run: the state that stands is reached, and its verdict is the outcome's
---   Stepped, Steps, Overflows       one step of the written run that fits the pool; some of them; a next step that does not fit
 --   full-means, overflow-full       the pool is called full when, and only when, some steps come to such a state: the first of them
 --   finished-means, finish-finished, finish-whatever-pool    the run is finished just at the state that the finish test ends, in any pool
 --   steps-reached, reached-steps    what is proved of reached states is true of the states of the written run
@@ -17,7 +16,7 @@ use Rattle.lists.proofs.Tests.{tests, to-true, to-false}
 use Rattle.search.specs.Problem.{Problem, Choices, State}
 use Rattle.search.specs.Selection.{Choice, nothing, chosen, select, finishes}
 use Rattle.search.specs.Step.{step}
-use Rattle.search.specs.Run.{held, Next, finish, overflow, go, Outcome, finished, full, unfinished, unless, ifFits, fitting, decide, next, follow, run}
+use Rattle.search.specs.Run.{held, Next, finish, overflow, go, Outcome, finished, full, unfinished, unless, goUnless, fitting, decide, next, follow, run, Stepped, Steps, none, more, Overflows}
 use Rattle.search.proofs.General.{Tree, Plan, Cut, Verdict, stop, pause, refuse, onward, Result, done, paused, overfull, stuck, verdict, obey, search, Reached, here, then}
 use Rattle.search.proofs.Laws.{Weighs}
 use Rattle.search.proofs.Plain.{tree, planOf, cutOf, verdictOf, next-is-verdict}
@@ -49,33 +48,11 @@ module _ {N : Type 0} (t : Tree N) (p : Plan N) (c : Cut N) (pool : ℕ) where
   search-ended fuel s result e = subst (Ended s) e (search-from fuel here)
 
 module _ {N : Type 0} (P : Problem N) (C : Choices N) (records : ℕ) where
-  -- s′ comes of s by one step of the written run, which leaves no more nodes to keep than there are records
-  pub record Stepped (s s′ : State N) : Type 0 where
-    pub b : N
-    pub rest : List N
-    pub selects : select P C (s .active) ≡ chosen b rest
-    pub goes : T (not (finishes P C (s .best) b rest))
-    pub fits : length (held (C .rules) (step P C s b rest)) ≤ records
-    pub steps : s′ ≡ step P C s b rest
-
-  -- e comes of s by such steps
-  pub data Steps (s : State N) : State N → Type 0 where
-    none : Steps s s
-    more : {s′ e : State N} → Steps s s′ → Stepped s′ e → Steps s e
-
-  -- the next step from s would leave more nodes to keep than there are records
-  pub record Overflows (s : State N) : Type 0 where
-    pub b : N
-    pub rest : List N
-    pub selects : select P C (s .active) ≡ chosen b rest
-    pub goes : T (not (finishes P C (s .best) b rest))
-    pub outnumber : records < length (held (C .rules) (step P C s b rest))
-
   -- what comes next of a state says how it comes
   abbrev Says : State N → Next N → Type 0
   Says s finish = Unit {0}
-  Says s overflow = Overflows s
-  Says s (go s′) = Stepped s s′
+  Says s overflow = Overflows P C records s
+  Says s (go s′) = Stepped P C records s s′
 
   next-says : (s : State N) → Says s (next P C records s)
   unfolding next decide fitting
@@ -91,7 +68,7 @@ module _ {N : Type 0} (P : Problem N) (C : Choices N) (records : ℕ) where
 
           cases :
               (f o : Bool) → (T (not f) → T (not (finishes P C (s .best) b rest))) → (T o → records < kept) → (T (not o) → kept ≤ records)
-              → Says s (unless f (ifFits o (step P C s b rest)))
+              → Says s (unless f (goUnless o (step P C s b rest)))
           cases true o goes over fits = tt
           cases false true goes over fits = record { b = b; rest = rest; selects = e; goes = goes tt; outnumber = over tt }
           cases false false goes over fits = record { b = b; rest = rest; selects = e; goes = goes tt; fits = fits tt; steps = refl }
@@ -103,7 +80,7 @@ module _ {N : Type 0} (P : Problem N) (C : Choices N) (records : ℕ) where
   unfolding next decide
   goes-next s b rest e h = rw (e, to-false (finishes P C (s .best) b rest) h)
 
-  stepped-next : {s s′ : State N} → Stepped s s′ → next P C records s ≡ go s′
+  stepped-next : {s s′ : State N} → Stepped P C records s s′ → next P C records s ≡ go s′
   unfolding fitting
   stepped-next {s} h =
       rw (
@@ -113,7 +90,7 @@ module _ {N : Type 0} (P : Problem N) (C : Choices N) (records : ℕ) where
         h .steps,
       )
 
-  overflows-next : {s : State N} → Overflows s → next P C records s ≡ overflow
+  overflows-next : {s : State N} → Overflows P C records s → next P C records s ≡ overflow
   unfolding fitting
   overflows-next {s} h =
       rw (
@@ -131,33 +108,33 @@ module _ {N : Type 0} (P : Problem N) (C : Choices N) (records : ℕ) where
       at (chosen b rest) e = cases (finishes P C (s .best) b rest) (ltb records (length (held (C .rules) (step P C s b rest)))) e
         where
           cases :
-              (f o : Bool) → unless f (ifFits o (step P C s b rest)) ≡ finish → unless f (fitting P C r (step P C s b rest)) ≡ finish
+              (f o : Bool) → unless f (goUnless o (step P C s b rest)) ≡ finish → unless f (fitting P C r (step P C s b rest)) ≡ finish
           cases true o e = refl
           cases false true e = cc
           cases false false e = cc
 
   -- What an outcome says of the state that the run began at.
   abbrev Means : State N → Outcome N → Type 0
-  Means s (finished e) = Steps s e × (next P C records e ≡ finish)
-  Means s (full e) = Steps s e × Overflows e
-  Means s (unfinished e) = Steps s e
+  Means s (finished e) = Steps P C records s e × (next P C records e ≡ finish)
+  Means s (full e) = Steps P C records s e × Overflows P C records e
+  Means s (unfinished e) = Steps P C records s e
 
-  run-from : (fuel : ℕ) {s s′ : State N} → Steps s s′ → Means s (run P C records fuel s′)
+  run-from : (fuel : ℕ) {s s′ : State N} → Steps P C records s s′ → Means s (run P C records fuel s′)
   unfolding run
   run-from zero r = r
   run-from (suc fuel) {s} {s′} r = cases (next P C records s′) refl (next-says s′) (λ s″ k. run-from fuel k)
     where
       cases :
-          (n : Next N) → next P C records s′ ≡ n → Says s′ n → ((s″ : State N) → Steps s s″ → Means s (run P C records fuel s″))
+          (n : Next N) → next P C records s′ ≡ n → Says s′ n → ((s″ : State N) → Steps P C records s s″ → Means s (run P C records fuel s″))
           → Means s (follow P C records (run P C records fuel) s′ n)
       cases finish e h again = (r, e)
       cases overflow e h again = (r, h)
       cases (go s″) e h again = again s″ (more r h)
 
-  pub finished-means : (fuel : ℕ) (s e : State N) → run P C records fuel s ≡ finished e → Steps s e × (next P C records e ≡ finish)
+  pub finished-means : (fuel : ℕ) (s e : State N) → run P C records fuel s ≡ finished e → Steps P C records s e × (next P C records e ≡ finish)
   finished-means fuel s e q = subst (Means s) q (run-from fuel none)
 
-  pub full-means : (fuel : ℕ) (s e : State N) → run P C records fuel s ≡ full e → Steps s e × Overflows e
+  pub full-means : (fuel : ℕ) (s e : State N) → run P C records fuel s ≡ full e → Steps P C records s e × Overflows P C records e
   full-means fuel s e q = subst (Means s) q (run-from fuel none)
 
   -- The converses. The run from s goes through the states that its steps come to, so with more fuel it ends as the run from any of
@@ -179,7 +156,7 @@ module _ {N : Type 0} (P : Problem N) (C : Choices N) (records : ℕ) where
       cases overflow ends again = refl
       cases (go s′) ends again = again s′ ends
 
-  steps-run : {s e : State N} → Steps s e → (f : ℕ) → (f′ : ℕ) × (f ≤ f′) × (run P C records f′ s ≡ run P C records f e)
+  steps-run : {s e : State N} → Steps P C records s e → (f : ℕ) → (f′ : ℕ) × (f ≤ f′) × (run P C records f′ s ≡ run P C records f e)
   unfolding run
   steps-run none f = (f, omega arith, refl)
   steps-run (more {s′} r h) f =
@@ -187,7 +164,7 @@ module _ {N : Type 0} (P : Problem N) (C : Choices N) (records : ℕ) where
       (f′, omega arith, q ∙ ap (follow P C records (run P C records f) s′) (stepped-next h))
 
   module _
-      {weight : N → ℕ} (weighs : Weighs P weight) (fuel : ℕ) {s e : State N} (enough : sum weight (s .active) < fuel) (steps : Steps s e)
+      {weight : N → ℕ} (weighs : Weighs P weight) (fuel : ℕ) {s e : State N} (enough : sum weight (s .active) < fuel) (steps : Steps P C records s e)
     where
       stands : run P C records fuel s ≡ run P C records (suc fuel) e
       stands =
@@ -198,22 +175,22 @@ module _ {N : Type 0} (P : Problem N) (C : Choices N) (records : ℕ) where
       unfolding run
       finish-finished h = stands ∙ ap (follow P C records (run P C records fuel) e) h
 
-      pub overflow-full : Overflows e → run P C records fuel s ≡ full e
+      pub overflow-full : Overflows P C records e → run P C records fuel s ≡ full e
       unfolding run
       overflow-full h = stands ∙ ap (follow P C records (run P C records fuel) e) (overflows-next h)
 
   -- The steps of the written run are those of the general run.
   module _ (known : C .selection ≤ 3) where
-    pub steps-reached : {s e : State N} → Steps s e → Reached (tree P) (planOf P C) (cutOf C) records s e
+    pub steps-reached : {s e : State N} → Steps P C records s e → Reached (tree P) (planOf P C) (cutOf C) records s e
     steps-reached none = here
     steps-reached (more {s′} r h) = then (steps-reached r) (next-is-verdict P C records known s′ ∙ ap verdictOf (stepped-next h))
 
-    pub reached-steps : {s e : State N} → Reached (tree P) (planOf P C) (cutOf C) records s e → Steps s e
+    pub reached-steps : {s e : State N} → Reached (tree P) (planOf P C) (cutOf C) records s e → Steps P C records s e
     reached-steps here = none
     reached-steps (then {s′} {s″} r v) =
         more (reached-steps r) (cases (next P C records s′) (next-says s′) (sym (next-is-verdict P C records known s′) ∙ v))
       where
-        cases : (n : Next N) → Says s′ n → verdictOf n ≡ onward s″ → Stepped s′ s″
+        cases : (n : Next N) → Says s′ n → verdictOf n ≡ onward s″ → Stepped P C records s′ s″
         cases finish h e = absurd (let z : _≡_ {A = ℕ} 0 1 = cc in omega arith)
         cases overflow h e = absurd (let z : _≡_ {A = ℕ} 0 1 = cc in omega arith)
-        cases (go s‴) h e = let q : s‴ ≡ s″ = cc in subst (Stepped s′) q h
+        cases (go s‴) h e = let q : s‴ ≡ s″ = cc in subst (Stepped P C records s′) q h

@@ -16,7 +16,7 @@ use lib.ListN.{length}
 use Rattle.search.specs.Problem.{Problem, Choices, State}
 use Rattle.search.specs.Selection.{Choice, nothing, chosen, select, finishes}
 use Rattle.search.specs.Step.{on, children₁, best₂, over₃, children₃, rest₃, dominated₄, children₄, dominated₅, children₅, dominated₆, rest₆, active₇, step}
-use Rattle.search.specs.Run.{held, Next, finish, overflow, go, Outcome, finished, full, unfinished, unless, ifFits, fitting, decide, next, follow, run}
+use Rattle.search.specs.Run.{held, Next, finish, overflow, go, Outcome, finished, full, unfinished, unless, goUnless, fitting, decide, next, follow, run}
 use Rattle.search.proofs.General.{Tree, Plan, Cut, taken, cap, over, kids, learnt, kids₃, others₃, kids₄, kids₅, others₆, move, ends, Verdict, stop, refuse, onward, Result, done, paused, overfull, stuck, stopIf, refuseIf, kept, verdictOn, verdict, obey, search}
 use Rattle.search.proofs.Laws.{BoundLaws, Manner, least, stack, queue, Strict, Adds}
 use Rattle.search.proofs.PlainSelection.{lateBy, rankBy, waits, select-is-pick}
@@ -111,7 +111,7 @@ module _ {N : Type 0} (P : Problem N) (C : Choices N) where
         rw (← finishes-is-ends, ← step-is-move, ← held-is-kept)
         (cases (finishes P C (s .best) b rest) (ltb records (length (held (C .rules) (step P C s b rest)))))
       where
-        cases : (f o : Bool) → stopIf f (refuseIf o (step P C s b rest)) ≡ verdictOf (unless f (ifFits o (step P C s b rest)))
+        cases : (f o : Bool) → stopIf f (refuseIf o (step P C s b rest)) ≡ verdictOf (unless f (goUnless o (step P C s b rest)))
         cases true o = refl
         cases false true = refl
         cases false false = refl

@@ -1,8 +1,9 @@
 -- The run: document 01, "One run" and "The pool". Assumes nothing.
-use mathlib.Core.Bool.{Bool, true, false}
+use mathlib.Core.Path.{_≡_}
+use mathlib.Core.Bool.{Bool, true, false, not}
 use mathlib.Core.List.{List, [], _++_}
-use Prim.Native.Nat.{ℕ, zero, suc, _+_}
-use lib.Dec.{ltb}
+use Prim.Native.Nat.{ℕ, zero, suc, _≤_, _<_}
+use lib.Dec.{T, ltb}
 use lib.ListN.{length}
 use Rattle.search.specs.Problem.{Problem, Choices, State}
 use Rattle.search.specs.Selection.{Choice, nothing, chosen, select, finishes}
@@ -34,14 +35,14 @@ unless true next = finish
 unless false next = next
 
 -- "If these outnumber the records after a step, the pool is full, and the state before that step stands."
-abbrev pub ifFits : {N : Type 0} → Bool → State N → Next N
-ifFits true s = overflow
-ifFits false s = go s
+abbrev pub goUnless : {N : Type 0} → Bool → State N → Next N
+goUnless true s = overflow
+goUnless false s = go s
 
 -- The parameters of a run: the problem, the choices, and how many records the pool has.
 module _ {N : Type 0} (P : Problem N) (C : Choices N) (records : ℕ) where
   unfoldable pub fitting : State N → Next N
-  fitting s = ifFits (ltb records (length (held (C .rules) s))) s
+  fitting s = goUnless (ltb records (length (held (C .rules) s))) s
 
   -- A state with no active node ends the run; it never comes.
   unfoldable pub decide : State N → Choice N → Next N
@@ -59,3 +60,25 @@ module _ {N : Type 0} (P : Problem N) (C : Choices N) (records : ℕ) where
   unfoldable pub run : ℕ → State N → Outcome N
   run zero s = unfinished s
   run (suc fuel) s = follow (run fuel) s (next s)
+
+  -- The states of a run, for statements about it. One step that fits: it leaves no more nodes to keep than there are records.
+  pub record Stepped (s s′ : State N) : Type 0 where
+    pub b : N
+    pub rest : List N
+    pub selects : select P C (s .active) ≡ chosen b rest
+    pub goes : T (not (finishes P C (s .best) b rest))
+    pub fits : length (held (C .rules) (step P C s b rest)) ≤ records
+    pub steps : s′ ≡ step P C s b rest
+
+  -- Some of them, from s to e.
+  pub data Steps (s : State N) : State N → Type 0 where
+    none : Steps s s
+    more : {s′ e : State N} → Steps s s′ → Stepped s′ e → Steps s e
+
+  -- The next step from s does not fit: it would leave more nodes to keep than there are records.
+  pub record Overflows (s : State N) : Type 0 where
+    pub b : N
+    pub rest : List N
+    pub selects : select P C (s .active) ≡ chosen b rest
+    pub goes : T (not (finishes P C (s .best) b rest))
+    pub outnumber : records < length (held (C .rules) (step P C s b rest))

@@ -1,4 +1,5 @@
 -- One step in its seven parts, in their sequence: document 01, "One run". b is the chosen node, rest the other active nodes.
+-- Siblings are not tested against each other.
 -- Assumes nothing.
 use mathlib.Core.Bool.{Bool, true, false, not, _&&_}
 use mathlib.Core.List.{List, [], _∷_, _++_}
@@ -48,7 +49,8 @@ module _ {N : Type 0} (P : Problem N) (C : Choices N) (s : State N) (b : N) (res
   unfoldable pub rest₃ : List N
   rest₃ = survivors over₃ rest
 
-  -- 4. Rule 2 (AS/DB), if on: children dominated by an active node are eliminated.
+  -- 4. Rule 2 (AS/DB), if on: children dominated by an active node are eliminated; the first dominating node found ends that child's
+  -- search (`any` stops there, and nothing else depends on it).
   unfoldable pub dominated₄ : N → Bool
   dominated₄ x = on 2 (C .rules) && any (λ w. P .dominates w x) rest₃
 

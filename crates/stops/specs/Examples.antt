@@ -41,6 +41,11 @@ dearer-does-not : dominates 3 T (2 ∷ 1 ∷ 3 ∷ []) (1 ∷ 2 ∷ 3 ∷ []) �
 unfolding T
 dearer-does-not = refl
 
+-- Equal paths with one set and last stop dominate each other.
+equals-dominate : dominates 3 (record { leg = λ r s. 1; home = λ s. 1 }) (1 ∷ 2 ∷ 3 ∷ []) (2 ∷ 1 ∷ 3 ∷ []) ≡ true
+unfolding T
+equals-dominate = refl
+
 -- 12 and 21 have one set, and 12 has the cheaper path, but their last stops differ.
 last-stops-differ : dominates 3 T (1 ∷ 2 ∷ []) (2 ∷ 1 ∷ []) ≡ false
 unfolding T

@@ -1,4 +1,4 @@
--- The stops of one table as a problem to search. Assumes nothing.
+-- The stops of one table as a problem to search: document 01, "Nodes" and "One run". Assumes nothing.
 use mathlib.Core.List.{[]}
 use Prim.Native.Nat.{ℕ}
 use Rattle.search.specs.Problem.{Problem, Choices}

@@ -46,7 +46,7 @@ pub struct Upper {
 impl Upper {
     /// `cost` is below U.
     fn undercut_by(&self, cost: u32) -> bool {
-        self.cost.is_none_or(|u| cost < u)
+        self.cost.map_or(true, |u| cost < u)
     }
 
     /// `bound` is above U.
