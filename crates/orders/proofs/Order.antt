@@ -15,10 +15,10 @@ use Rattle.lists.proofs.Numbers.{keep-parts}
 use Rattle.lists.proofs.Distinct.{length-without}
 use Rattle.search.specs.Problem.{Problem}
 use Rattle.search.proofs.Laws.{Leads}
-use Rattle.orders.specs.Orders.{Node, stops, flown, left, complete, children, Order, count, isOrder}
+use Rattle.orders.specs.Orders.{Node, stops, flown, left, complete, children, Order, count, isOrder, Partial}
 use Rattle.orders.proofs.Sets.{in-stops, stops-in, in-flown, flown-in, in-left, left-in}
 use Rattle.orders.proofs.Tree.{complete-size, size-complete, complete-left, left-complete}
-use Rattle.orders.proofs.Partial.{Partial, partial-root, partial-size, partial-leads, leads-partial}
+use Rattle.orders.proofs.Partial.{partial-root, partial-size, partial-leads, leads-partial}
 
 -- an order is a complete partial order
 pub order-partial : (n : ℕ) (x : Node) → Order n x → Partial n x

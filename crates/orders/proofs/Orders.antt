@@ -10,9 +10,9 @@ use Rattle.lists.specs.Lists.{In, Distinct, none, more}
 use Rattle.lists.proofs.Members.{in-head, in-each, each-in}
 use Rattle.lists.proofs.Numbers.{length-each, sum-same, sum-const}
 use Rattle.lists.proofs.Distinct.{distinct-map, distinct-each}
-use Rattle.orders.specs.Orders.{Node, left, extend, children, Order, level, orders, factorial}
+use Rattle.orders.specs.Orders.{Node, left, extend, children, Order, level, orders, factorial, Partial}
 use Rattle.orders.proofs.Sets.{size-left, distinct-left, child-extends, extend-child}
-use Rattle.orders.proofs.Partial.{Partial, partial-root, partial-child, partial-made, partial-size}
+use Rattle.orders.proofs.Partial.{partial-root, partial-child, partial-made, partial-size}
 use Rattle.orders.proofs.Order.{order-partial, order-length, full-order}
 
 -- what is in a level

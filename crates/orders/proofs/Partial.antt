@@ -13,15 +13,8 @@ use Rattle.lists.proofs.Empty.{no-members}
 use Rattle.lists.proofs.Distinct.{distinct-append, append-apart}
 use Rattle.search.specs.Problem.{Problem}
 use Rattle.search.proofs.Laws.{Leads, stay, down}
-use Rattle.orders.specs.Orders.{Node, flown, set, left, size, extend, children}
+use Rattle.orders.specs.Orders.{Partial, Node, flown, set, left, size, extend, children}
 use Rattle.orders.proofs.Sets.{in-flown, flown-in, in-set, in-left, left-in, size-extend, child-extends, extend-child}
-
--- an order as far as it is flown
-pub record Partial (n : ℕ) (x : Node) : Type 0 where
-  -- no stop stands twice
-  pub once : Distinct x
-  -- nothing but 1 to n
-  pub only : (s : ℕ) → In s x → (1 ≤ s) × (s ≤ n)
 
 pub partial-root : (n : ℕ) → Partial n []
 partial-root n = record { once = none; only = λ s m. absurd (List·Memᴰ·not-nil m) }

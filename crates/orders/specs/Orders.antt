@@ -41,6 +41,11 @@ extend x s = x ++ (s ∷ [])
 unfoldable pub children : ℕ → Node → List Node
 children n x = map (extend x) (left n x)
 
+-- "A node is a partial order ..: distinct stops flown first."
+pub record Partial (n : ℕ) (x : Node) : Type 0 where
+  pub once : Distinct x
+  pub only : (s : ℕ) → In s x → (1 ≤ s) × (s ≤ n)
+
 -- "An order is a permutation of 1 to n."
 pub record Order (n : ℕ) (x : Node) : Type 0 where
   -- no stop stands twice

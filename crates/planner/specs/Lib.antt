@@ -3,3 +3,4 @@ pub mod Checks
 pub mod Answer
 pub mod Cases
 pub mod OwnCases
+pub mod OnRecords

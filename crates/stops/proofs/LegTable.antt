@@ -19,7 +19,7 @@ use Rattle.stops.specs.Record.{Within}
 use Rattle.stops.specs.Examples
 
 -- element i of the list of f of a, a + 1, ..
-getD-from : {A : Type 0} (f : ℕ → A) (a k i j : ℕ) (d : A) → i < k → a + i ≡ j → getD (map f (from a k)) i d ≡ f j
+pub getD-from : {A : Type 0} (f : ℕ → A) (a k i j : ℕ) (d : A) → i < k → a + i ≡ j → getD (map f (from a k)) i d ≡ f j
 getD-from f a zero i j d h e = absurd (omega arith)
 getD-from f a (suc k) zero j d h e = ap f (omega arith)
 getD-from f a (suc k) (suc i) j d h e = getD-from f (suc a) k i j d (omega arith) (omega arith)

@@ -6,3 +6,4 @@ pub mod Bounds
 pub mod Alike
 pub mod LegTable
 pub mod Instance
+pub mod RowLaws

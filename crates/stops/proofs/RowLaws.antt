@@ -1,0 +1,160 @@
+-- Laws behind the functions of the table.
+--   Rest, any-finds, any-skips, any-ends    a loop that looks for an element that passes a test
+--   Clear, diagonal-finds, diagonal-skips, diagonal-ends    the same of the diagonal of a table
+--   Inside, place-inside    a place of the table is within it, and the table is small
+--   part-from    the part of a list from a place on, as it is lent
+--   filled, filled-none, filled-more    a loop that fills an array of seventeen from the front
+--   filled-row, filled-rows    a row and the rows, once the places up to n are filled
+-- Assumes nothing.
+use mathlib.Core.Path.{_≡_, refl, ap, sym, _∙_}
+use mathlib.Core.Bool.{Bool, true, false, not, _&&_, cond}
+use mathlib.Core.List.{List, [], _∷_, map}
+use mathlib.Core.Logic.{_⊎_, inl, inr, _≢_}
+use Prim.Native.Nat.{ℕ, zero, suc, _+_, _*_, _-_, _≤_, _<_}
+use native.Mathlib.Nat.{mul-le-mul, suc-mul}
+use native.Mathlib.Numerals.{add-one}
+use native.Mathlib.Omega.{arith}
+use lib.Dec.{leb, ltb, eqb, leb·suc-suc}
+use lib.ListN.{length, getD, set, take, drop, replicate, length-set, length-drop, drop-of-length-le}
+use lib.Seq.{take-all, drop-cons, getD-set-same, getD-set-other, getD-drop, ext-getD}
+use borrow.Author.Tests.{lt-ltb, eq-eqb, ne-eqb}
+use Rattle.lists.specs.Lists.{any, from}
+use Rattle.lists.proofs.Tests.{compared, same-tests, tests}
+use Rattle.lists.proofs.Members.{length-from}
+use Rattle.stops.specs.Legs.{entry, rows}
+use Rattle.stops.specs.Record.{rowOf}
+use Rattle.stops.proofs.LegTable.{getD-from}
+
+-- A loop looks for an element that passes a test. Where none of the first k passes, the answer lies with the rest of the list.
+module _ {A : Type 0} (test : A → Bool) (xs : List A) where
+  abbrev pub Rest : ℕ → Type 0
+  Rest k = any test xs ≡ any test (drop k xs)
+
+  pub any-finds : (k : ℕ) (d : A) → Rest k → k < length xs → test (getD xs k d) ≡ true → false ≡ not (any test xs)
+  any-finds k d r h e = rw (r, drop-cons xs k d, e)
+
+  pub any-skips : (k : ℕ) (d : A) → Rest k → k < length xs → test (getD xs k d) ≡ false → Rest (k + 1)
+  any-skips k d r h e = r ∙ rw (drop-cons xs k d, e, add-one k)
+
+  pub any-ends : (k : ℕ) → Rest k → length xs ≤ k → true ≡ not (any test xs)
+  any-ends k r h = rw (r, drop-of-length-le xs h)
+
+getD-numbers : (a k i j : ℕ) → i < k → a + i ≡ j → getD (from a k) i 0 ≡ j
+getD-numbers a zero i j h e = absurd (omega arith)
+getD-numbers a (suc k) zero j h e = omega arith
+getD-numbers a (suc k) (suc i) j h e = getD-numbers (suc a) k i j (omega arith) (omega arith)
+
+entry-at : (n : ℕ) (table : List ℕ) (i j : ℕ) → getD table (i * (n + 1) + j) 0 ≡ entry n table i j
+unfolding entry
+entry-at n table i j = rw (add-one n)
+
+-- The diagonal: the list is the numbers from 0 to n, and the test of i is that entry i, i is not 0.
+module _ (n : ℕ) (table : List ℕ) where
+  abbrev marked : ℕ → Bool
+  marked i = not (eqb (entry n table i i) 0)
+
+  abbrev pub Clear : ℕ → Type 0
+  Clear = Rest marked (from 0 (suc n))
+
+  marked-at : (i : ℕ) → i ≤ n → marked (getD (from 0 (suc n)) i 0) ≡ not (eqb (getD table (i * (n + 1) + i) 0) 0)
+  marked-at i h =
+      ap marked (getD-numbers 0 (suc n) i i (omega arith) (omega arith)) ∙ ap (λ (v : ℕ). not (eqb v 0)) (sym (entry-at n table i i))
+
+  pub diagonal-finds :
+      (i : ℕ) → Clear i → i ≤ n → getD table (i * (n + 1) + i) 0 ≢ 0 → false ≡ not (any marked (from 0 (suc n)))
+  diagonal-finds i r h e =
+      any-finds marked (from 0 (suc n)) i 0 r (omega (arith, length-from 0 (suc n)))
+      (marked-at i h ∙ ap not (ne-eqb (getD table (i * (n + 1) + i) 0) 0 e))
+
+  pub diagonal-skips : (i : ℕ) → Clear i → i ≤ n → getD table (i * (n + 1) + i) 0 ≡ 0 → Clear (i + 1)
+  diagonal-skips i r h e =
+      any-skips marked (from 0 (suc n)) i 0 r (omega (arith, length-from 0 (suc n)))
+      (marked-at i h ∙ ap not (eq-eqb (getD table (i * (n + 1) + i) 0) 0 e))
+
+  pub diagonal-ends : (i : ℕ) → Clear i → n < i → true ≡ not (any marked (from 0 (suc n)))
+  diagonal-ends i r h = any-ends marked (from 0 (suc n)) i r (omega (arith, length-from 0 (suc n)))
+
+  -- place i, j stands inside the table, which has at most 17 times 17 numbers
+  abbrev pub Inside : ℕ → ℕ → Type 0
+  Inside i j = (i * (n + 1) + j < length table) × (length table ≤ 289)
+
+  pub place-inside : (i j : ℕ) → (n ≤ 16) × (length table ≡ suc n * suc n) → i ≤ n → j ≤ n → Inside i j
+  place-inside i j pre h k =
+      let few : suc n ≤ 17 = omega arith in
+      let rows-above : i * (n + 1) ≤ n * suc n = mul-le-mul h (omega arith) in
+      let small : suc n * suc n ≤ 289 = mul-le-mul few few in
+      (omega (arith, suc-mul n (suc n)), omega arith)
+
+pub part-from : (k : ℕ) (xs : List ℕ) → take (length xs - k) (drop k xs) ≡ drop k xs
+part-from k xs = take-all (length xs - k) (drop k xs) (omega (arith, length-drop k xs))
+
+map-same : {A B : Type 0} (f g : A → B) → ((a : A) → f a ≡ g a) → (xs : List A) → map f xs ≡ map g xs
+map-same f g h [] = refl
+map-same f g h (x ∷ xs) = rw (h x, map-same f g h xs)
+
+module _ {A : Type 0} where
+  -- seventeen elements: f of the first k places, d at the others
+  unfoldable pub filled : ℕ → (ℕ → A) → A → List A
+  filled k f d = map (λ i. cond (ltb i k) (f i) d) (from 0 17)
+
+  length-filled : (k : ℕ) (f : ℕ → A) (d : A) → length (filled k f d) ≡ 17
+  unfolding filled
+  length-filled k f d = refl
+
+  getD-filled : (k : ℕ) (f : ℕ → A) (d : A) (i : ℕ) → i < 17 → getD (filled k f d) i d ≡ cond (ltb i k) (f i) d
+  unfolding filled
+  getD-filled k f d i h = getD-from (λ j. cond (ltb j k) (f j) d) 0 17 i i d h (omega arith)
+
+  pub filled-none : (f : ℕ → A) (d : A) → replicate 17 d ≡ filled 0 f d
+  unfolding filled
+  filled-none f d = refl
+
+  pub filled-more : (k : ℕ) (f : ℕ → A) (d : A) → k < 17 → set (filled k f d) k (f k) ≡ filled (k + 1) f d
+  filled-more k f d h = ext-getD d stored (filled (k + 1) f d) (length-stored ∙ sym (length-filled (k + 1) f d)) at
+    where
+      stored : List A
+      stored = set (filled k f d) k (f k)
+
+      length-stored : length stored ≡ 17
+      length-stored = length-set (filled k f d) k (f k) ∙ length-filled k f d
+
+      elsewhere : (i : ℕ) → i ≢ k → ltb i k ≡ ltb i (k + 1)
+      elsewhere i e = same-tests (ltb i k) (ltb i (k + 1)) (λ t. omega (arith, tests)) (λ t. omega (arith, tests))
+
+      go : (i : ℕ) → i < 17 → (i ≡ k) ⊎ (i ≢ k) → getD stored i d ≡ getD (filled (k + 1) f d) i d
+      go i l (inl e) =
+          let in-range : k < length (filled k f d) = omega (arith, length-filled k f d) in
+          rw (e, getD-set-same (filled k f d) k (f k) d in-range, getD-filled (k + 1) f d k h, lt-ltb k (k + 1) (omega arith))
+      go i l (inr e) =
+          getD-set-other (filled k f d) k i (f k) d e
+          ∙ getD-filled k f d i l
+          ∙ ap (λ (b : Bool). cond b (f i) d) (elsewhere i e)
+          ∙ sym (getD-filled (k + 1) f d i l)
+
+      at : (i : ℕ) → i < length stored → getD stored i d ≡ getD (filled (k + 1) f d) i d
+      at i l = go i (omega (arith, length-stored)) (compared i k)
+
+  -- a loop over the places up to n leaves off at n + 1
+  filled-all : (n k : ℕ) (f : ℕ → A) (d : A) → k ≤ suc n → n < k → filled k f d ≡ map (λ i. cond (leb i n) (f i) d) (from 0 17)
+  unfolding filled
+  filled-all n k f d h l =
+      ap (λ (m : ℕ). filled m f d) (let e : k ≡ suc n = omega arith in e)
+      ∙ map-same _ _ (λ i. ap (λ (b : Bool). cond b (f i) d) (leb·suc-suc i n)) (from 0 17)
+
+module _ (n k : ℕ) (h : k ≤ suc n) (l : n < k) where
+  pub filled-row : (part : List ℕ) → filled k (λ j. getD part j 0) 0 ≡ rowOf n part
+  unfolding rowOf
+  filled-row part = filled-all n k (λ j. getD part j 0) 0 h l
+
+  pub filled-rows : (table : List ℕ) → filled k (λ i. rowOf n (drop (i * (n + 1)) table)) (replicate 17 0) ≡ rows n table
+  unfolding rows rowOf
+  filled-rows table =
+      filled-all n k (λ i. rowOf n (drop (i * (n + 1)) table)) (replicate 17 0) h l ∙ map-same _ _ (λ i. at i (leb i n)) (from 0 17)
+    where
+      at :
+          (i : ℕ) (b : Bool)
+          → cond b (rowOf n (drop (i * (n + 1)) table)) (replicate 17 0)
+          ≡ map (λ j. cond (b && leb j n) (entry n table i j) 0) (from 0 17)
+      at i true =
+          map-same _ _ (λ j. ap (λ (v : ℕ). cond (leb j n) v 0) (getD-drop (i * (n + 1)) table j 0 ∙ entry-at n table i j)) (from 0 17)
+      at i false = refl
