@@ -1,9 +1,11 @@
--- Laws of `keep` and `any` as equations: equal tests keep the same elements, two tests one after the other are both at once,
--- and `any` of joined lists. Assumes nothing.
+-- Laws of `keep` and `any` as equations: equal tests keep the same elements, a test that all pass keeps all, two tests one after the
+-- other are both at once, and `any` of joined lists. Assumes nothing.
 use mathlib.Core.Path.{_≡_, refl, ap}
 use mathlib.Core.Bool.{Bool, true, false, _&&_, _||_}
 use mathlib.Core.List.{List, [], _∷_, _++_, List·Memᴰ·tail}
+use lib.Dec.{T}
 use Rattle.lists.specs.Lists.{In, put, keep, any}
+use Rattle.lists.proofs.Tests.{to-true}
 use Rattle.lists.proofs.Members.{in-head}
 
 module _ {A : Type 0} where
@@ -14,6 +16,11 @@ module _ {A : Type 0} where
   keep-same f g [] h = refl
   keep-same f g (x ∷ xs) h =
       put-same (f x) (g x) x (keep f xs) (keep g xs) (h x in-head) (keep-same f g xs (λ y m. h y (List·Memᴰ·tail m)))
+
+  pub keep-all : (test : A → Bool) (xs : List A) → ((x : A) → In x xs → T (test x)) → keep test xs ≡ xs
+  keep-all test [] h = refl
+  keep-all test (x ∷ xs) h =
+      put-same (test x) true x (keep test xs) xs (to-true (test x) (h x in-head)) (keep-all test xs (λ y m. h y (List·Memᴰ·tail m)))
 
   pub keep-keep : (f g : A → Bool) (xs : List A) → keep f (keep g xs) ≡ keep (λ x. g x && f x) xs
   keep-keep f g [] = refl

@@ -4,3 +4,4 @@ pub mod Numbers
 pub mod Empty
 pub mod Keep
 pub mod Distinct
+pub mod Map

@@ -20,7 +20,7 @@ use Rattle.search.proofs.Plain.{tree, planOf, cutOf, unfinished-stuck}
 
 module _ {N : Type 0} (t : Tree N) (p : Plan N) (c : Cut N) (weight : N → ℕ) where
   -- the nodes that a step leaves are some of the others and some of the children
-  move-sum :
+  pub move-sum :
       (s : State N) (b : N) (rest : List N)
       → sum weight (move t p c s b rest .active) ≤ sum weight rest + sum weight (t .problem .children b)
   unfolding move others₆ kids₅ kids₄ others₃ kids₃ kids

@@ -16,7 +16,7 @@ use Rattle.search.proofs.Laws.{Leads, KnownIn, known}
 
 module _ {N : Type 0} (P : Problem N) where
   -- what is known after the child c
-  abbrev taught : Option N → N → Option N
+  abbrev pub taught : Option N → N → Option N
   taught best c = replace (P .complete c && ltb (P .cost c) (upper P best)) c best
 
   taught-le : (best : Option N) (c : N) → upper P (taught best c) ≤ upper P best

@@ -18,3 +18,8 @@ pub mod Below
 pub mod Runs
 pub mod BelowEnd
 pub mod Compare
+pub mod Mapped
+pub mod MappedStep
+pub mod MappedRun
+pub mod Bounded
+pub mod Within

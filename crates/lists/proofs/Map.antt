@@ -1,0 +1,27 @@
+-- Laws of mapped lists: where a test q says of f x what the test p says of x, `keep` and `any` of the mapped list are those of the
+-- list, mapped; likewise `least` of numbers. Assumes nothing.
+use mathlib.Core.Path.{_≡_, refl}
+use mathlib.Core.Bool.{Bool, true, false}
+use mathlib.Core.List.{List, [], _∷_, map, List·Memᴰ·tail}
+use Prim.Native.Nat.{ℕ}
+use Rattle.lists.specs.Lists.{In, put, keep, any, least}
+use Rattle.lists.proofs.Members.{in-head}
+
+module _ {A B : Type 0} (f : A → B) where
+  pub keep-map :
+      (p : A → Bool) (q : B → Bool) (xs : List A) → ((x : A) → In x xs → q (f x) ≡ p x) → keep q (map f xs) ≡ map f (keep p xs)
+  keep-map p q [] same = refl
+  keep-map p q (x ∷ xs) same = rw (same x in-head, keep-map p q xs (λ y m. same y (List·Memᴰ·tail m))) (go (p x))
+    where
+      go : (b : Bool) → put b (f x) (map f (keep p xs)) ≡ map f (put b x (keep p xs))
+      go true = refl
+      go false = refl
+
+  pub any-map : (p : A → Bool) (q : B → Bool) (xs : List A) → ((x : A) → In x xs → q (f x) ≡ p x) → any q (map f xs) ≡ any p xs
+  any-map p q [] same = refl
+  any-map p q (x ∷ xs) same = rw (same x in-head, any-map p q xs (λ y m. same y (List·Memᴰ·tail m)))
+
+  pub least-map : (g : A → ℕ) (h : B → ℕ) (xs : List A) → ((x : A) → In x xs → h (f x) ≡ g x) → least h (map f xs) ≡ least g xs
+  least-map g h [] same = refl
+  least-map g h (x ∷ []) same = same x in-head
+  least-map g h (x ∷ y ∷ ys) same = rw (same x in-head, least-map g h (y ∷ ys) (λ z m. same z (List·Memᴰ·tail m)))

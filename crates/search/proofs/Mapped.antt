@@ -1,0 +1,250 @@
+-- A problem and its image under a map f of nodes, and that choosing and learning commute with the map.
+--   Maps f Valid P Q C D    of valid nodes, Q and D say of f x what P and C say of x; the root is valid, and so is a valid node's child
+--   mapChoice, mapState, mapNext, mapOutcome    a choice, a state, what comes next and an outcome, with each node mapped
+--   ValidState              the nodes of a state are valid, and its best node is complete
+--   select-maps, finishes-maps, learn-maps    the selection, the finish test and part 2 of a step commute with the map
+-- That a step does so is in `MappedStep`, that runs do in `MappedRun`. Assumes nothing.
+use mathlib.Core.Path.{_≡_, refl, ap, _∙_}
+use mathlib.Core.Bool.{Bool, true, false, not, _&&_, cond}
+use mathlib.Core.List.{List, [], _∷_, map, List·Memᴰ·tail, List·Memᴰ·cases-cons}
+use mathlib.Core.Logic.{_⊎_, inl, inr}
+use mathlib.Core.Option.{Option, none, some, Option·map}
+use Prim.Native.Nat.{ℕ, zero, suc}
+use lib.Dec.{T, ltb, eqb}
+use Rattle.lists.specs.Lists.{In, least}
+use Rattle.lists.proofs.Members.{in-head}
+use Rattle.lists.proofs.Map.{least-map}
+use Rattle.search.specs.Problem.{Problem, Choices, State, upper}
+use Rattle.search.specs.Selection.{Choice, nothing, chosen, behind, orElse, earliest, latest, selectBy, select, empty, finishes}
+use Rattle.search.specs.Step.{replace, learn}
+use Rattle.search.specs.Run.{Next, finish, overflow, go, Outcome, finished, full, unfinished}
+use Rattle.search.proofs.Learn.{taught}
+
+pub record Maps
+    {N M : Type 0} (f : N → M) (Valid : N → Type 0) (P : Problem N) (Q : Problem M) (C : Choices N) (D : Choices M)
+    : Type 0 where
+  pub root : Q .root ≡ f (P .root)
+  pub root-valid : Valid (P .root)
+  pub children : (x : N) → Valid x → Q .children (f x) ≡ map f (P .children x)
+  pub children-valid : (x c : N) → Valid x → In c (P .children x) → Valid c
+  pub complete : (x : N) → Valid x → Q .complete (f x) ≡ P .complete x
+  pub cost : (x : N) → Valid x → T (P .complete x) → Q .cost (f x) ≡ P .cost x
+  pub dominates : (w x : N) → Valid w → Valid x → Q .dominates (f w) (f x) ≡ P .dominates w x
+  pub above : Q .above ≡ P .above
+  pub selection : D .selection ≡ C .selection
+  pub rules : D .rules ≡ C .rules
+  pub bound : (x : N) → Valid x → D .bound (f x) ≡ C .bound x
+
+module _ {N M : Type 0} (f : N → M) where
+  abbrev pub mapChoice : Choice N → Choice M
+  mapChoice nothing = nothing
+  mapChoice (chosen b rest) = chosen (f b) (map f rest)
+
+  abbrev pub mapState : State N → State M
+  mapState s = record {
+    active = map f (s .active);
+    branched = map f (s .branched);
+    best = Option·map f (s .best);
+    generated = s .generated;
+    eliminated = s .eliminated;
+    most = s .most;
+  }
+
+  abbrev pub mapNext : Next N → Next M
+  mapNext finish = finish
+  mapNext overflow = overflow
+  mapNext (go s) = go (mapState s)
+
+  abbrev pub mapOutcome : Outcome N → Outcome M
+  mapOutcome (finished s) = finished (mapState s)
+  mapOutcome (full s) = full (mapState s)
+  mapOutcome (unfinished s) = unfinished (mapState s)
+
+-- all of xs are valid
+abbrev pub AllValid : {N : Type 0} → (N → Type 0) → List N → Type 0
+AllValid {N} Valid xs = (x : N) → In x xs → Valid x
+
+abbrev pub ValidChoice : {N : Type 0} → (N → Type 0) → Choice N → Type 0
+ValidChoice Valid nothing = Unit {0}
+ValidChoice Valid (chosen b rest) = Valid b × AllValid Valid rest
+
+-- an order that is known is complete
+abbrev pub ValidBest : {N : Type 0} → (N → Type 0) → Problem N → Option N → Type 0
+ValidBest Valid P none = Unit {0}
+ValidBest Valid P (some x) = Valid x × T (P .complete x)
+
+pub record ValidState {N : Type 0} (Valid : N → Type 0) (P : Problem N) (s : State N) : Type 0 where
+  pub active : AllValid Valid (s .active)
+  pub branched : AllValid Valid (s .branched)
+  pub best : ValidBest Valid P (s .best)
+
+-- What is chosen of valid nodes, and what is learnt of them, is valid.
+module _ {N : Type 0} (Valid : N → Type 0) where
+  valid-tail : (x : N) (xs : List N) → AllValid Valid (x ∷ xs) → AllValid Valid xs
+  valid-tail x xs valid y m = valid y (List·Memᴰ·tail m)
+
+  valid-cons : (x : N) (xs : List N) → Valid x → AllValid Valid xs → AllValid Valid (x ∷ xs)
+  valid-cons x xs v valid y m = cases (List·Memᴰ·cases-cons m)
+    where
+      cases : (y ≡ x) ⊎ In y xs → Valid y
+      cases (inl e) = rw e v
+      cases (inr k) = valid y k
+
+  behind-valid : (x : N) → Valid x → (c : Choice N) → ValidChoice Valid c → ValidChoice Valid (behind x c)
+  behind-valid x v nothing h = tt
+  behind-valid x v (chosen b rest) h = (h .0, valid-cons x rest v (h .1))
+
+  orElse-valid : (c d : Choice N) → ValidChoice Valid c → ValidChoice Valid d → ValidChoice Valid (orElse c d)
+  orElse-valid nothing d h k = k
+  orElse-valid (chosen b rest) d h k = h
+
+  cond-valid : (b : Bool) (c d : Choice N) → ValidChoice Valid c → ValidChoice Valid d → ValidChoice Valid (cond b c d)
+  cond-valid true c d h k = h
+  cond-valid false c d h k = k
+
+  module _ (test : N → Bool) where
+    earliest-valid : (xs : List N) → AllValid Valid xs → ValidChoice Valid (earliest test xs)
+    earliest-valid [] valid = tt
+    earliest-valid (x ∷ xs) valid =
+        cond-valid (test x) (chosen x xs) (behind x (earliest test xs)) (valid x in-head, valid-tail x xs valid)
+        (behind-valid x (valid x in-head) (earliest test xs) (earliest-valid xs (valid-tail x xs valid)))
+
+    latest-valid : (xs : List N) → AllValid Valid xs → ValidChoice Valid (latest test xs)
+    latest-valid [] valid = tt
+    latest-valid (x ∷ xs) valid =
+        orElse-valid (behind x (latest test xs)) (cond (test x) (chosen x xs) nothing)
+        (behind-valid x (valid x in-head) (latest test xs) (latest-valid xs (valid-tail x xs valid)))
+        (cond-valid (test x) (chosen x xs) nothing (valid x in-head, valid-tail x xs valid) tt)
+
+  module _ (P : Problem N) (bound : N → ℕ) where
+    selectBy-valid : (k : ℕ) (xs : List N) → AllValid Valid xs → ValidChoice Valid (selectBy P bound k xs)
+    unfolding selectBy
+    selectBy-valid zero xs valid = earliest-valid _ xs valid
+    selectBy-valid (suc zero) xs valid = latest-valid _ xs valid
+    selectBy-valid (suc (suc zero)) xs valid = earliest-valid _ xs valid
+    selectBy-valid (suc (suc (suc zero))) xs valid =
+        orElse-valid (latest (λ x. not (P .complete x)) xs) (latest (λ x. true) xs) (latest-valid _ xs valid) (latest-valid _ xs valid)
+    selectBy-valid (suc (suc (suc (suc k)))) xs valid = tt
+
+  pub select-valid : (P : Problem N) (C : Choices N) (xs : List N) → AllValid Valid xs → ValidChoice Valid (select P C xs)
+  unfolding select
+  select-valid P C xs valid = selectBy-valid P (C .bound) (C .selection) xs valid
+
+  module _ (P : Problem N) where
+    taught-valid : (best : Option N) (c : N) → ValidBest Valid P best → Valid c → ValidBest Valid P (taught P best c)
+    taught-valid best c valid v = cases (P .complete c) (ltb (P .cost c) (upper P best)) (λ h. h)
+      where
+        cases : (whole less : Bool) → (T whole → T (P .complete c)) → ValidBest Valid P (replace (whole && less) c best)
+        cases true true h = (v, h tt)
+        cases true false h = valid
+        cases false less h = valid
+
+    pub learn-valid : (best : Option N) (cs : List N) → ValidBest Valid P best → AllValid Valid cs → ValidBest Valid P (learn P best cs)
+    learn-valid best [] valid all = valid
+    learn-valid best (c ∷ cs) valid all =
+        learn-valid (taught P best c) cs (taught-valid best c valid (all c in-head)) (valid-tail c cs all)
+
+-- The selections of document 01 commute with the map, wherever their tests do.
+module _ {N M : Type 0} (f : N → M) where
+  behind-map : (x : N) (c : Choice N) → behind (f x) (mapChoice f c) ≡ mapChoice f (behind x c)
+  behind-map x nothing = refl
+  behind-map x (chosen b rest) = refl
+
+  orElse-map : (c d : Choice N) → orElse (mapChoice f c) (mapChoice f d) ≡ mapChoice f (orElse c d)
+  orElse-map nothing d = refl
+  orElse-map (chosen b rest) d = refl
+
+  cond-map : (b : Bool) (c d : Choice N) → cond b (mapChoice f c) (mapChoice f d) ≡ mapChoice f (cond b c d)
+  cond-map true c d = refl
+  cond-map false c d = refl
+
+  module _ (p : N → Bool) (q : M → Bool) where
+    earliest-map : (xs : List N) → ((x : N) → In x xs → q (f x) ≡ p x) → earliest q (map f xs) ≡ mapChoice f (earliest p xs)
+    earliest-map [] same = refl
+    earliest-map (x ∷ xs) same =
+        rw (same x in-head, earliest-map xs (λ y m. same y (List·Memᴰ·tail m)), behind-map x (earliest p xs))
+        (cond-map (p x) (chosen x xs) (behind x (earliest p xs)))
+
+    latest-map : (xs : List N) → ((x : N) → In x xs → q (f x) ≡ p x) → latest q (map f xs) ≡ mapChoice f (latest p xs)
+    latest-map [] same = refl
+    latest-map (x ∷ xs) same =
+        rw (
+          same x in-head,
+          latest-map xs (λ y m. same y (List·Memᴰ·tail m)),
+          behind-map x (latest p xs),
+          cond-map (p x) (chosen x xs) nothing,
+        )
+        (orElse-map (behind x (latest p xs)) (cond (p x) (chosen x xs) nothing))
+
+  empty-map : (xs : List N) → empty (map f xs) ≡ empty xs
+  empty-map [] = refl
+  empty-map (x ∷ xs) = refl
+
+module _
+    {N M : Type 0} {f : N → M} {Valid : N → Type 0} {P : Problem N} {Q : Problem M} {C : Choices N} {D : Choices M}
+    (maps : Maps f Valid P Q C D)
+  where
+    least-maps :
+        (xs : List N) → AllValid Valid xs → (x : N) → In x xs
+        → eqb (D .bound (f x)) (least (D .bound) (map f xs)) ≡ eqb (C .bound x) (least (C .bound) xs)
+    least-maps xs valid x m =
+        rw (maps .bound x (valid x m), least-map f (C .bound) (D .bound) xs (λ y k. maps .bound y (valid y k)))
+
+    selectBy-maps :
+        (k : ℕ) (xs : List N) → AllValid Valid xs → selectBy Q (D .bound) k (map f xs) ≡ mapChoice f (selectBy P (C .bound) k xs)
+    unfolding selectBy
+    selectBy-maps zero xs valid = earliest-map f _ _ xs (least-maps xs valid)
+    selectBy-maps (suc zero) xs valid = latest-map f _ _ xs (least-maps xs valid)
+    selectBy-maps (suc (suc zero)) xs valid = earliest-map f _ _ xs (λ x m. refl)
+    selectBy-maps (suc (suc (suc zero))) xs valid =
+        rw (
+          latest-map f (λ x. not (P .complete x)) (λ x. not (Q .complete x)) xs (λ x m. ap not (maps .complete x (valid x m))),
+          latest-map f (λ x. true) (λ x. true) xs (λ x m. refl),
+        )
+        (orElse-map f (latest (λ x. not (P .complete x)) xs) (latest (λ x. true) xs))
+    selectBy-maps (suc (suc (suc (suc k)))) xs valid = refl
+
+    pub select-maps : (xs : List N) → AllValid Valid xs → select Q D (map f xs) ≡ mapChoice f (select P C xs)
+    unfolding select
+    select-maps xs valid = rw (maps .selection) (selectBy-maps (C .selection) xs valid)
+
+    pub upper-maps : (best : Option N) → ValidBest Valid P best → upper Q (Option·map f best) ≡ upper P best
+    upper-maps none valid = maps .above
+    upper-maps (some x) valid = maps .cost x (valid .0) (valid .1)
+
+    pub finishes-maps :
+        (best : Option N) (b : N) (rest : List N) → ValidBest Valid P best → Valid b
+        → finishes Q D (Option·map f best) (f b) (map f rest) ≡ finishes P C best b rest
+    unfolding finishes
+    finishes-maps best b rest valid v =
+        rw (upper-maps best valid, maps .bound b v, maps .selection, empty-map f rest, maps .complete b v)
+
+    -- a child's cost is looked at only if the child is complete
+    cheaper-maps :
+        (best : Option N) (c : N) → ValidBest Valid P best → Valid c
+        → (Q .complete (f c) && ltb (Q .cost (f c)) (upper Q (Option·map f best))) ≡ (P .complete c && ltb (P .cost c) (upper P best))
+    cheaper-maps best c valid v = rw (maps .complete c v, upper-maps best valid) (cases (P .complete c) (maps .cost c v))
+      where
+        cases :
+            (b : Bool) → (T b → Q .cost (f c) ≡ P .cost c)
+            → (b && ltb (Q .cost (f c)) (upper P best)) ≡ (b && ltb (P .cost c) (upper P best))
+        cases true same = rw (same tt)
+        cases false same = refl
+
+    taught-maps :
+        (best : Option N) (c : N) → ValidBest Valid P best → Valid c
+        → taught Q (Option·map f best) (f c) ≡ Option·map f (taught P best c)
+    taught-maps best c valid v =
+        rw (cheaper-maps best c valid v) (cases (P .complete c && ltb (P .cost c) (upper P best)))
+      where
+        cases : (b : Bool) → replace b (f c) (Option·map f best) ≡ Option·map f (replace b c best)
+        cases true = refl
+        cases false = refl
+
+    pub learn-maps :
+        (best : Option N) (cs : List N) → ValidBest Valid P best → AllValid Valid cs
+        → learn Q (Option·map f best) (map f cs) ≡ Option·map f (learn P best cs)
+    learn-maps best [] valid all = refl
+    learn-maps best (c ∷ cs) valid all =
+        ap (λ (o : Option M). learn Q o (map f cs)) (taught-maps best c valid (all c in-head))
+        ∙ learn-maps (taught P best c) cs (taught-valid Valid P best c valid (all c in-head)) (valid-tail Valid c cs all)
