@@ -50,7 +50,7 @@ module _ {A B : Type 0} where
       go b i j = let (a, m, h) = in-each k xs b j in new (subst (λ (c : A). In c xs) (sym (shows x a b i h)) m)
 
 -- a number that does not stand in a list leaves nothing out
-without-absent : (s : ℕ) (xs : List ℕ) → (In s xs → ⊥) → keep (λ r. not (eqb s r)) xs ≡ xs
+pub without-absent : (s : ℕ) (xs : List ℕ) → (In s xs → ⊥) → keep (λ r. not (eqb s r)) xs ≡ xs
 without-absent s [] h = refl
 without-absent s (x ∷ xs) h =
     rw (to-false (eqb s x) (ne-neqb s x (λ e. h (List·Memᴰ·head e))))

@@ -7,3 +7,5 @@ pub mod Alike
 pub mod LegTable
 pub mod Instance
 pub mod RowLaws
+pub mod SetBits
+pub mod SetLoops

@@ -1,0 +1,153 @@
+-- What a loop over the stops of a set needs: it takes the first stop of what is left out, and lowers or adds to what it has so far.
+--   first-out             the first stop of a set, and the stops that are left without it
+--   Lowered, lowered-starts, lowered-again, lowered-ends    the invariant of a loop that looks for the least value over a set
+--   Summed, summed-starts, summed-again, summed-ends    the same for a sum; summed-most: no sum on the way is above the last
+--   into-set, ahead-none, ahead-plain, ahead-close    the cheapest leg into a stop, and what a bound adds, of sets that are numbers
+--   remainder-small, ahead-small    what a bound adds is small where the legs are
+-- Assumes nothing.
+use mathlib.Core.Path.{_≡_, refl, ap, _∙_}
+use mathlib.Core.List.{List, [], _∷_, List·Memᴰ·tail}
+use Prim.Native.Nat.{ℕ, zero, suc, _+_, _-_, _*_, _^_, _≤_, _<_, min}
+use native.Mathlib.Nat.{mul-le-mul-right, suc-mul}
+use native.Mathlib.Omega.{arith}
+use lib.Count.{trailingZeros}
+use lib.ListN.{length}
+use lib.Pow.{pow-pos}
+use Rattle.lists.specs.Lists.{In, sum, least}
+use Rattle.lists.proofs.Members.{in-head}
+use Rattle.lists.proofs.Numbers.{sum-mono, sum-const, least-le}
+use Rattle.stops.specs.Legs.{Legs, rowLeg, legs}
+use Rattle.stops.specs.Bounds.{without, cheapestInto, remainder}
+use Rattle.stops.specs.Record.{stopsIn, ahead, Within}
+use Rattle.stops.specs.Examples
+use Rattle.stops.proofs.SetBits.{stopsIn-zero, stopsIn-next, stopsIn-without}
+
+-- r is the first stop of the set m, and the others are those of the set without it, which is smaller
+pub record First (m r : ℕ) : Type 0 where
+  pub member : In r (stopsIn m)
+  pub others : stopsIn m ≡ r ∷ stopsIn (m - 2 ^ (r - 1))
+  pub less : m - 2 ^ (r - 1) < m
+
+pub first-out : (m r : ℕ) → 0 < m → m < 2 ^ 16 → r ≡ trailingZeros 32 m + 1 → First m r
+first-out m r some small e =
+    let (f, g, h) = stopsIn-next m small some in
+    let back : trailingZeros 32 m ≡ r - 1 = omega arith in
+    let split : stopsIn m ≡ r ∷ stopsIn (m - 2 ^ (r - 1)) = h ∙ rw (← e, back) in
+    record {
+      member = rw split in-head;
+      others = split;
+      less = omega (arith, pow-pos (r - 1));
+    }
+
+module _ {A : Type 0} (f : A → ℕ) where
+  -- the least of v and of f over xs, taken from the left
+  abbrev pub lower : ℕ → List A → ℕ
+  lower v [] = v
+  lower v (x ∷ xs) = lower (min v (f x)) xs
+
+  lower-min : (v w : ℕ) (xs : List A) → lower (min v w) xs ≡ min v (lower w xs)
+  lower-min v w [] = refl
+  lower-min v w (x ∷ xs) =
+      let apart : min (min v w) (f x) ≡ min v (min w (f x)) = omega arith in
+      ap (λ (u : ℕ). lower u xs) apart ∙ lower-min v (min w (f x)) xs
+
+  lower-least : (x : A) (xs : List A) → lower (f x) xs ≡ least f (x ∷ xs)
+  lower-least x [] = refl
+  lower-least x (y ∷ ys) = lower-min (f x) (f y) ys ∙ ap (min (f x)) (lower-least y ys)
+
+  least-small : (m : ℕ) → ((x : A) → f x ≤ m) → (xs : List A) → least f xs ≤ m
+  least-small m h [] = omega arith
+  least-small m h (x ∷ xs) = omega (arith, least-le f (x ∷ xs) x in-head, h x)
+
+-- The least value over a set is found so: with `low` the least of the stops passed and `left` the others, what is still to be found is
+-- the least of `low` and of the values over `left`, and that stays `goal`.
+pub record Lowered (f : ℕ → ℕ) (goal low left : ℕ) : Type 0 where
+  pub small : left < 2 ^ 16
+  pub same : lower f low (stopsIn left) ≡ goal
+
+pub lowered-starts : (f : ℕ → ℕ) (x left : ℕ) → left < 2 ^ 16 → Lowered f (least f (x ∷ stopsIn left)) (f x) left
+lowered-starts f x left h = record { small = h; same = lower-least f x (stopsIn left) }
+
+-- the loop may start from the first stop of the set, too
+pub lowered-starts-first :
+    (f : ℕ → ℕ) (set r left : ℕ) → set < 2 ^ 16 → First set r → left ≡ set - 2 ^ (r - 1) → Lowered f (least f (stopsIn set)) (f r) left
+lowered-starts-first f set r left h o e = rw (o .others, e) (lowered-starts f r (set - 2 ^ (r - 1)) (omega arith))
+
+pub lowered-again :
+    {f : ℕ → ℕ} {goal low left low′ left′ : ℕ} (r : ℕ) → Lowered f goal low left → First left r → left′ ≡ left - 2 ^ (r - 1)
+    → low′ ≡ min low (f r) → Lowered f goal low′ left′
+lowered-again r l o e g = record {
+  small = omega arith;
+  same = rw (e, g) (rw (o .others) at (l .same));
+}
+
+pub lowered-ends : {f : ℕ → ℕ} {goal low left : ℕ} → Lowered f goal low left → left ≡ 0 → low ≡ goal
+lowered-ends l e = rw (e, stopsIn-zero) at (l .same)
+
+-- A sum over the set `rest` is found so: `total` and the values over what is left add up to `goal`, and what is left is of the set.
+pub record Summed (f : ℕ → ℕ) (rest goal total left : ℕ) : Type 0 where
+  pub small : left < 2 ^ 16
+  pub part : (s : ℕ) → In s (stopsIn left) → In s (stopsIn rest)
+  pub same : sum f (stopsIn left) + total ≡ goal
+
+pub summed-starts : {f : ℕ → ℕ} {rest goal total : ℕ} → rest < 2 ^ 16 → sum f (stopsIn rest) + total ≡ goal → Summed f rest goal total rest
+summed-starts h e = record { small = h; part = λ s i. i; same = e }
+
+module _ {f : ℕ → ℕ} {rest goal total left : ℕ} (l : Summed f rest goal total left) where
+  pub summed-most : (r : ℕ) → First left r → total + f r ≤ goal
+  summed-most r o = omega (arith, ap (sum f) (o .others), l .same)
+
+  pub summed-again :
+      {total′ left′ : ℕ} (r : ℕ) → First left r → left′ ≡ left - 2 ^ (r - 1) → total′ ≡ total + f r → Summed f rest goal total′ left′
+  summed-again r o e g = rw e record {
+    small = omega arith;
+    part = λ s i. l .part s (rw (o .others) (List·Memᴰ·tail i));
+    same = omega (arith, ap (sum f) (o .others), l .same);
+  }
+
+  pub summed-ends : left ≡ 0 → total ≡ goal
+  summed-ends e = omega (arith, rw (e, stopsIn-zero) at (l .same))
+
+-- the cheapest leg into a stop of a set, from the others as a set
+pub into-set :
+    (t : List (List ℕ)) (place rest others s : ℕ) → rest < 2 ^ 16 → In s (stopsIn rest) → others ≡ rest - 2 ^ (s - 1)
+    → least (λ p. rowLeg t p s) (place ∷ stopsIn others) ≡ cheapestInto (legs t) place (stopsIn rest) s
+unfolding legs cheapestInto
+into-set t place rest others s h i e = rw (e, stopsIn-without rest h s i .1)
+
+module _ (m : ℕ) (L : Legs) (w : Within m L) (place : ℕ) where
+  into-small : (rest : List ℕ) (s : ℕ) → cheapestInto L place rest s ≤ m
+  unfolding cheapestInto
+  into-small rest s = least-small (λ r. L .leg r s) m (λ r. w .leg r s) (place ∷ without s rest)
+
+  pub remainder-small : (rest : List ℕ) → remainder L place rest ≤ length rest * m + m
+  unfolding remainder
+  remainder-small rest =
+      omega (
+        arith,
+        sum-mono (cheapestInto L place rest) (λ s. m) rest (λ s i. into-small rest s),
+        sum-const m rest,
+        least-small (L .home) m (w .home) rest,
+      )
+
+  pub ahead-small : (k number : ℕ) (rest : List ℕ) → length rest ≤ k → ahead number L place rest ≤ suc k * m
+  unfolding ahead
+  ahead-small k number [] h = omega (arith, suc-mul k m, w .home place)
+  ahead-small k zero (r ∷ rest) h = omega arith
+  ahead-small k (suc number) (r ∷ rest) h =
+      omega (arith, suc-mul k m, mul-le-mul-right m h, remainder-small (r ∷ rest))
+
+-- what a bound adds, by whether a stop is left and by its number
+pub ahead-none : (number : ℕ) (L : Legs) (place rest : ℕ) → rest ≡ 0 → L .home place ≡ ahead number L place (stopsIn rest)
+unfolding ahead
+ahead-none number L place rest e = rw (e, stopsIn-zero)
+
+module _ (L : Legs) (place rest : ℕ) (some : 0 < rest) (small : rest < 2 ^ 16) where
+  pub ahead-plain : (number : ℕ) → number ≡ 0 → 0 ≡ ahead number L place (stopsIn rest)
+  unfolding ahead
+  ahead-plain number e = rw (e, stopsIn-next rest small some .2)
+
+  pub ahead-close : (number : ℕ) → 0 < number → remainder L place (stopsIn rest) ≡ ahead number L place (stopsIn rest)
+  unfolding ahead
+  ahead-close zero h = absurd (omega arith)
+  ahead-close (suc k) h = rw (stopsIn-next rest small some .2)
