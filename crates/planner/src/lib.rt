@@ -1,4 +1,5 @@
 // The planner.
 pub mod best;
 pub mod family;
+pub mod order;
 pub mod step;

@@ -1,6 +1,6 @@
 // Which active node is branched.
 ghost use mathlib.Core.Path.{_≡_};
-ghost use Prim.Native.Nat.{_≤_, _<_};
+ghost use Prim.Native.Nat.{ℕ, _≤_, _<_};
 ghost use lib.ListN.{length, take};
 ghost use Rattle.pool.specs.View.{records};
 ghost use Rattle.pool.specs.Passes.{Chose, Chosen};
@@ -14,7 +14,7 @@ pub enum Place {
 // The earliest of the first a records that has the least bound.
 fn least_earliest(w: &[u32], a: usize) -> usize
     requires { ⌜ (0 < a) × (a ≤ length (records (now w))) ⌝ }
-    ensures { λ r. ⌜ Chosen 0 (take a (records (now (w .entry)))) 0 r ⌝ }
+    ensures { λ r. ⌜ ((n : ℕ) → Chosen n (take a (records (now (w .entry)))) 0 r) ⌝ }
 {
     let mut best = 0;
     let mut least = w[3];
@@ -33,7 +33,7 @@ fn least_earliest(w: &[u32], a: usize) -> usize
 // The latest of the first a records that has the least bound.
 fn least_latest(w: &[u32], a: usize) -> usize
     requires { ⌜ (0 < a) × (a ≤ length (records (now w))) ⌝ }
-    ensures { λ r. ⌜ Chosen 0 (take a (records (now (w .entry)))) 1 r ⌝ }
+    ensures { λ r. ⌜ ((n : ℕ) → Chosen n (take a (records (now (w .entry)))) 1 r) ⌝ }
 {
     let mut best = 0;
     let mut least = w[3];

@@ -19,7 +19,7 @@ fn turn(w: &mut [u32], from: usize, to: usize)
 {
     let mut i = from;
     let mut j = to;
-    while i + 1 < j {
+    while 1 < j - i {
         j -= 1;
         let x = load(w, i);
         let y = load(w, j);

@@ -32,18 +32,18 @@ same-equal (x ∷ xs) (y ∷ ys) h =
     (eqb→eq x y (and-left (eqb x y) (same xs ys) h))
     (same-equal xs ys (and-right (eqb x y) (same xs ys) h))
 
-same-refl : (xs : List ℕ) → T (same xs xs)
+pub same-refl : (xs : List ℕ) → T (same xs xs)
 same-refl [] = tt
 same-refl (x ∷ xs) = and-both (eqb x x) (same xs xs) (eqb-refl x) (same-refl xs)
 
 -- the parts of a test of four parts
-and-parts : (a b c d : Bool) → T (a && b && c && d) → T a × T b × T c × T d
+pub and-parts : (a b c d : Bool) → T (a && b && c && d) → T a × T b × T c × T d
 and-parts a b c d h =
     let abc : T (a && b && c) = and-left (a && b && c) d h in
     let ab : T (a && b) = and-left (a && b) c abc in
     (and-left a b ab, and-right a b ab, and-right (a && b) c abc, and-right (a && b && c) d h)
 
-parts-and : (a b c d : Bool) → T a → T b → T c → T d → T (a && b && c && d)
+pub parts-and : (a b c d : Bool) → T a → T b → T c → T d → T (a && b && c && d)
 parts-and a b c d p q r s = and-both (a && b && c) d (and-both (a && b) c (and-both a b p q) r) s
 
 -- w has the set and the last place of x, and no more path cost

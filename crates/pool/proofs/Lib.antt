@@ -1,0 +1,9 @@
+pub mod ViewLaws
+pub mod SiftLaws
+pub mod StayLaws
+pub mod ChooseLaws
+pub mod SettleLaws
+pub mod OrderWords
+pub mod Mask
+pub mod Encode
+pub mod EncodeLaws

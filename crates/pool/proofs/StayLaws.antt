@@ -1,0 +1,101 @@
+-- Laws for the passes over active records and for the writing of children, as the loops of `stays`, `staying`, `write` and `write_at`
+-- need them. `isStaying` is false above the limit (`stays-above`) and where one of the kids dominates (`stays-beaten`), else true
+-- (`stays-free`). What holds at a partial index holds at the next: none of the first k passes a test (`free-more`), so many records pass
+-- (`count-passes`, `count-fails`), the first k kids are written (`write-more`). Last, what a part of the pool's words that is lent on is
+-- as records (`lent-records`, `lent-back`). Assumes nothing.
+use mathlib.Core.Path.{_≡_, refl, ap, _∙_}
+use mathlib.Core.Bool.{Bool, true, false, _||_}
+use mathlib.Core.List.{List, [], _∷_, _++_, append-nil}
+use Prim.Native.Nat.{ℕ, zero, suc, _+_, _*_, _-_, _≤_, _<_}
+use native.Mathlib.Numerals.{add-one}
+use native.Mathlib.Nat.{zero-add}
+use native.Mathlib.Omega.{arith}
+use lib.ListN.{length, getD, take, drop, set, length-append, length-drop}
+use lib.Seq.{take-all, drop-length, drop-drop, slice, slice-empty, length-slice, paste, paste-suc}
+use borrow.Rule.Slice.PartMut.{midOf, putMid, post-is}
+use borrow.Author.Tests.{le-leb, lt-leb}
+use Rattle.lists.specs.Lists.{keep, any}
+use Rattle.lists.proofs.Numbers.{keep-parts}
+use Rattle.stops.specs.Record.{emptyRecord, recDominates}
+use Rattle.stops.specs.declared.node.Node.{Node as Record}
+use Rattle.pool.specs.View.{records}
+use Rattle.pool.specs.Passes.{isStaying}
+use Rattle.pool.proofs.ViewLaws.{length-records, records-drop, records-join}
+use Rattle.pool.proofs.SiftLaws.{keep-slice-more, any-slice-more}
+
+or-right-true : (b c : Bool) → c ≡ true → (b || c) ≡ true
+or-right-true true c e = refl
+or-right-true false c e = e
+
+-- an element before r passes: some of the first r does
+any-found :
+    {A : Type 0} (test : A → Bool) (d : A) (l : List A) (k r : ℕ) → k < r → r ≤ length l → test (getD l k d) ≡ true
+    → any test (take r l) ≡ true
+any-found test d [] k r h inside p = absurd (omega arith)
+any-found test d (x ∷ xs) k zero h inside p = absurd (omega arith)
+any-found test d (x ∷ xs) zero (suc r) h inside p = rw p
+any-found test d (x ∷ xs) (suc k) (suc r) h inside p =
+    or-right-true (test x) (any test (take r xs)) (any-found test d xs k r (omega arith) (omega arith) p)
+
+module _ (limit : ℕ) (kids : List Record) (x : Record) where
+  pub stays-above : (r : ℕ) → limit < x .bound → isStaying limit (take r kids) x ≡ false
+  unfolding isStaying
+  stays-above r h = rw (lt-leb (x .bound) limit h)
+
+  pub stays-free : (r : ℕ) → x .bound ≤ limit → any (λ y. recDominates y x) (take r kids) ≡ false → isStaying limit (take r kids) x ≡ true
+  unfolding isStaying
+  stays-free r h e = rw (le-leb (x .bound) limit h, e)
+
+  pub stays-beaten :
+      (k r : ℕ) → x .bound ≤ limit → k < r → r ≤ length kids → recDominates (getD kids k emptyRecord) x ≡ true
+      → isStaying limit (take r kids) x ≡ false
+  unfolding isStaying
+  stays-beaten k r h i inside p = rw (le-leb (x .bound) limit h, any-found (λ y. recDominates y x) emptyRecord kids k r i inside p)
+
+-- none of the first k passes, and the next does not
+pub free-more :
+    (test : Record → Bool) (l : List Record) (k : ℕ) → k < length l → any test (take k l) ≡ false → test (getD l k emptyRecord) ≡ false
+    → any test (take (k + 1) l) ≡ false
+free-more test l k inside e p = any-slice-more test emptyRecord 0 k l (omega arith) inside ∙ rw (e, p)
+
+-- how many of the records from `from` to `to` pass
+pub count-none : (test : Record → Bool) (from : ℕ) (l : List Record) → 0 ≡ length (keep test (slice from from l))
+count-none test from l = rw (slice-empty from l)
+
+module _ (test : Record → Bool) (from to : ℕ) (l : List Record) where
+  pub count-within : to ≤ length l → length (keep test (slice from to l)) ≤ to
+  count-within inside = omega (arith, keep-parts test (slice from to l), length-slice from to l inside)
+
+  module _ (ordered : from ≤ to) (inside : to < length l) where
+    pub count-passes :
+        test (getD l to emptyRecord) ≡ true → length (keep test (slice from to l)) + 1 ≡ length (keep test (slice from (to + 1) l))
+    count-passes p = rw (keep-slice-more test emptyRecord from to l ordered inside, p, length-append)
+
+    pub count-fails :
+        test (getD l to emptyRecord) ≡ false → length (keep test (slice from to l)) ≡ length (keep test (slice from (to + 1) l))
+    count-fails p = rw (keep-slice-more test emptyRecord from to l ordered inside, p, append-nil)
+
+-- the first k kids stand at the front of d; then one more
+pub write-more :
+    (d kids : List Record) (k : ℕ) → k < length d → k < length kids
+    → set (paste d 0 kids k) k (getD kids k emptyRecord) ≡ paste d 0 kids (k + 1)
+write-more d kids k h i =
+    let e : 0 + k < length d = omega arith in
+    rw (add-one k, ← paste-suc d 0 kids k emptyRecord e i, zero-add k)
+
+-- the words from 6 * at on are lent on: they are the records from `at` on, and come back as v
+module _ (w : List ℕ) (at : ℕ) where
+  pub lent-records : records (midOf (6 * at) (length w - 6 * at) w) ≡ drop at (records w)
+  lent-records =
+      let whole : midOf (6 * at) (length w - 6 * at) w ≡ drop (6 * at) w =
+      take-all (length w - 6 * at) (drop (6 * at) w) (omega (arith, length-drop (6 * at) w)) in
+      ap records whole ∙ records-drop at w
+
+  pub lent-back :
+      (kids : List Record) (r : ℕ) (v : List ℕ) → at ≤ length (records w)
+      → records v ≡ take r kids ++ drop r (records (midOf (6 * at) (length w - 6 * at) w))
+      → records (putMid (6 * at) (length w - 6 * at) w v) ≡ take at (records w) ++ (take r kids ++ drop (at + r) (records w))
+  lent-back kids r v inside e =
+      let within : 6 * at ≤ length w = omega (arith, length-records w) in
+      rw (post-is (6 * at) (length w) w within, drop-length w, append-nil)
+      (rw (records-join at w v inside, e, lent-records, drop-drop r at (records w)))

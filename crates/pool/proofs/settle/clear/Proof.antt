@@ -1,0 +1,71 @@
+-- `pool::settle::clear` meets its contract. The loop's invariant: the records cleared from k on are the records at entry cleared from
+-- `from` on. Assumes nothing.
+use mathlib.Core.Path.{_≡_, refl, sym, ap, _∙_}
+use Prim.Native.Nat.{_-_, _≤_}
+use native.Mathlib.Omega.{arith}
+use borrow.Author.Needs.{needs}
+use lib.ListN.{length, set, length-set}
+use Rattle.stops.specs.Record.{emptyRecord}
+use Rattle.pool.specs.View.{records}
+use Rattle.pool.proofs.SettleLaws.{cleared, clear-again, clear-ends}
+use Rattle.pool.proofs.settle.clear.Statement.{statement}
+use Rattle.pool.proofs.settle.clear.Tie as tie
+
+abbrev Inv-loop : tie.InvT-loop
+Inv-loop w₀ count from k₀ w k =
+    (k ≤ count)
+    × (count ≡ length (records w))
+    × (length w ≡ length w₀)
+    × (cleared count emptyRecord k (records w) ≡ cleared count emptyRecord from (records w₀))
+
+abbrev μ-loop : tie.MeasureT-loop
+μ-loop w₀ count from k₀ w k = count - k
+
+loop-holds : tie.Need-loop-holds Inv-loop μ-loop
+loop-holds c = (c .before .pre .1, c .before .pre .0, refl, refl)
+
+empty-requires : tie.Need-empty-requires Inv-loop μ-loop
+empty-requires c κs = search needs
+
+store-requires : tie.Need-store-requires Inv-loop μ-loop
+store-requires c κs = omega arith
+
+add-k : tie.Need-add-k Inv-loop μ-loop
+add-k c = omega arith
+
+loop-less : tie.Need-loop-less Inv-loop μ-loop
+loop-less c = omega arith
+
+loop-again : tie.Need-loop-again Inv-loop μ-loop
+loop-again c =
+    let at-store = c .before .before in
+    let s = at-store .before .before .before .before .loop in
+    let stored : records (at-store .store .last .0) ≡ set (records (s .w)) (s .k) emptyRecord = cc in (
+      omega arith,
+      omega (arith, simp length-set at (ap length stored)),
+      cc,
+      clear-again _ _ (records (s .w)) _ emptyRecord (omega arith) (omega arith) stored ∙ s .inv .3,
+    )
+
+same-length : tie.Need-same-length Inv-loop μ-loop
+same-length c = c .before .loop .inv .2
+
+returns : tie.Need-returns Inv-loop μ-loop
+returns c =
+    let s = c .before .loop in
+    sym (clear-ends _ (s .k) (records (s .w)) emptyRecord (c .loop-test .left) (omega arith)) ∙ s .inv .3
+
+pub clear-spec : {M : Type 1} → statement M
+clear-spec =
+    tie.close
+    (tie.spec
+    Inv-loop
+    μ-loop
+    loop-holds
+    empty-requires
+    store-requires
+    add-k
+    loop-less
+    loop-again
+    same-length
+    returns)
