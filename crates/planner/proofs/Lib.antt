@@ -6,3 +6,4 @@ pub mod Full
 pub mod Tested
 pub mod Demand3
 pub mod Demand3Pairs
+pub mod RecordRun
