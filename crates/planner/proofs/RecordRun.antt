@@ -53,10 +53,13 @@ module _ (n : ℕ) (few : n ≤ 16) (t : List (List ℕ)) (k : ℕ) (number : k 
     where
       none : size n [] ≡ 0
       none = partial-size n [] (partial-root n)
+
       unset : mask (set n []) ≡ 0
       unset = ap mask empty-set
+
       all : stopsIn (2 ^ n - 1) ≡ left n []
       all = ap stopsIn (let e : 2 ^ n - 1 ≡ 2 ^ n - 1 - mask (set n []) = omega (arith, unset) in e) ∙ stops-left n few []
+
       bound : ahead k (legs t) 0 (stopsIn (2 ^ n - 1)) ≡ boundBy k n (legs t) []
       bound =
           ap (ahead k (legs t) 0) all
@@ -72,8 +75,10 @@ module _ (n : ℕ) (few : n ≤ 16) (t : List (List ℕ)) (k : ℕ) (number : k 
       where
         rest : ℕ
         rest = ahead k (legs t) s (stopsIn (2 ^ n - 1 - mask (set n x) - 2 ^ (s - 1)))
+
         place : lastStop (encode n (legs t) k x) ≡ last x
         place = encode-last n few (legs t) k x p
+
         bound : path (legs t) x + rowLeg t (last x) s + rest ≡ boundBy k n (legs t) (extend x s)
         bound = ap (λ (v : ℕ). v + rest) (sym (path-extend (legs t) x s)) ∙ sym (encode-child n few (legs t) k number x s m)
 
@@ -93,16 +98,16 @@ module _ (n : ℕ) (few : n ≤ 16) (t : List (List ℕ)) (k : ℕ) (number : k 
       → Maps (encode n (legs t) k) (Partial n) (problem n (legs t)) (recProblem n t k) (choices n (legs t) selection rules k)
       (recChoices selection rules)
   unfolding problem recProblem choices recChoices complete encode
-  record-maps selection rules = record
-    { root = encode-root
-    ; root-valid = partial-root n
-    ; children = encode-children
-    ; children-valid = partial-child n
-    ; complete = λ x p. refl
-    ; cost = λ x p whole. bound-exact k number n (legs t) x whole
-    ; dominates = λ w x p q. encode-dominates n few (legs t) k w x p q
-    ; above = refl
-    ; selection = refl
-    ; rules = refl
-    ; bound = λ x p. refl
-    }
+  record-maps selection rules = record {
+    root = encode-root;
+    root-valid = partial-root n;
+    children = encode-children;
+    children-valid = partial-child n;
+    complete = λ x p. refl;
+    cost = λ x p whole. bound-exact k number n (legs t) x whole;
+    dominates = λ w x p q. encode-dominates n few (legs t) k w x p q;
+    above = refl;
+    selection = refl;
+    rules = refl;
+    bound = λ x p. refl;
+  }

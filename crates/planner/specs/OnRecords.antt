@@ -13,7 +13,7 @@ use mathlib.Core.List.{List, [], _∷_, map, reverse}
 use mathlib.Core.Option.{Option, none, some}
 use Prim.Native.Nat.{ℕ, _+_, _-_, _^_, _/_, _%_, _≤_, _<_}
 use lib.Dec.{T, ltb, eqb}
-use lib.ListN.{length, getD, take, drop}
+use lib.ListN.{length, getD, take, drop, set}
 use Rattle.lists.specs.Lists.{In, keep}
 use Rattle.search.specs.Problem.{Problem, Choices, State}
 use Rattle.search.specs.Step.{on, step}
@@ -24,7 +24,7 @@ use Rattle.stops.specs.Record.{emptyRecord, extended, lastStop, recDominates, s
 use Rattle.stops.specs.Stops.{aboveEveryCost}
 use Rattle.stops.specs.declared.node.Node.{Node as Record}
 use Rattle.pool.specs.View.{records, encode}
-use Rattle.pool.specs.Passes.{isWithin, isFree, dropAt}
+use Rattle.pool.specs.Passes.{isWithin, isFree, isStaying, dropAt}
 use Rattle.planner.specs.declared.best.Best.{Best}
 use Rattle.planner.specs.declared.step.Run.{Run}
 use Rattle.planner.specs.declared.step.After.{After}
@@ -53,14 +53,14 @@ unfoldable pub rootOf : ℕ → List (List ℕ) → ℕ → Record
 rootOf n t k = bounded (ahead k (legs t) 0 (stopsIn (2 ^ n - 1))) emptyRecord
 
 unfoldable pub recProblem : ℕ → List (List ℕ) → ℕ → Problem Record
-recProblem n t k = record
-  { root = rootOf n t k
-  ; children = childrenOf n t k
-  ; complete = λ x. eqb (x .size) n
-  ; cost = λ x. x .bound
-  ; dominates = recDominates
-  ; above = aboveEveryCost
-  }
+recProblem n t k = record {
+  root = rootOf n t k;
+  children = childrenOf n t k;
+  complete = λ x. eqb (x .size) n;
+  cost = λ x. x .bound;
+  dominates = recDominates;
+  above = aboveEveryCost;
+}
 
 unfoldable pub recChoices : ℕ → ℕ → Choices Record
 recChoices selection rules = record { selection = selection; rules = rules; bound = λ x. x .bound }
@@ -87,6 +87,20 @@ unfoldable pub survivorsOf : ℕ → ℕ → List Record → List Record → Lis
 survivorsOf rules limit rest far kids =
     passing (on 4 rules) (isFree aboveEveryCost far)
     (passing (on 2 rules) (isFree limit rest) (passing (on 1 rules) (isWithin limit) kids))
+
+-- the active records are the first a of some, b stands at i among them, and the first `taking` kids take part in rule 8
+pub record Active (recs : List Record) (a i : ℕ) (kids : List Record) (taking : ℕ) : Type 0 where
+  pub inside : i < a
+  pub whole : a ≤ length recs
+  pub kids-few : taking ≤ length kids
+
+-- what rules 1 and 8 leave of them, without b
+unfoldable pub stayingOf : List Record → ℕ → ℕ → ℕ → List Record → ℕ → List Record
+stayingOf recs a i limit kids taking = keep (isStaying limit (take taking kids)) (dropAt i (take a recs))
+
+-- b in front of the records that are held at the far end, if any are held
+unfoldable pub heldWith : List Record → ℕ → ℕ → Record → List Record
+heldWith recs count held b = cond (eqb held 0) recs (set recs (count - held) b)
 
 -- the branched nodes that the pool holds, latest first
 abbrev pub farOf : Bool → List Record → List Record

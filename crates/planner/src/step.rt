@@ -1,14 +1,17 @@
 // One step, in its seven parts.
 ghost use mathlib.Core.Path.{_≡_};
-ghost use mathlib.Core.List.{_++_, _∷_};
-ghost use Prim.Native.Nat.{_+_, _-_, _≤_, _<_};
-ghost use lib.ListN.{length, take, drop};
+ghost use mathlib.Core.Bool.{not, cond, _&&_};
+ghost use mathlib.Core.List.{_++_};
+ghost use Prim.Native.Nat.{ℕ, _+_, _-_, _^_, _≤_, _<_, max};
+ghost use lib.Dec.{T, leb, ltb, eqb};
+ghost use lib.ListN.{length, take, drop, set};
 ghost use Rattle.lists.specs.Lists.{keep};
 ghost use Rattle.search.specs.Problem.{State};
+ghost use Rattle.search.specs.Step.{on};
 ghost use Rattle.stops.specs.declared.node.Node.{Node as Record};
 ghost use Rattle.pool.specs.View.{records};
 ghost use Rattle.pool.specs.Passes.{dropAt, isStaying};
-ghost use Rattle.planner.specs.OnRecords.{Ready, Shown, Stepping, survivorsOf};
+ghost use Rattle.planner.specs.OnRecords.{Ready, Shown, Stepping, Active, survivorsOf, stayingOf, heldWith};
 use crate::best::Best;
 use crate::best::learn;
 use crate::family::family;
@@ -41,7 +44,17 @@ pub enum After {
 
 // Parts 3, 4 and 5 on the first m children: how many are left, at the front. The active records are the first a, without that at i;
 // the branched ones are the last `held` of count.
-fn survivors(kids: &mut [u32], m: usize, w: &[u32], count: usize, a: usize, i: usize, held: usize, rules: u32, limit: u32) -> usize
+fn survivors(
+    kids: &mut [u32],
+    m: usize,
+    w: &[u32],
+    count: usize,
+    a: usize,
+    i: usize,
+    held: usize,
+    rules: u32,
+    limit: u32,
+) -> usize
     requires { ⌜ (m ≤ length (records (now kids))) × ((count ≡ length (records (now w))) × ((i < a) × ((a ≤ count) × (held ≤ count)))) ⌝ }
     ensures { λ r. ⌜ (take r (records (now (kids .exit))) ≡ survivorsOf rules limit (dropAt i (take a (records (now (w .entry))))) (drop (count - held) (records (now (w .entry)))) (take m (records (now (kids .entry))))) × ((r ≤ m) × (r ≡ length (survivorsOf rules limit (dropAt i (take a (records (now (w .entry))))) (drop (count - held) (records (now (w .entry)))) (take m (records (now (kids .entry))))))) ⌝ }
 {
@@ -59,21 +72,55 @@ fn survivors(kids: &mut [u32], m: usize, w: &[u32], count: usize, a: usize, i: u
     left
 }
 
-// How many of the first a records but that at i stay active: counted only where some may go and the count matters.
+// How many of the first a records but that at i stay active.
 fn remaining(w: &[u32], a: usize, i: usize, limit: u32, kids: &[u32], taking: usize) -> usize
-    requires { ⌜ (i < a) × ((a ≤ length (records (now w))) × (taking ≤ length (records (now kids)))) ⌝ }
-    ensures { λ r. ⌜ r ≡ length (keep (isStaying limit (take taking (records (now (kids .entry))))) (dropAt i (take a (records (now (w .entry)))))) ⌝ }
+    requires { ⌜ Active (records (now w)) a i (records (now kids)) taking ⌝ }
+    ensures { λ r. ⌜ r ≡ length (stayingOf (records (now (w .entry))) a i limit (records (now (kids .entry))) taking) ⌝ }
 {
     let before = staying(w, 0, i, limit, kids, taking);
     let behind = staying(w, i + 1, a, limit, kids, taking);
     before + behind
 }
 
-// Parts 6 and 7 on the active records: the first a, without that at i and those that do not stay; then the first left kids. It says
-// how many are active now.
-fn commit(w: &mut [u32], a: usize, i: usize, limit: u32, kids: &[u32], left: usize, taking: usize) -> usize
-    requires { ⌜ (i < a) × ((a ≤ length (records (now w))) × ((left ≤ length (records (now kids))) × ((taking ≤ length (records (now kids))) × (length (keep (isStaying limit (take taking (records (now kids)))) (dropAt i (take a (records (now w))))) + left ≤ length (records (now w)))))) ⌝ }
-    ensures { λ r. ⌜ (take r (records (now (w .exit))) ≡ keep (isStaying limit (take taking (records (now (kids .entry))))) (dropAt i (take a (records (now (w .entry))))) ++ take left (records (now (kids .entry)))) × ((r ≡ length (keep (isStaying limit (take taking (records (now (kids .entry))))) (dropAt i (take a (records (now (w .entry)))))) + left) × ((j : Prim.Native.Nat.ℕ) → a ≤ j → r ≤ j → drop j (records (now (w .exit))) ≡ drop j (records (now (w .entry))))) ⌝ }
+// Whether the nodes to keep are at most count. They are counted only where some may go and it matters; all says that none goes.
+fn fits(
+    w: &[u32],
+    count: usize,
+    a: usize,
+    i: usize,
+    limit: u32,
+    kids: &[u32],
+    left: usize,
+    taking: usize,
+    held: usize,
+    all: bool,
+) -> bool
+    requires { ⌜ Active (records (now w)) a i (records (now kids)) taking × ((T all → length (stayingOf (records (now w)) a i limit (records (now kids)) taking) ≡ a - 1) × ((left ≤ 16) × (held ≤ a + count))) ⌝ }
+    ensures { λ r. ⌜ r ≡ leb (length (stayingOf (records (now (w .entry))) a i limit (records (now (kids .entry))) taking) + left + held) count ⌝ }
+{
+    let most = a - 1 + left + held;
+    if most <= count {
+        return true;
+    }
+    if all {
+        return false;
+    }
+    let stay = remaining(w, a, i, limit, kids, taking);
+    stay + left + held <= count
+}
+
+// Parts 6 and 7 where some active records may go: what stays of the first a without that at i, then the first left kids.
+fn sifted(
+    w: &mut [u32],
+    a: usize,
+    i: usize,
+    limit: u32,
+    kids: &[u32],
+    left: usize,
+    taking: usize,
+) -> usize
+    requires { ⌜ Active (records (now w)) a i (records (now kids)) taking × ((left ≤ length (records (now kids))) × (length (stayingOf (records (now w)) a i limit (records (now kids)) taking) + left ≤ length (records (now w)))) ⌝ }
+    ensures { λ r. ⌜ (take r (records (now (w .exit))) ≡ stayingOf (records (now (w .entry))) a i limit (records (now (kids .entry))) taking ++ take left (records (now (kids .entry)))) × ((r ≡ length (stayingOf (records (now (w .entry))) a i limit (records (now (kids .entry))) taking) + left) × ((j : ℕ) → a ≤ j → r ≤ j → drop j (records (now (w .exit))) ≡ drop j (records (now (w .entry))))) ⌝ }
 {
     let before = sift(w, 0, i, 0, limit, kids, taking);
     let end = sift(w, i + 1, a, before, limit, kids, taking);
@@ -81,66 +128,81 @@ fn commit(w: &mut [u32], a: usize, i: usize, limit: u32, kids: &[u32], left: usi
     end + left
 }
 
-// The same where every record stays but that at i.
-fn commit_all(w: &mut [u32], a: usize, i: usize, kids: &[u32], left: usize) -> usize
-    requires { ⌜ (i < a) × ((a ≤ length (records (now w))) × ((left ≤ length (records (now kids))) × (a - 1 + left ≤ length (records (now w))))) ⌝ }
-    ensures { λ r. ⌜ (take r (records (now (w .exit))) ≡ dropAt i (take a (records (now (w .entry)))) ++ take left (records (now (kids .entry)))) × ((r ≡ a - 1 + left) × ((j : Prim.Native.Nat.ℕ) → a ≤ j → r ≤ j → drop j (records (now (w .exit))) ≡ drop j (records (now (w .entry))))) ⌝ }
+// Parts 6 and 7: the active records afterwards stand at the front, and their number is the result. Where all stay but that at i, those
+// behind it move up by one.
+fn replace(
+    w: &mut [u32],
+    a: usize,
+    i: usize,
+    limit: u32,
+    kids: &[u32],
+    left: usize,
+    taking: usize,
+    all: bool,
+) -> usize
+    requires { ⌜ Active (records (now w)) a i (records (now kids)) taking × ((T all → stayingOf (records (now w)) a i limit (records (now kids)) taking ≡ dropAt i (take a (records (now w)))) × ((left ≤ length (records (now kids))) × (length (stayingOf (records (now w)) a i limit (records (now kids)) taking) + left ≤ length (records (now w))))) ⌝ }
+    ensures { λ r. ⌜ (take r (records (now (w .exit))) ≡ stayingOf (records (now (w .entry))) a i limit (records (now (kids .entry))) taking ++ take left (records (now (kids .entry)))) × ((r ≡ length (stayingOf (records (now (w .entry))) a i limit (records (now (kids .entry))) taking) + left) × ((j : ℕ) → a ≤ j → r ≤ j → drop j (records (now (w .exit))) ≡ drop j (records (now (w .entry))))) ⌝ }
 {
-    let end = slide(w, i + 1, a, i);
-    write_at(w, end, kids, left);
-    end + left
-}
-
-// The step of b, which stands at i.
-pub fn step(t: [[u32; 17]; 17], n: u32, rules: u32, number: u32, w: &mut [u32], i: usize, b: Node, r: Run) -> After
-    requires { ⌜ Ready n t number rules (now w) i b r ⌝ }
-    ensures { λ q. ⌜ ((s : State Record) → Shown rules (now (w .entry)) r s → Stepping n t number rules i b (now (w .entry)) (now (w .exit)) s q) ⌝ }
-{
-    let count = w.len() / 6;
-    let a = r.active;
-    let known = r.best;
-    let mut kids = [0u32; 96];
-    let m = family(t, n, number, b, &mut kids);
-    let best = learn(&kids, m, n, known);
-    let mut limit = 4_294_967_295;
-    if rules % 2 == 1 {
-        limit = best.upper;
-    }
-    let left = survivors(&mut kids, m, w, count, a, i, r.held, rules, limit);
-    let mut taking = 0;
-    if rules / 8 % 2 == 1 {
-        taking = left;
-    }
-    let mut held = 0;
-    if rules / 4 % 2 == 1 {
-        held = r.held + 1;
-    }
-    let mut all = taking == 0;
-    if limit < known.upper {
-        if rules % 2 == 1 { all = false; }
-    }
-    let mut stay = a - 1;
-    if !all {
-        if count < a - 1 + left + held {
-            stay = remaining(w, a, i, limit, &kids, taking);
-        }
-    }
-    if count < stay + left + held {
-        return After::Full;
-    }
-    let mut active = 0;
     if all {
-        active = commit_all(w, a, i, &kids, left);
-    } else {
-        active = commit(w, a, i, limit, &kids, left, taking);
+        let end = slide(w, i + 1, a, i);
+        write_at(w, end, kids, left);
+        return end + left;
     }
-    if 0 < held {
-        store(w, count - held, b);
-    }
-    After::Go(counted(r, best, m, active, held))
+    sifted(w, a, i, limit, kids, left, taking)
 }
 
-fn counted(r: Run, best: Best, m: usize, active: usize, held: usize) -> Run {
+// What rule 1 keeps: bounds up to U, or all.
+fn limit_of(rules: u32, upper: u32) -> u32
+    ensures { λ r. ⌜ r ≡ cond (on 1 rules) upper 4294967295 ⌝ }
+{
+    if rules % 2 == 1 { upper } else { 4_294_967_295 }
+}
+
+// How many children take part in rule 8.
+fn taking_of(rules: u32, left: usize) -> usize
+    ensures { λ r. ⌜ r ≡ cond (on 8 rules) left 0 ⌝ }
+{
+    if rules / 8 % 2 == 1 { left } else { 0 }
+}
+
+// How many branched nodes the pool holds after the step.
+fn holding(rules: u32, held: usize) -> usize
+    requires { ⌜ held < 2 ^ 62 ⌝ }
+    ensures { λ r. ⌜ r ≡ cond (on 4 rules) (held + 1) 0 ⌝ }
+{
+    if rules / 4 % 2 == 1 { held + 1 } else { 0 }
+}
+
+// Whether every active record stays: no child takes part in rule 8, and U did not fall under rule 1.
+fn all_stay(rules: u32, known: u32, upper: u32, taking: usize) -> bool
+    ensures { λ r. ⌜ r ≡ (eqb taking 0 && not (on 1 rules && ltb upper known)) ⌝ }
+{
+    if taking != 0 {
+        return false;
+    }
+    if rules % 2 != 1 {
+        return true;
+    }
+    known <= upper
+}
+
+// The branched node joins those at the far end, if the pool holds them.
+fn hold(w: &mut [u32], count: usize, held: usize, b: Node)
+    requires { ⌜ (count ≡ length (records (now w))) × (held ≤ count) ⌝ }
+    ensures { λ u. ⌜ records (now (w .exit)) ≡ heldWith (records (now (w .entry))) count held b ⌝ }
+{
+    if 0 < held {
+        let at = count - held;
+        store(w, at, b);
+    }
+}
+
+// The counts after a step that generated m children and left some active.
+fn counted(r: Run, best: Best, m: usize, active: usize, held: usize) -> Run
+    requires { ⌜ (1 ≤ r .active) × ((r .active + m < 2 ^ 62) × ((active ≤ r .active - 1 + m) × (r .generated + r .eliminated + r .branched < 2 ^ 62))) ⌝ }
+    ensures { λ q. ⌜ q ≡ record { active = active; held = held; best = best; branched = r .branched + 1; generated = r .generated + m; eliminated = r .eliminated + (r .active - 1 + m - active); most = max (r .most) active } ⌝ }
+{
+    let gone = r.active - 1 + m - active;
     let mut most = r.most;
     if most < active as u64 {
         most = active as u64;
@@ -151,7 +213,43 @@ fn counted(r: Run, best: Best, m: usize, active: usize, held: usize) -> Run {
         best: best,
         branched: r.branched + 1,
         generated: r.generated + m as u64,
-        eliminated: r.eliminated + (r.active - 1 + m - active) as u64,
+        eliminated: r.eliminated + gone as u64,
         most: most,
     }
+}
+
+// The step of b, which stands at i. Nothing is written to the pool before it is known that the step fits.
+pub fn step(
+    t: [[u32; 17]; 17],
+    n: u32,
+    rules: u32,
+    number: u32,
+    w: &mut [u32],
+    i: usize,
+    b: Node,
+    r: Run,
+) -> After
+    requires { ⌜ Ready n t number rules (now w) i b r ⌝ }
+    ensures { λ q. ⌜ ((s : State Record) → Shown rules (now (w .entry)) r s → Stepping n t number rules i b (now (w .entry)) (now (w .exit)) s q) ⌝ }
+{
+    let count = w.len() / 6;
+    let a = r.active;
+    let far = r.held;
+    let known = r.best;
+    let was = known.upper;
+    let mut kids = [0u32; 96];
+    let m = family(t, n, number, b, &mut kids);
+    let best = learn(&kids, m, n, known);
+    let upper = best.upper;
+    let limit = limit_of(rules, upper);
+    let left = survivors(&mut kids, m, w, count, a, i, far, rules, limit);
+    let taking = taking_of(rules, left);
+    let held = holding(rules, far);
+    let all = all_stay(rules, was, upper, taking);
+    if !fits(w, count, a, i, limit, &kids, left, taking, held, all) {
+        return After::Full;
+    }
+    let active = replace(w, a, i, limit, &kids, left, taking, all);
+    hold(w, count, held, b);
+    After::Go(counted(r, best, m, active, held))
 }

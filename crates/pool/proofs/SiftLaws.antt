@@ -1,11 +1,11 @@
 -- Laws of `Sifted` at a partial index, for a loop that reads the record at `to`, goes one on, and stores the record at e if it passes
 -- the test: at the start nothing is moved (`sifted-none`); a record that passes is stored at e (`sifted-passes`); one that fails is left
--- out (`sifted-fails`). The stores never overtake the reads (`sifted-within`). Before them, `keep` and `any` of a slice that grows by
--- one. Assumes nothing.
+-- out (`sifted-fails`). Before them, `keep` and `any` of a slice that grows by one, and `any` where one element decides.
+-- Assumes nothing.
 use mathlib.Core.Path.{_≡_, refl, ap, sym, _∙_}
-use mathlib.Core.Bool.{Bool, true, false, _||_}
+use mathlib.Core.Bool.{Bool, true, false, _||_, or-true, or-false}
 use mathlib.Core.List.{List, [], _∷_, _++_, append-assoc, append-nil}
-use Prim.Native.Nat.{ℕ, _+_, _≤_, _<_}
+use Prim.Native.Nat.{ℕ, zero, suc, _+_, _≤_, _<_}
 use native.Mathlib.Numerals.{add-one}
 use native.Mathlib.Nat.{add-zero}
 use native.Mathlib.Omega.{arith}
@@ -40,9 +40,26 @@ module _ {A : Type 0} where
     pub keep-slice-more : keep test (slice from (to + 1) l) ≡ keep test (slice from to l) ++ put (test (getD l to d)) (getD l to d) []
     keep-slice-more = rw (slice-more d from to l ordered inside, keep-append)
 
-    pub any-slice-more : any test (slice from (to + 1) l) ≡ (any test (slice from to l) || any test (getD l to d ∷ []))
-    any-slice-more = rw (slice-more d from to l ordered inside, any-append)
+    pub any-slice-more : any test (slice from (to + 1) l) ≡ (any test (slice from to l) || test (getD l to d))
+    any-slice-more = rw (slice-more d from to l ordered inside, any-append, or-false)
 
+  pub any-slice-none : (test : A → Bool) (from : ℕ) (l : List A) → any test (slice from from l) ≡ false
+  any-slice-none test from l = rw (slice-empty from l)
+
+  pub any-slice-found :
+      (test : A → Bool) (d : A) (from to i : ℕ) (l : List A) → from ≤ i → i < to → to ≤ length l → test (getD l i d) ≡ true
+      → any test (slice from to l) ≡ true
+  any-slice-found test d from to i [] h k inside p = absurd (omega arith)
+  any-slice-found test d from zero i (x ∷ xs) h k inside p = absurd (omega arith)
+  any-slice-found test d zero (suc to) zero (x ∷ xs) h k inside p = rw p
+  any-slice-found test d zero (suc to) (suc i) (x ∷ xs) h k inside p =
+      rw (any-slice-found test d zero to i xs (omega arith) (omega arith) (omega arith) p, or-true)
+  any-slice-found test d (suc from) (suc to) zero (x ∷ xs) h k inside p = absurd (omega arith)
+  any-slice-found test d (suc from) (suc to) (suc i) (x ∷ xs) h k inside p =
+      any-slice-found test d from to i xs (omega arith) (omega arith) (omega arith) p
+
+-- At most as many records are stored as are read, and the first is stored at or before the first read, so e is at most `to`
+-- (`sifted-within`). So a store at e changes no record that is still to be read, and those before e stay the ones kept so far.
 module _ (test : Record → Bool) (l : List Record) (from at : ℕ) where
   pub sifted-none : Sifted test l from from at l at
   sifted-none = record {
@@ -59,7 +76,7 @@ module _ (test : Record → Bool) (l : List Record) (from at : ℕ) where
     next-stays : getD l′ to emptyRecord ≡ getD l to emptyRecord
     next-stays =
         let first : (xs : List Record) → getD xs to emptyRecord ≡ getD (drop to xs) 0 emptyRecord =
-            λ xs. sym (getD-drop to xs 0 emptyRecord ∙ ap (λ (n : ℕ). getD xs n emptyRecord) (add-zero to)) in
+        λ xs. sym (getD-drop to xs 0 emptyRecord ∙ ap (λ (n : ℕ). getD xs n emptyRecord) (add-zero to)) in
         first l′ ∙ ap (λ (xs : List Record). getD xs 0 emptyRecord) (sifted .behind) ∙ sym (first l)
 
     rest-stays : drop (to + 1) l′ ≡ drop (to + 1) l

@@ -1,15 +1,14 @@
 -- Laws of the view of words as records: how many there are, which words make the one at i (`recordAt`), what six stores, a part dropped
--- and parts joined do to it, and that `words` is its other way. They go by `by-sixes`, induction on words six at a time.
--- Assumes nothing.
-use mathlib.Core.Path.{_≡_, refl, ap, sym, subst, _∙_}
+-- and parts joined do to it, that `words` is its other way, and that 32-bit words make records of 32-bit numbers (`Small`). Most go by
+-- `by-sixes`, induction on words six at a time. Assumes nothing.
+use mathlib.Core.Path.{_≡_, refl, ap, sym, _∙_}
 use mathlib.Core.List.{List, [], _∷_, _++_, append-assoc, List·Memᴰ·cases-cons, List·Memᴰ·not-nil}
 use mathlib.Core.Logic.{_⊎_, inl, inr}
 use Prim.Native.Nat.{ℕ, zero, suc, _+_, _*_, _/_, _%_, _≤_, _<_}
-use native.Mathlib.Numerals.{towards-suc}
 use native.Mathlib.Nat.{add-zero}
 use native.Mathlib.Omega.{arith}
 use lib.ListN.{length, getD, take, drop, set, length-drop, drop-of-length-le}
-use lib.Seq.{sets-eq, set-split, drop-drop, getD-drop}
+use lib.Seq.{sets, sets-eq, set-split, drop-drop, getD-drop}
 use Rattle.lists.specs.Lists.{In}
 use Rattle.stops.specs.Record.{emptyRecord}
 use Rattle.stops.specs.declared.node.Node.{Node as Record}
@@ -71,7 +70,6 @@ recordAt w i = record {
   second = getD w (6 * i + 5) 0;
 }
 
--- the first
 record-first : (w : List ℕ) → 0 < length (records w) → getD (records w) 0 emptyRecord ≡ recordAt w 0
 unfolding records
 record-first =
@@ -82,7 +80,7 @@ record-first =
 pub records-at : (w : List ℕ) (i : ℕ) → i < length (records w) → getD (records w) i emptyRecord ≡ recordAt w i
 records-at w i h =
     let here : getD (records w) i emptyRecord ≡ getD (records (drop (6 * i) w)) 0 emptyRecord =
-        rw (records-drop i w, getD-drop i (records w) 0 emptyRecord, add-zero) in
+    rw (records-drop i w, getD-drop i (records w) 0 emptyRecord, add-zero) in
     let some : 0 < length (records (drop (6 * i) w)) = rw (records-drop i w, length-drop) (omega arith) in
     here ∙ record-first (drop (6 * i) w) some ∙ simp (getD-drop, add-zero)
 
@@ -104,26 +102,15 @@ records-join k w v = by-sixes (Joins v) short more w k
         let n : 6 * suc k ≡ suc (suc (suc (suc (suc (suc (6 * k)))))) = omega arith in
         rw (n, again k (omega arith))
 
--- six stores
-pub records-store :
-    (w : List ℕ) (i : ℕ) (x : Record) → i < length (records w)
-    → records
-      (set
-        (set
-          (set (set (set (set w (6 * i) (x .size)) (6 * i + 1) (x .set)) (6 * i + 2) (x .path)) (6 * i + 3) (x .bound))
-          (6 * i + 4)
-          (x .first))
-        (6 * i + 5)
-        (x .second))
-    ≡ set (records w) i x
+-- six stores, one after another (`lib.Seq.sets`)
+pub records-store : (w : List ℕ) (i : ℕ) (x : Record) → i < length (records w) → records (sets w (6 * i) (six x)) ≡ set (records w) i x
 unfolding records six
 records-store w i x h =
     let inside : 6 * i + 6 ≤ length w = omega (arith, words-inside w i h) in
     let n : 6 * i + 6 ≡ 6 * suc i = omega arith in
     let k : i ≤ length (records w) = omega arith in
-    simp towards-suc
-    (ap records (sets-eq (six x) w (6 * i) inside)
-    ∙ rw (append-assoc, records-join i w (six x ++ drop (6 * i + 6) w) k, n, records-drop (suc i) w, set-split (records w) i x h))
+    ap records (sets-eq (six x) w (6 * i) inside)
+    ∙ rw (append-assoc, records-join i w (six x ++ drop (6 * i + 6) w) k, n, records-drop (suc i) w, set-split (records w) i x h)
 
 -- the other way
 pub records-words : (xs : List Record) → records (words xs) ≡ xs
@@ -161,5 +148,5 @@ records-small = by-sixes HoldsSmall short more
     more a b c d e f w again small x m = go (List·Memᴰ·cases-cons m)
       where
         go : (x ≡ record { size = a; set = b; path = c; bound = d; first = e; second = f }) ⊎ In x (records w) → Small x
-        go (inl e) = subst Small (sym e) (record { size = small 0; set = small 1; path = small 2; bound = small 3; first = small 4; second = small 5 })
+        go (inl e) = rw e (record { size = small 0; set = small 1; path = small 2; bound = small 3; first = small 4; second = small 5 })
         go (inr n) = again (λ i. small (suc (suc (suc (suc (suc (suc i))))))) x n

@@ -9,7 +9,7 @@ use lib.ListN.{length}
 use Rattle.lists.specs.Lists.{sum}
 use Rattle.search.specs.Problem.{Problem, Choices, State, start}
 use Rattle.search.specs.Selection.{chosen}
-use Rattle.search.specs.Run.{Steps, }
+use Rattle.search.specs.Run.{Steps}
 use Rattle.search.proofs.General.{pick, kids, move, Reached, here, then}
 use Rattle.search.proofs.Laws.{Weighs}
 use Rattle.search.proofs.Pick.{picked-of, picked-sum}
