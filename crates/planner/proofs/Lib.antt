@@ -7,3 +7,9 @@ pub mod Tested
 pub mod Demand3
 pub mod Demand3Pairs
 pub mod RecordRun
+pub mod StepLaws
+pub mod FamilyLaws
+pub mod OrderLaws
+pub mod BestLaws
+pub mod StepShown
+pub mod StepAfter

@@ -7,3 +7,4 @@ pub mod OrderWords
 pub mod Mask
 pub mod Encode
 pub mod EncodeLaws
+pub mod PoolWords
