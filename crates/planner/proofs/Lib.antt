@@ -13,3 +13,5 @@ pub mod OrderLaws
 pub mod BestLaws
 pub mod StepShown
 pub mod StepAfter
+pub mod SurvivorLaws
+pub mod ReplaceLaws

@@ -4,3 +4,4 @@ pub mod Answer
 pub mod Cases
 pub mod OwnCases
 pub mod OnRecords
+pub mod Promise

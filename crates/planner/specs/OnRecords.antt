@@ -10,25 +10,29 @@
 use mathlib.Core.Path.{_≡_}
 use mathlib.Core.Bool.{Bool, true, false, cond}
 use mathlib.Core.List.{List, [], _∷_, map, reverse}
-use mathlib.Core.Option.{Option, none, some}
+use mathlib.Core.Logic.{_⊎_}
+use mathlib.Core.Option.{Option, none, some, Option·map}
 use Prim.Native.Nat.{ℕ, _+_, _-_, _^_, _/_, _%_, _≤_, _<_}
 use lib.Dec.{T, ltb, eqb}
 use lib.ListN.{length, getD, take, drop, set}
 use Rattle.lists.specs.Lists.{In, keep}
-use Rattle.search.specs.Problem.{Problem, Choices, State}
+use Rattle.search.specs.Problem.{Problem, Choices, State, start}
 use Rattle.search.specs.Step.{on, step}
-use Rattle.search.specs.Run.{held}
-use Rattle.orders.specs.Orders.{Node, Partial}
+use Rattle.search.specs.Run.{held, Steps, finish, overflow, go, next}
+use Rattle.orders.specs.Orders.{Node, Partial, Order}
 use Rattle.stops.specs.Legs.{rowLeg, legs}
 use Rattle.stops.specs.Record.{emptyRecord, extended, lastStop, recDominates, stopsIn, ahead, Within}
-use Rattle.stops.specs.Stops.{aboveEveryCost}
+use Rattle.stops.specs.Stops.{aboveEveryCost, problem, choices}
 use Rattle.stops.specs.declared.node.Node.{Node as Record}
 use Rattle.pool.specs.View.{records, encode}
 use Rattle.pool.specs.Passes.{isWithin, isFree, isStaying, dropAt}
 use Rattle.planner.specs.declared.best.Best.{Best}
 use Rattle.planner.specs.declared.step.Run.{Run}
 use Rattle.planner.specs.declared.step.After.{After}
-use Rattle.planner.specs.declared.step.After.the-variants.{Full, Go}
+use Rattle.planner.specs.declared.step.After.the-variants.{Full as FullAfter, Go as GoAfter}
+use Rattle.planner.specs.declared.run.Turn.{Turn}
+use Rattle.planner.specs.declared.run.Turn.the-variants.{Finish, Full, Go}
+use Rattle.planner.specs.Answer.{given}
 
 abbrev pub Table : Type 0
 Table = List (List ℕ)
@@ -145,6 +149,36 @@ stepOf n t k rules i b s = step (recProblem n t k) (recChoices 0 rules) s b (dro
 -- what a step gives, of any state that was shown: the nodes to keep would outnumber the records, and the pool is as it was; or they
 -- do not, and what is shown is the state after the step
 abbrev pub Stepping : ℕ → List (List ℕ) → ℕ → ℕ → ℕ → Record → List ℕ → List ℕ → State Record → After → Type 0
-Stepping n t k rules i b w w′ s Full = (length (records w) < length (held rules (stepOf n t k rules i b s))) × (w′ ≡ w)
-Stepping n t k rules i b w w′ s (Go r) =
+Stepping n t k rules i b w w′ s FullAfter = (length (records w) < length (held rules (stepOf n t k rules i b s))) × (w′ ≡ w)
+Stepping n t k rules i b w w′ s (GoAfter r) =
     (length (held rules (stepOf n t k rules i b s)) ≤ length (records w)) × Shown rules w′ r (stepOf n t k rules i b s)
+
+-- a state with each node as its record
+unfoldable pub recordsOf : ℕ → Table → ℕ → State Node → State Record
+recordsOf n t k s = record {
+  active = map (encode n (legs t) k) (s .active);
+  branched = map (encode n (legs t) k) (s .branched);
+  best = Option·map (encode n (legs t) k) (s .best);
+  generated = s .generated;
+  eliminated = s .eliminated;
+  most = s .most;
+}
+
+-- the run of some choices from a starting order goes on: s is one of its states, and the pool and r show it
+pub record Running (n : ℕ) (t : Table) (selection rules k : ℕ) (first : List ℕ) (w : List ℕ) (r : Run) (s : State Node) : Type 0 where
+  pub rows : Rows n t k
+  pub selects : selection ≤ 3
+  pub starts : (first ≡ []) ⊎ Order n first
+  pub steps :
+      Steps (problem n (legs t)) (choices n (legs t) selection rules k) (length (records w)) (start (problem n (legs t)) (given first)) s
+  pub shows : Shown rules w r (recordsOf n t k s)
+
+-- what comes next of a state, as the written run has it: it is finished or the pool is full, and the pool is as it was; or it shows the next state
+abbrev pub Turned : ℕ → Table → ℕ → ℕ → ℕ → List ℕ → List ℕ → State Node → Turn → Type 0
+Turned n t selection rules k w w′ s Finish =
+    (next (problem n (legs t)) (choices n (legs t) selection rules k) (length (records w)) s ≡ finish) × (w′ ≡ w)
+Turned n t selection rules k w w′ s Full =
+    (next (problem n (legs t)) (choices n (legs t) selection rules k) (length (records w)) s ≡ overflow) × (w′ ≡ w)
+Turned n t selection rules k w w′ s (Go r) =
+    (s′ : State Node) × (next (problem n (legs t)) (choices n (legs t) selection rules k) (length (records w)) s ≡ go s′)
+    × Shown rules w′ r (recordsOf n t k s′)

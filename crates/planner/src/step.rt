@@ -1,6 +1,6 @@
 // One step, in its seven parts.
 ghost use mathlib.Core.Path.{_≡_};
-ghost use mathlib.Core.Bool.{not, cond, _&&_};
+ghost use mathlib.Core.Bool.{not, cond, _&&_, _||_};
 ghost use mathlib.Core.List.{_++_};
 ghost use Prim.Native.Nat.{ℕ, _+_, _-_, _^_, _≤_, _<_, max};
 ghost use lib.Dec.{T, leb, ltb, eqb};
@@ -8,9 +8,10 @@ ghost use lib.ListN.{length, take, drop, set};
 ghost use Rattle.lists.specs.Lists.{keep};
 ghost use Rattle.search.specs.Problem.{State};
 ghost use Rattle.search.specs.Step.{on};
+ghost use Rattle.stops.specs.Stops.{aboveEveryCost};
 ghost use Rattle.stops.specs.declared.node.Node.{Node as Record};
 ghost use Rattle.pool.specs.View.{records};
-ghost use Rattle.pool.specs.Passes.{dropAt, isStaying};
+ghost use Rattle.pool.specs.Passes.{Sifted, dropAt, isWithin, isFree, isStaying};
 ghost use Rattle.planner.specs.OnRecords.{Ready, Shown, Stepping, Active, survivorsOf, stayingOf, heldWith};
 use crate::best::Best;
 use crate::best::learn;
@@ -42,8 +43,49 @@ pub enum After {
     Go(Run),
 }
 
-// Parts 3, 4 and 5 on the first m children: how many are left, at the front. The active records are the first a, without that at i;
-// the branched ones are the last `held` of count.
+// Part 3 on the first m children: how many are left, at the front.
+fn by_rule_1(kids: &mut [u32], m: usize, rules: u32, limit: u32) -> usize
+    requires { ⌜ m ≤ length (records (now kids)) ⌝ }
+    ensures { λ r. ⌜ Sifted (λ x. not (on 1 rules) || isWithin limit x) (records (now (kids .entry))) 0 m 0 (records (now (kids .exit))) r ⌝ }
+{
+    if rules % 2 == 1 {
+        return within(kids, m, limit);
+    }
+    m
+}
+
+// Part 4 on the first m children. The active records are the first a, without that at i.
+fn by_rule_2(
+    kids: &mut [u32],
+    m: usize,
+    w: &[u32],
+    a: usize,
+    i: usize,
+    rules: u32,
+    limit: u32,
+) -> usize
+    requires { ⌜ (m ≤ length (records (now kids))) × ((i < a) × (a ≤ length (records (now w)))) ⌝ }
+    ensures { λ r. ⌜ Sifted (λ x. not (on 2 rules) || isFree limit (dropAt i (take a (records (now (w .entry))))) x) (records (now (kids .entry))) 0 m 0 (records (now (kids .exit))) r ⌝ }
+{
+    if rules / 2 % 2 == 1 {
+        let left = undominated(kids, m, w, 0, i, limit);
+        return undominated(kids, left, w, i + 1, a, limit);
+    }
+    m
+}
+
+// Part 5 on the first m children. The branched records are the last `held` of count.
+fn by_rule_4(kids: &mut [u32], m: usize, w: &[u32], count: usize, held: usize, rules: u32) -> usize
+    requires { ⌜ (m ≤ length (records (now kids))) × ((count ≡ length (records (now w))) × (held ≤ count)) ⌝ }
+    ensures { λ r. ⌜ Sifted (λ x. not (on 4 rules) || isFree aboveEveryCost (drop (count - held) (records (now (w .entry)))) x) (records (now (kids .entry))) 0 m 0 (records (now (kids .exit))) r ⌝ }
+{
+    if rules / 4 % 2 == 1 {
+        return undominated(kids, m, w, count - held, count, 4_294_967_295);
+    }
+    m
+}
+
+// Parts 3, 4 and 5, one after the other: how many of the first m children are left, at the front. A rule that is off costs its test alone.
 fn survivors(
     kids: &mut [u32],
     m: usize,
@@ -58,18 +100,9 @@ fn survivors(
     requires { ⌜ (m ≤ length (records (now kids))) × ((count ≡ length (records (now w))) × ((i < a) × ((a ≤ count) × (held ≤ count)))) ⌝ }
     ensures { λ r. ⌜ (take r (records (now (kids .exit))) ≡ survivorsOf rules limit (dropAt i (take a (records (now (w .entry))))) (drop (count - held) (records (now (w .entry)))) (take m (records (now (kids .entry))))) × ((r ≤ m) × (r ≡ length (survivorsOf rules limit (dropAt i (take a (records (now (w .entry))))) (drop (count - held) (records (now (w .entry)))) (take m (records (now (kids .entry))))))) ⌝ }
 {
-    let mut left = m;
-    if rules % 2 == 1 {
-        left = within(kids, left, limit);
-    }
-    if rules / 2 % 2 == 1 {
-        left = undominated(kids, left, w, 0, i, limit);
-        left = undominated(kids, left, w, i + 1, a, limit);
-    }
-    if rules / 4 % 2 == 1 {
-        left = undominated(kids, left, w, count - held, count, 4_294_967_295);
-    }
-    left
+    let within_limit = by_rule_1(kids, m, rules, limit);
+    let free = by_rule_2(kids, within_limit, w, a, i, rules, limit);
+    by_rule_4(kids, free, w, count, held, rules)
 }
 
 // How many of the first a records but that at i stay active.
@@ -95,7 +128,7 @@ fn fits(
     held: usize,
     all: bool,
 ) -> bool
-    requires { ⌜ Active (records (now w)) a i (records (now kids)) taking × ((T all → length (stayingOf (records (now w)) a i limit (records (now kids)) taking) ≡ a - 1) × ((left ≤ 16) × (held ≤ a + count))) ⌝ }
+    requires { ⌜ Active (records (now w)) a i (records (now kids)) taking × ((T all → length (stayingOf (records (now w)) a i limit (records (now kids)) taking) ≡ a - 1) × ((left ≤ 16) × (held ≤ a + length (records (now w))))) ⌝ }
     ensures { λ r. ⌜ r ≡ leb (length (stayingOf (records (now (w .entry))) a i limit (records (now (kids .entry))) taking) + left + held) count ⌝ }
 {
     let most = a - 1 + left + held;

@@ -19,7 +19,7 @@ use Rattle.stops.specs.declared.node.Node.{Node as Record}
 use Rattle.pool.specs.Passes.{Sifted}
 
 module _ {A : Type 0} where
-  keep-append : (test : A → Bool) (xs ys : List A) → keep test (xs ++ ys) ≡ keep test xs ++ keep test ys
+  pub keep-append : (test : A → Bool) (xs ys : List A) → keep test (xs ++ ys) ≡ keep test xs ++ keep test ys
   keep-append test [] ys = refl
   keep-append test (x ∷ xs) ys = go (test x) (keep-append test xs ys)
     where
