@@ -15,3 +15,5 @@ pub mod StepShown
 pub mod StepAfter
 pub mod SurvivorLaws
 pub mod ReplaceLaws
+pub mod ExpandLaws
+pub mod CauseLaws

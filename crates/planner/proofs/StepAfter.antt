@@ -21,7 +21,7 @@ use Rattle.planner.specs.declared.step.Run.{Run}
 use Rattle.planner.proofs.StepLaws.{Bounded, eliminated-are}
 use Rattle.planner.proofs.StepShown.{Stage, stage-active, active-number, stage-kept}
 
-dropped-length : (i : ℕ) (xs : List Record) → i < length xs → length (dropAt i xs) ≡ length xs - 1
+pub dropped-length : (i : ℕ) (xs : List Record) → i < length xs → length (dropAt i xs) ≡ length xs - 1
 unfolding dropAt
 dropped-length i xs h = length-append (take i xs) (drop (suc i) xs) ∙ (let p : length (take i xs) ≡ min i (length xs) = length-take i xs in omega (arith, length-drop (suc i) xs))
 
@@ -110,9 +110,9 @@ module _
       far = shown-far;
       held-number = far-number (on 4 rules) (stage .holds) (shown .held-number);
       fits = omega (arith, whole);
-      best = stage .learnt (s .best) (shown .best);
+      best = stage .expansion .learnt (s .best) (shown .best);
       branched = omega (arith, shown .branched, length-append (s .branched) (b ∷ []));
-      generated = omega (arith, shown .generated, stage .number);
+      generated = omega (arith, shown .generated, stage .expansion .number);
       eliminated = eliminated-number;
       most = ap₂ max (shown .most) (number ∙ sym (active-number stage small ready s shown));
     }
@@ -135,5 +135,5 @@ module _
               shown .eliminated,
               dropped-length i (s .active) (let q : i < length (s .active) = omega (arith, ready .inside, shown .number) in q),
               shown .number,
-              stage .number,
+              stage .expansion .number,
             )

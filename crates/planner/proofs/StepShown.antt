@@ -25,23 +25,16 @@ use Rattle.stops.specs.Stops.{aboveEveryCost}
 use Rattle.stops.specs.declared.node.Node.{Node as Record}
 use Rattle.pool.specs.View.{records}
 use Rattle.pool.specs.Passes.{dropAt, isStaying}
-use Rattle.planner.specs.OnRecords.{Table, recProblem, recChoices, childrenOf, survivorsOf, stayingOf, heldWith, farOf, IsBest, Ready, Shown, Stepping, stepOf}
+use Rattle.planner.specs.OnRecords.{Table, recProblem, recChoices, childrenOf, survivorsOf, stayingOf, heldWith, farOf, IsBest, Ready, Shown, Expansion, stepOf}
 use Rattle.planner.specs.declared.best.Best.{Best}
 use Rattle.planner.specs.declared.step.Run.{Run}
 use Rattle.planner.proofs.StepLaws.{Bounded, survivors-are, staying-are, eliminated-are}
 
 -- what the functions of a step gave, of the pool w, b at i and the run r
-pub record Stage (n : ℕ) (t : Table) (k rules : ℕ) (w : List ℕ) (i : ℕ) (b : Record) (r : Run)
-    (m : ℕ) (best : Best) (limit : ℕ) (kids : List Record) (left taking now-held : ℕ) : Type 0 where
-  pub number : m ≡ length (childrenOf n t k b)
-  pub learnt : (o : Option Record) → IsBest (r .best) o → IsBest best (learn (recProblem n t k) o (childrenOf n t k b))
-  pub limited : limit ≡ cond (on 1 rules) (best .upper) aboveEveryCost
-  pub survivors :
-      take left kids
-      ≡ survivorsOf rules limit (dropAt i (take (r .active) (records w))) (drop (length (records w) - r .held) (records w)) (childrenOf n t k b)
-  pub left-number :
-      left
-      ≡ length (survivorsOf rules limit (dropAt i (take (r .active) (records w))) (drop (length (records w) - r .held) (records w)) (childrenOf n t k b))
+pub record Stage
+    (n : ℕ) (t : Table) (k rules : ℕ) (w : List ℕ) (i : ℕ) (b : Record) (r : Run) (m : ℕ) (best : Best) (limit : ℕ) (kids : List Record)
+    (left taking now-held : ℕ) : Type 0 where
+  pub expansion : Expansion n t k rules w i b r m best limit kids left
   pub take-part : taking ≡ cond (on 8 rules) left 0
   pub holds : now-held ≡ cond (on 4 rules) (r .held + 1) 0
 
@@ -86,17 +79,17 @@ module _
 
       same-upper : upper (recProblem n t k) (best₂ (recProblem n t k) (recChoices 0 rules) s b rest) ≡ best .upper
       unfolding best₂ children₁ recProblem
-      same-upper = upper-best n t k best (learn (recProblem n t k) (s .best) (childrenOf n t k b)) (stage .learnt (s .best) (shown .best))
+      same-upper = upper-best n t k best (learn (recProblem n t k) (s .best) (childrenOf n t k b)) (stage .expansion .learnt (s .best) (shown .best))
 
       same-limit : cond (on 1 rules) (upper (recProblem n t k) (best₂ (recProblem n t k) (recChoices 0 rules) s b rest)) aboveEveryCost ≡ limit
-      same-limit = ap (λ (u : ℕ). cond (on 1 rules) u aboveEveryCost) same-upper ∙ sym (stage .limited)
+      same-limit = ap (λ (u : ℕ). cond (on 1 rules) u aboveEveryCost) same-upper ∙ sym (stage .expansion .limited)
 
       same-survivors : children₅ (recProblem n t k) (recChoices 0 rules) s b rest ≡ take left kids
       unfolding rest
       same-survivors =
           survivors-are n t k rules s b rest (drop (length (records w) - r .held) (records w)) rest-bounded far-bounded (shown .far)
           ∙ ap (λ (u : ℕ). survivorsOf rules u rest (drop (length (records w) - r .held) (records w)) (childrenOf n t k b)) same-limit
-          ∙ sym (stage .survivors)
+          ∙ sym (stage .expansion .survivors)
 
       same-staying : rest₆ (recProblem n t k) (recChoices 0 rules) s b rest ≡ stayingOf (records w) (r .active) i limit kids taking
       unfolding rest stayingOf
@@ -119,7 +112,7 @@ module _
           ∙ ap₂ (λ (xs ys : List Record). xs ++ ys) same-staying same-survivors
 
       left-taken : length (take left kids) ≡ left
-      left-taken = ap length (stage .survivors) ∙ sym (stage .left-number)
+      left-taken = ap length (stage .expansion .survivors) ∙ sym (stage .expansion .left-number)
 
       pub active-number : length (stepOf n t k rules i b s .active) ≡ length (stayingOf (records w) (r .active) i limit kids taking) + left
       active-number =
@@ -168,4 +161,4 @@ module _
         go false e tidy fell x m = let q : x .bound ≤ aboveEveryCost = small x (in-take (r .active) (records w) x (inside x m)) in omega arith
 
         below : (x : Record) → In x (dropAt i (take (r .active) (records w))) → x .bound ≤ limit
-        below = go (on 1 rules) (stage .limited) (ready .tidy) (and-right (eqb taking 0) (not (on 1 rules && ltb (best .upper) (r .best .upper))) h)
+        below = go (on 1 rules) (stage .expansion .limited) (ready .tidy) (and-right (eqb taking 0) (not (on 1 rules && ltb (best .upper) (r .best .upper))) h)

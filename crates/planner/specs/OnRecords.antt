@@ -17,7 +17,7 @@ use lib.Dec.{T, ltb, eqb}
 use lib.ListN.{length, getD, take, drop, set}
 use Rattle.lists.specs.Lists.{In, keep}
 use Rattle.search.specs.Problem.{Problem, Choices, State, start}
-use Rattle.search.specs.Step.{on, step}
+use Rattle.search.specs.Step.{on, learn, step}
 use Rattle.search.specs.Run.{held, Steps, finish, overflow, go, next}
 use Rattle.orders.specs.Orders.{Node, Partial, Order}
 use Rattle.stops.specs.Legs.{rowLeg, legs}
@@ -141,6 +141,22 @@ pub record Ready (n : ℕ) (t : List (List ℕ)) (k rules : ℕ) (w : List ℕ) 
   pub partial : b .size < n
   pub tidy : T (on 1 rules) → (x : Record) → In x (take (r .active) (records w)) → x .bound ≤ r .best .upper
   pub room : r .generated + r .eliminated + r .branched < 2 ^ 62
+
+-- what parts 1 to 5 give: m children, U and the limit of rule 1 after part 2, and the survivors at the front of kids
+pub record Expansion (n : ℕ) (t : Table) (k rules : ℕ) (w : List ℕ) (i : ℕ) (b : Record) (r : Run) (m : ℕ) (best : Best) (limit : ℕ)
+    (kids : List Record) (left : ℕ) : Type 0 where
+  pub number : m ≡ length (childrenOf n t k b)
+  pub few : m ≤ 16
+  pub learnt : (o : Option Record) → IsBest (r .best) o → IsBest best (learn (recProblem n t k) o (childrenOf n t k b))
+  pub limited : limit ≡ cond (on 1 rules) (best .upper) aboveEveryCost
+  pub survivors :
+      take left kids
+      ≡ survivorsOf rules limit (dropAt i (take (r .active) (records w))) (drop (length (records w) - r .held) (records w)) (childrenOf n t k b)
+  pub left-number :
+      left
+      ≡ length (survivorsOf rules limit (dropAt i (take (r .active) (records w))) (drop (length (records w) - r .held) (records w)) (childrenOf n t k b))
+  pub fewer : left ≤ m
+  pub room : 16 ≤ length kids
 
 -- the written step of a record at place i
 unfoldable pub stepOf : ℕ → List (List ℕ) → ℕ → ℕ → ℕ → Record → State Record → State Record

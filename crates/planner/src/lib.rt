@@ -2,6 +2,7 @@
 // specs/Answer says what `plan` answers; specs/OnRecords is the code's own.
 ghost use mathlib.Core.Path.{_≡_};
 ghost use Rattle.planner.specs.Answer.{answer};
+ghost use Rattle.planner.specs.Checks.{cause};
 ghost use Rattle.planner.specs.Promise.{callOf, reportOf};
 
 pub mod best;
@@ -17,6 +18,57 @@ use crate::run::search;
 use stops::table::diagonal;
 use stops::table::small;
 
+// The number of the first of causes 1 to 6 that applies to a call, 0 if none does.
+fn cause_of(
+    n: u32,
+    table: &[u32],
+    selection: u32,
+    rules: u32,
+    bound: u32,
+    start: &[u8],
+    pool: &[u32],
+) -> u32
+    ensures { λ r. ⌜ r ≡ cause (callOf n (now (table .entry)) selection rules bound (now (start .entry)) (now (pool .entry))) ⌝ }
+{
+    if n == 0 {
+        return 1;
+    }
+    if 16 < n {
+        return 1;
+    }
+    let side = (n + 1) as usize;
+    if table.len() != side * side {
+        return 2;
+    }
+    if !small(table) {
+        return 3;
+    }
+    if !diagonal(n as usize, table) {
+        return 3;
+    }
+    if 3 < selection {
+        return 4;
+    }
+    if 15 < rules {
+        return 4;
+    }
+    if 1 < bound {
+        return 4;
+    }
+    if start.len() != 0 {
+        if !is_order(n, start) {
+            return 5;
+        }
+    }
+    if pool.len() < 6 {
+        return 6;
+    }
+    if pool.len() % 6 != 0 {
+        return 6;
+    }
+    0
+}
+
 // Puts the stops 1 to n into the cheapest order. The report and the pool's words are what document 01's run gives, over all inputs.
 pub fn plan(
     n: u32,
@@ -29,41 +81,9 @@ pub fn plan(
 ) -> Report
     ensures { λ r. ⌜ record { report = reportOf r; pool = now (pool .exit) } ≡ answer (callOf n (now (table .entry)) selection rules bound (now (start .entry)) (now (pool .entry))) ⌝ }
 {
-    if n == 0 {
-        return refused(1);
-    }
-    if 16 < n {
-        return refused(1);
-    }
-    let side = (n + 1) as usize;
-    if table.len() != side * side {
-        return refused(2);
-    }
-    if !small(table) {
-        return refused(3);
-    }
-    if !diagonal(n as usize, table) {
-        return refused(3);
-    }
-    if 3 < selection {
-        return refused(4);
-    }
-    if 15 < rules {
-        return refused(4);
-    }
-    if 1 < bound {
-        return refused(4);
-    }
-    if start.len() != 0 {
-        if !is_order(n, start) {
-            return refused(5);
-        }
-    }
-    if pool.len() < 6 {
-        return refused(6);
-    }
-    if pool.len() % 6 != 0 {
-        return refused(6);
+    let number = cause_of(n, table, selection, rules, bound, start, pool);
+    if number != 0 {
+        return refused(number);
     }
     search(n, table, selection, rules, bound, start, pool)
 }

@@ -12,7 +12,7 @@ ghost use Rattle.stops.specs.Stops.{aboveEveryCost};
 ghost use Rattle.stops.specs.declared.node.Node.{Node as Record};
 ghost use Rattle.pool.specs.View.{records};
 ghost use Rattle.pool.specs.Passes.{Sifted, dropAt, isWithin, isFree, isStaying};
-ghost use Rattle.planner.specs.OnRecords.{Ready, Shown, Stepping, Active, survivorsOf, stayingOf, heldWith};
+ghost use Rattle.planner.specs.OnRecords.{Ready, Shown, Stepping, Expansion, Active, survivorsOf, stayingOf, heldWith};
 use crate::best::Best;
 use crate::best::learn;
 use crate::family::family;
@@ -251,6 +251,45 @@ fn counted(r: Run, best: Best, m: usize, active: usize, held: usize) -> Run
     }
 }
 
+// What parts 1 to 5 of a step give: how many children there are and how many of them survive, the limit of rule 1, and U.
+struct Expanded {
+    count: usize,
+    left: usize,
+    limit: u32,
+    best: Best,
+}
+
+// Parts 1 to 5 of the step of b, which stands at i: the survivors stand at the front of kids.
+fn expand(
+    t: [[u32; 17]; 17],
+    n: u32,
+    rules: u32,
+    number: u32,
+    w: &[u32],
+    i: usize,
+    b: Node,
+    r: Run,
+    kids: &mut [u32],
+) -> Expanded
+    requires { ⌜ Ready n t number rules (now w) i b r × (16 ≤ length (records (now kids))) ⌝ }
+    ensures { λ e. ⌜ Expansion n t number rules (now (w .entry)) i b r (e .count) (e .best) (e .limit) (records (now (kids .exit))) (e .left) ⌝ }
+{
+    let records = w.len() / 6;
+    let a = r.active;
+    let far = r.held;
+    let known = r.best;
+    let m = family(t, n, number, b, kids);
+    let best = learn(kids, m, n, known);
+    let limit = limit_of(rules, best.upper);
+    let left = survivors(kids, m, w, records, a, i, far, rules, limit);
+    Expanded {
+        count: m,
+        left: left,
+        limit: limit,
+        best: best,
+    }
+}
+
 // The step of b, which stands at i. Nothing is written to the pool before it is known that the step fits.
 pub fn step(
     t: [[u32; 17]; 17],
@@ -269,20 +308,18 @@ pub fn step(
     let a = r.active;
     let far = r.held;
     let known = r.best;
-    let was = known.upper;
     let mut kids = [0u32; 96];
-    let m = family(t, n, number, b, &mut kids);
-    let best = learn(&kids, m, n, known);
-    let upper = best.upper;
-    let limit = limit_of(rules, upper);
-    let left = survivors(&mut kids, m, w, count, a, i, far, rules, limit);
+    let e = expand(t, n, rules, number, w, i, b, r, &mut kids);
+    let left = e.left;
+    let limit = e.limit;
+    let best = e.best;
     let taking = taking_of(rules, left);
     let held = holding(rules, far);
-    let all = all_stay(rules, was, upper, taking);
+    let all = all_stay(rules, known.upper, best.upper, taking);
     if !fits(w, count, a, i, limit, &kids, left, taking, held, all) {
         return After::Full;
     }
     let active = replace(w, a, i, limit, &kids, left, taking, all);
     hold(w, count, held, b);
-    After::Go(counted(r, best, m, active, held))
+    After::Go(counted(r, best, e.count, active, held))
 }

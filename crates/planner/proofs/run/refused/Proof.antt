@@ -1,0 +1,13 @@
+-- `refused` meets its contract: each field is the one that `refusal` names. Assumes nothing.
+use mathlib.Core.Path.{refl}
+use Rattle.planner.specs.Call.{refusal}
+use Rattle.planner.specs.Promise.{reportOf}
+use Rattle.planner.proofs.run.refused.Statement.{statement}
+use Rattle.planner.proofs.run.refused.Tie as tie
+
+returns : tie.Need-returns
+unfolding reportOf refusal
+returns c = refl
+
+pub refused-spec : {M : Type 1} → statement M
+refused-spec = tie.close (tie.spec returns)
