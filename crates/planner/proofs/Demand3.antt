@@ -39,13 +39,13 @@ pub record Cheapest (c : Call) (r : Report) : Type 0 where
   pub least : (y : Node) → In y (orders (c .n)) → r .cost ≤ cost (legsOf c) y
 
 -- the state of a finished run knows an order, and none is cheaper
-record Solved (c : Call) (s : State Node) : Type 0 where
-  x : Node
-  best : s .best ≡ some x
-  order : Order (c .n) x
-  least : (y : Node) → Order (c .n) y → cost (legsOf c) x ≤ cost (legsOf c) y
+pub record Solved (c : Call) (s : State Node) : Type 0 where
+  pub x : Node
+  pub best : s .best ≡ some x
+  pub order : Order (c .n) x
+  pub least : (y : Node) → Order (c .n) y → cost (legsOf c) x ≤ cost (legsOf c) y
 
-solved : (c : Call) (f : Finished c) → Solved c (f .state)
+pub solved : (c : Call) (f : Finished c) → Solved c (f .state)
 unfolding problemOf problem
 solved c f =
     let ok : Passes c = passes c (f .passed) in

@@ -17,3 +17,8 @@ pub mod SurvivorLaws
 pub mod ReplaceLaws
 pub mod ExpandLaws
 pub mod CauseLaws
+pub mod Returns
+pub mod StartLaws
+pub mod TurnLaws
+pub mod SearchLaws
+pub mod EndLaws

@@ -47,7 +47,7 @@ module _ (n : ℕ) (few : n ≤ 16) (t : List (List ℕ)) (k : ℕ) (number : k 
   unfolding set flown
   empty-set = keep-none (stops n)
 
-  encode-root : rootOf n t k ≡ encode n (legs t) k []
+  pub encode-root : rootOf n t k ≡ encode n (legs t) k []
   unfolding rootOf bounded emptyRecord encode path last mask
   encode-root = λ i. record { size = sym none i; set = sym unset i; path = 0; bound = bound i; first = 0; second = 0 }
     where

@@ -52,7 +52,7 @@ in-dropAt i xs x m = go (List·Memᴰ·append-cases (take i xs) m)
     go (inl h) = in-take i xs x h
     go (inr h) = in-drop (suc i) xs x h
 
-upper-best : (n : ℕ) (t : Table) (k : ℕ) (b : Best) (o : Option Record) → IsBest b o → upper (recProblem n t k) o ≡ b .upper
+pub upper-best : (n : ℕ) (t : Table) (k : ℕ) (b : Best) (o : Option Record) → IsBest b o → upper (recProblem n t k) o ≡ b .upper
 unfolding recProblem
 upper-best n t k b none h = sym (h .0)
 upper-best n t k b (some x) h = sym (h .0)

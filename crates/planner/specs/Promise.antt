@@ -1,7 +1,9 @@
 -- The planner's promise in words of its code: the call that the arguments make up, and the report as `Call` has it. Assumes nothing.
+use mathlib.Core.Path.{_≡_}
 use mathlib.Core.List.{List}
 use Prim.Native.Nat.{ℕ}
-use Rattle.planner.specs.Call.{Call, Report}
+use Rattle.planner.specs.Call.{Call, Report, Answer}
+use Rattle.planner.specs.Answer.{answer}
 use Rattle.planner.specs.declared.run.Report.{Report as Returned}
 
 unfoldable pub callOf : ℕ → List ℕ → ℕ → ℕ → ℕ → List ℕ → List ℕ → Call
@@ -19,3 +21,7 @@ reportOf r = record {
   active = r .active;
   most = r .most;
 }
+
+-- What the planner promises of a call: the report that it returns and the words that it leaves in the pool are those of `answer`.
+abbrev pub Promised : Call → Returned → List ℕ → Type 0
+Promised c r pool = _≡_ {A = Answer} (record { report = reportOf r; pool = pool }) (answer c)

@@ -1,9 +1,8 @@
 // The planner: `plan` is open to a caller; every other function is public for this crate alone, and what it requires its callers meet.
 // specs/Answer says what `plan` answers; specs/OnRecords is the code's own.
 ghost use mathlib.Core.Path.{_≡_};
-ghost use Rattle.planner.specs.Answer.{answer};
 ghost use Rattle.planner.specs.Checks.{cause};
-ghost use Rattle.planner.specs.Promise.{callOf, reportOf};
+ghost use Rattle.planner.specs.Promise.{callOf, Promised};
 
 pub mod best;
 pub mod family;
@@ -79,7 +78,7 @@ pub fn plan(
     start: &[u8],
     pool: &mut [u32],
 ) -> Report
-    ensures { λ r. ⌜ record { report = reportOf r; pool = now (pool .exit) } ≡ answer (callOf n (now (table .entry)) selection rules bound (now (start .entry)) (now (pool .entry))) ⌝ }
+    ensures { λ r. ⌜ Promised (callOf n (now (table .entry)) selection rules bound (now (start .entry)) (now (pool .entry))) r (now (pool .exit)) ⌝ }
 {
     let number = cause_of(n, table, selection, rules, bound, start, pool);
     if number != 0 {

@@ -1,5 +1,6 @@
 -- What the outcomes of a run mean.
 --   Ended, search-ended             the general run: the state that stands is reached, and its verdict is the outcome's
+--   next-stepped, next-overflows    what comes next of a state, as a step or as a step that does not fit
 --   full-means, overflow-full       the pool is called full when, and only when, some steps come to such a state: the first of them
 --   finished-means, finish-finished, finish-whatever-pool    the run is finished just at the state that the finish test ends, in any pool
 --   steps-reached, reached-steps    what is proved of reached states is true of the states of the written run
@@ -72,6 +73,12 @@ module _ {N : Type 0} (P : Problem N) (C : Choices N) (records : ℕ) where
           cases true o goes over fits = tt
           cases false true goes over fits = record { b = b; rest = rest; selects = e; goes = goes tt; outnumber = over tt }
           cases false false goes over fits = record { b = b; rest = rest; selects = e; goes = goes tt; fits = fits tt; steps = refl }
+
+  pub next-stepped : {s s′ : State N} → next P C records s ≡ go s′ → Stepped P C records s s′
+  next-stepped {s} e = subst (Says s) e (next-says s)
+
+  pub next-overflows : {s : State N} → next P C records s ≡ overflow → Overflows P C records s
+  next-overflows {s} e = subst (Says s) e (next-says s)
 
   -- a step that the finish test lets through is put to the pool
   goes-next :

@@ -1,0 +1,63 @@
+//! Tables to time on, by seed: uniform legs, and points in the plane with a
+//! wind that differs by place.
+
+struct Random(u64);
+
+impl Random {
+    fn next(&mut self) -> u64 {
+        self.0 = self.0.wrapping_add(0x9E37_79B9_7F4A_7C15);
+        let mut z = self.0;
+        z = (z ^ (z >> 30)).wrapping_mul(0xBF58_476D_1CE4_E5B9);
+        z = (z ^ (z >> 27)).wrapping_mul(0x94D0_49BB_1331_11EB);
+        z ^ (z >> 31)
+    }
+
+    fn unit(&mut self) -> f64 {
+        (self.next() >> 11) as f64 / (1u64 << 53) as f64
+    }
+}
+
+pub fn table(kind: &str, n: usize, seed: u64) -> Vec<u32> {
+    let mut random = Random(seed * 1000 + n as u64);
+    let places: Vec<[f64; 4]> = (0..=n).map(|_| [random.unit(), random.unit(), random.unit() - 0.5, random.unit() - 0.5]).collect();
+    let mut table = vec![0; (n + 1) * (n + 1)];
+    for i in 0..=n {
+        for j in 0..=n {
+            if i != j {
+                let uniform = (random.unit() * 1001.0) as u32;
+                table[i * (n + 1) + j] = if kind == "uniform" { uniform } else { windy(&places[i], &places[j]) };
+            }
+        }
+    }
+    table
+}
+
+/// The time to fly at speed 1 in the mean of the two places' winds, which are half a unit strong at most.
+fn windy(from: &[f64; 4], to: &[f64; 4]) -> u32 {
+    let (dx, dy) = (to[0] - from[0], to[1] - from[1]);
+    let far = (dx * dx + dy * dy).sqrt();
+    let tail = if far > 0.0 { ((from[2] + to[2]) * dx + (from[3] + to[3]) * dy) / (2.0 * far) } else { 0.0 };
+    (1000.0 * far / (1.0 + tail)) as u32
+}
+
+pub fn cost(n: usize, table: &[u32], order: &[u8]) -> u32 {
+    let mut place = 0;
+    let mut cost = 0;
+    for &s in order {
+        cost += table[place * (n + 1) + s as usize];
+        place = s as usize;
+    }
+    cost + table[place * (n + 1)]
+}
+
+pub fn nearest(n: usize, table: &[u32]) -> Vec<u8> {
+    let mut left: Vec<u8> = (1..=n as u8).collect();
+    let mut place = 0;
+    let mut order = Vec::new();
+    while !left.is_empty() {
+        let at = (0..left.len()).min_by_key(|&k| table[place * (n + 1) + left[k] as usize]).unwrap();
+        order.push(left.remove(at));
+        place = order[order.len() - 1] as usize;
+    }
+    order
+}

@@ -1,0 +1,12 @@
+// Links the static library that `rt staticlib exports` writes; GONDAMUY_LIB names another folder that holds libexports.a.
+use std::env;
+use std::path::PathBuf;
+
+fn main() {
+    let beside = PathBuf::from(env::var("CARGO_MANIFEST_DIR").unwrap()).join("../../target/staticlib");
+    let folder = env::var("GONDAMUY_LIB").map(PathBuf::from).unwrap_or(beside);
+    println!("cargo:rustc-link-search=native={}", folder.display());
+    println!("cargo:rustc-link-lib=static=exports");
+    println!("cargo:rerun-if-env-changed=GONDAMUY_LIB");
+    println!("cargo:rerun-if-changed={}", folder.join("libexports.a").display());
+}

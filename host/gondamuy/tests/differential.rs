@@ -1,0 +1,211 @@
+//! The proved planner against the second planner: the report and every word
+//! of the pool, over random jobs of many kinds.
+
+use gondamuy::{plan, Report, RECORD_WORDS};
+use witness::{plan_watched, Request};
+
+/// splitmix64
+struct Random(u64);
+
+impl Random {
+    fn next(&mut self) -> u64 {
+        self.0 = self.0.wrapping_add(0x9E37_79B9_7F4A_7C15);
+        let mut z = self.0;
+        z = (z ^ (z >> 30)).wrapping_mul(0xBF58_476D_1CE4_E5B9);
+        z = (z ^ (z >> 27)).wrapping_mul(0x94D0_49BB_1331_11EB);
+        z ^ (z >> 31)
+    }
+
+    fn below(&mut self, k: u64) -> u64 {
+        self.next() % k
+    }
+
+    fn pick(&mut self, from: &[u64]) -> u64 {
+        from[self.below(from.len() as u64) as usize]
+    }
+
+    /// Legs up to `most`, the diagonal 0.
+    fn table(&mut self, n: usize, most: u64) -> Vec<u32> {
+        let side = n + 1;
+        (0..side * side).map(|k| if k / side == k % side { 0 } else { self.below(most + 1) as u32 }).collect()
+    }
+
+    fn order(&mut self, n: usize) -> Vec<u8> {
+        let mut order: Vec<u8> = (1..=n as u8).collect();
+        for i in (1..n).rev() {
+            order.swap(i, self.below(i as u64 + 1) as usize);
+        }
+        order
+    }
+
+    fn words(&mut self, count: usize) -> Vec<u32> {
+        (0..count).map(|_| self.next() as u32).collect()
+    }
+}
+
+#[derive(Clone, Debug)]
+struct Job {
+    n: u32,
+    table: Vec<u32>,
+    selection: u32,
+    rules: u32,
+    bound: u32,
+    start: Vec<u8>,
+}
+
+/// Runs both planners on the same pool and holds them to each other. Returns
+/// the report and how many records the run needed at most.
+fn compare(job: &Job, pool: &[u32]) -> (Report, usize) {
+    let mut ours = pool.to_vec();
+    let mut theirs = pool.to_vec();
+    let start: Vec<u32> = job.start.iter().map(|&s| s.into()).collect();
+    let request = Request {
+        n: job.n.into(),
+        table: &job.table,
+        selection: job.selection.into(),
+        rules: job.rules.into(),
+        bound: job.bound.into(),
+        start: &start,
+    };
+    let mut most = 0;
+    let with_branched = job.rules & 4 != 0;
+    let expected = plan_watched(&request, &mut theirs, &mut |state| {
+        let held = if with_branched { state.branched.len() } else { 0 };
+        most = most.max(state.active.len() + held);
+    });
+    let report = plan(job.n, &job.table, job.selection, job.rules, job.bound, &job.start, &mut ours);
+    let order: Vec<u32> = report.order.iter().map(|&s| s.into()).collect();
+    assert_eq!((report.number, report.cost), (expected.number, expected.cost), "{job:?}");
+    assert_eq!(order, expected.order, "{job:?}");
+    let counts = [report.branched, report.generated, report.eliminated, report.active, report.most];
+    assert_eq!(counts, expected.counts(), "{job:?}");
+    assert!(ours == theirs, "the pools differ: {job:?}");
+    (report, most)
+}
+
+fn small_job(random: &mut Random, n: usize, most: u64) -> Job {
+    let start = if random.below(2) == 0 { Vec::new() } else { random.order(n) };
+    Job {
+        n: n as u32,
+        table: random.table(n, most),
+        selection: random.below(4) as u32,
+        rules: random.below(16) as u32,
+        bound: random.below(2) as u32,
+        start,
+    }
+}
+
+/// In an ample dirty pool, in one of exactly the records needed, one less, and one.
+fn in_four_pools(random: &mut Random, job: &Job, ample: usize) -> [u32; 4] {
+    let (full, needed) = compare(job, &random.words(ample * RECORD_WORDS));
+    let mut numbers = [full.number; 4];
+    for (place, records) in [needed, needed.max(2) - 1, 1].into_iter().enumerate() {
+        let (report, _) = compare(job, &random.words(records * RECORD_WORDS));
+        numbers[place + 1] = report.number;
+    }
+    numbers
+}
+
+#[test]
+fn small_tables_under_all_choices() {
+    let mut random = Random(1);
+    let mut jobs = 0;
+    let mut filled = 0;
+    for round in 0..26_000u64 {
+        let n = 1 + random.below(if round % 40 == 0 { 6 } else { 4 }) as usize;
+        let most = random.pick(&[0, 1, 2, 9, 1_000, 1_000_000]);
+        let job = small_job(&mut random, n, most);
+        let numbers = in_four_pools(&mut random, &job, 2_100);
+        assert_eq!(numbers[0], 0);
+        assert_eq!(numbers[1], 0, "a pool of the records needed suffices: {job:?}");
+        filled += numbers.iter().filter(|&&k| k == 7).count();
+        jobs += 4;
+    }
+    assert!(jobs >= 100_000 && filled > 10_000, "{jobs} jobs, {filled} full pools");
+}
+
+#[test]
+fn up_to_sixteen_stops() {
+    let mut random = Random(2);
+    for n in 7..=16 {
+        for round in 0..6 {
+            let most = random.pick(&[1, 9, 1_000, 1_000_000]);
+            let mut job = small_job(&mut random, n, most);
+            job.bound = 1;
+            // Small pools: such jobs end soon, with an order or full.
+            let records = [1, 17, 40, 90, 200, 400][round];
+            compare(&job, &random.words(records * RECORD_WORDS));
+            // All legs equal, the latest of ties: straight down to an order.
+            job.table = random.table(n, 0).iter().enumerate().map(|(k, _)| u32::from(k % (n + 2) != 0) * 7).collect();
+            job.selection = 1;
+            job.rules = random.below(16) as u32;
+            let (report, _) = compare(&job, &random.words(400 * RECORD_WORDS));
+            assert_eq!(report.number, 0);
+        }
+    }
+}
+
+#[test]
+fn pilots_of_twelve_stops() {
+    let mut random = Random(3);
+    for _ in 0..6 {
+        let mut job = small_job(&mut random, 12, 1_000);
+        (job.selection, job.rules, job.bound) = (3, 1, 1);
+        job.start = nearest(12, &job.table);
+        let (report, _) = compare(&job, &random.words(120 * RECORD_WORDS));
+        assert_eq!(report.number, 0);
+    }
+}
+
+fn nearest(n: usize, table: &[u32]) -> Vec<u8> {
+    let mut left: Vec<usize> = (1..=n).collect();
+    let mut place = 0;
+    let mut order = Vec::new();
+    while !left.is_empty() {
+        let at = (0..left.len()).min_by_key(|&k| table[place * (n + 1) + left[k]]).unwrap();
+        place = left.remove(at);
+        order.push(place as u8);
+    }
+    order
+}
+
+/// Each cause by itself and several at once: the lowest number, the pool untouched.
+#[test]
+fn every_refusal() {
+    let mut random = Random(4);
+    let mut seen = [0; 8];
+    for _ in 0..20_000 {
+        let n = 1 + random.below(4) as usize;
+        let mut job = small_job(&mut random, n, 9);
+        let mut words = 60;
+        let faults = random.below(64);
+        if faults & 1 != 0 {
+            job.n = random.pick(&[0, 17, 18, u32::MAX.into()]) as u32;
+        }
+        if faults & 2 != 0 {
+            let len = job.table.len();
+            let other = random.pick(&[0, 1, len as u64 - 1, len as u64 + 1]) as usize;
+            job.table.resize(other, 0);
+        }
+        if faults & 4 != 0 && !job.table.is_empty() {
+            let at = random.below(job.table.len() as u64) as usize;
+            job.table[at] = random.pick(&[1_000_001, u32::MAX.into()]) as u32;
+        }
+        if faults & 8 != 0 {
+            match random.below(3) {
+                0 => job.selection = random.pick(&[4, u32::MAX.into()]) as u32,
+                1 => job.rules = random.pick(&[16, u32::MAX.into()]) as u32,
+                _ => job.bound = random.pick(&[2, u32::MAX.into()]) as u32,
+            }
+        }
+        if faults & 16 != 0 {
+            job.start = (0..random.below(7)).map(|_| random.below(7) as u8).collect();
+        }
+        if faults & 32 != 0 {
+            words = random.pick(&[0, 1, 5, 7, 61]) as usize;
+        }
+        let (report, _) = compare(&job, &random.words(words));
+        seen[report.number as usize] += 1;
+    }
+    assert!(seen.iter().all(|&k| k > 10), "{seen:?}");
+}
