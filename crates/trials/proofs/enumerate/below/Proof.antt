@@ -1,0 +1,14 @@
+-- `below` meets its contract by the law of remainders. Assumes nothing.
+use borrow.Author.Needs.{needs}
+use native.Mathlib.Nat.{mod-lt}
+use Rattle.trials.proofs.enumerate.below.Statement.{statement}
+use Rattle.trials.proofs.enumerate.below.Tie as tie
+
+rem-result : tie.Need-rem-result
+rem-result c = search needs
+
+returns : tie.Need-returns
+returns c = mod-lt (c .args .x) (search needs)
+
+pub below-spec : {M : Type 1} → statement M
+below-spec = tie.close (tie.spec rem-result returns)

@@ -1,0 +1,154 @@
+// Full enumeration: the least cost over all n! orders, from the table directly. Nothing of the planner is used.
+ghost use mathlib.Core.Path.{_≡_};
+ghost use Prim.Native.Nat.{_≤_, _<_};
+ghost use lib.ListN.{length};
+
+// Whether s is among the first m numbers of x.
+fn among(x: &[u8; 16], m: usize, s: u8) -> bool
+    requires { ⌜ m ≤ 16 ⌝ }
+{
+    let mut i = 0;
+    while i < m {
+        if x[i] == s {
+            return true;
+        }
+        i += 1;
+    }
+    false
+}
+
+// Whether the first n numbers of x are an order of 1 to n: each is one of these, and none stands there twice.
+pub fn is_order(x: &[u8; 16], n: usize) -> bool
+    requires { ⌜ n ≤ 16 ⌝ }
+{
+    let mut i = 0;
+    while i < n {
+        let s = x[i];
+        if s == 0 {
+            return false;
+        }
+        if n < index(s) {
+            return false;
+        }
+        if among(x, i, s) {
+            return false;
+        }
+        i += 1;
+    }
+    true
+}
+
+// A stop as an index.
+fn index(s: u8) -> usize
+    ensures { λ r. ⌜ r < 256 ⌝ }
+{
+    s as usize
+}
+
+// The leg from place i to place j of a table whose rows are `side` long; outside the table it is longer than any leg.
+fn leg(table: &[u32], side: usize, i: u8, j: u8) -> u32
+    requires { ⌜ side ≤ 17 ⌝ }
+{
+    let k = index(i) * side + index(j);
+    if k < table.len() {
+        return table[k];
+    }
+    4_294_967_295
+}
+
+// A leg, to be summed.
+fn wide(x: u32) -> u64
+    ensures { λ r. ⌜ r < 4294967296 ⌝ }
+{
+    x as u64
+}
+
+// The cost of an order of n stops: its legs from home to home.
+pub fn cost_of(table: &[u32], x: &[u8; 16], n: usize) -> u64
+    requires { ⌜ n ≤ 16 ⌝ }
+{
+    let side = n + 1;
+    let mut sum = 0u64;
+    let mut place = 0u8;
+    let mut i = 0;
+    while i < n {
+        let s = x[i];
+        sum += wide(leg(table, side, place, s));
+        place = s;
+        i += 1;
+    }
+    sum + wide(leg(table, side, place, 0))
+}
+
+// How many sequences of n numbers from 1 to n there are.
+pub fn sequences(n: usize) -> u64 {
+    match n {
+        1 => 1,
+        2 => 4,
+        3 => 27,
+        4 => 256,
+        5 => 3_125,
+        _ => 46_656,
+    }
+}
+
+// The remainder of x by m.
+pub fn below(x: u64, m: u64) -> u64
+    requires { ⌜ 1 ≤ m ⌝ }
+    ensures { λ r. ⌜ r < m ⌝ }
+{
+    x % m
+}
+
+// The last digit of k to the base n, counted from 1.
+fn digit(k: u64, n: usize) -> u8
+    requires { ⌜ (1 ≤ n) × (n ≤ 6) ⌝ }
+{
+    (below(k, n as u64) + 1) as u8
+}
+
+// Sequence k of n numbers from 1 to n, and zeros: the digits of k to the base n.
+pub fn sequence(n: usize, k: u64) -> [u8; 16]
+    requires { ⌜ (1 ≤ n) × (n ≤ 6) ⌝ }
+    ensures { λ r. ⌜ 16 ≡ length r ⌝ }
+{
+    let mut x = [0u8; 16];
+    let mut rest = k;
+    let mut i = 0;
+    while i < n {
+        x[i] = digit(rest, n);
+        rest = rest / n as u64;
+        i += 1;
+    }
+    x
+}
+
+// The lesser of two numbers.
+fn lesser(a: u64, b: u64) -> u64 {
+    if a < b { a } else { b }
+}
+
+// The cost of sequence k if it is an order, and else a number above every cost.
+fn price(table: &[u32], n: usize, k: u64) -> u64
+    requires { ⌜ (1 ≤ n) × (n ≤ 6) ⌝ }
+{
+    let x = sequence(n, k);
+    if is_order(&x, n) {
+        return cost_of(table, &x, n);
+    }
+    18_446_744_073_709_551_615
+}
+
+// The least cost over all orders.
+pub fn least(table: &[u32], n: usize) -> u64
+    requires { ⌜ (1 ≤ n) × (n ≤ 6) ⌝ }
+{
+    let end = sequences(n);
+    let mut known = 18_446_744_073_709_551_615;
+    let mut k = 0u64;
+    while k < end {
+        known = lesser(known, price(table, n, k));
+        k += 1;
+    }
+    known
+}

@@ -1,0 +1,79 @@
+// What a report is held against: the least cost, the table, and its own counts.
+ghost use Prim.Native.Nat.{_≤_};
+use crate::enumerate::cost_of;
+use crate::enumerate::is_order;
+use planner::run::Report;
+
+pub enum Verdict {
+    Best,
+    Full,
+    Differs,
+}
+
+// Whether generated = branched + eliminated + active.
+fn adds_up(generated: u64, branched: u64, eliminated: u64, active: u64) -> bool {
+    if generated < branched {
+        return false;
+    }
+    let others = generated - branched;
+    if others < eliminated {
+        return false;
+    }
+    others - eliminated == active
+}
+
+// Whether x has zeros alone from place n on.
+fn zeros(x: &[u8; 16], n: usize) -> bool {
+    let mut i = n;
+    while i < 16 {
+        if x[i] != 0 {
+            return false;
+        }
+        i += 1;
+    }
+    true
+}
+
+// Whether x is an order of n stops and zeros, whose cost is the one given.
+fn priced(table: &[u32], n: usize, cost: u64, x: &[u8; 16]) -> bool
+    requires { ⌜ n ≤ 16 ⌝ }
+{
+    if !zeros(x, n) {
+        return false;
+    }
+    if !is_order(x, n) {
+        return false;
+    }
+    cost_of(table, x, n) == cost
+}
+
+// A finished report is right if its cost is the least and that of its order; a full one if it has no cost and no order.
+pub fn judged(table: &[u32], n: usize, least: u64, r: Report) -> Verdict
+    requires { ⌜ n ≤ 16 ⌝ }
+{
+    if !adds_up(r.generated, r.branched, r.eliminated, r.active) {
+        return Verdict::Differs;
+    }
+    let number = r.number;
+    let cost = r.cost as u64;
+    let order = r.order;
+    if number == 0 {
+        if cost != least {
+            return Verdict::Differs;
+        }
+        if priced(table, n, cost, &order) {
+            return Verdict::Best;
+        }
+        return Verdict::Differs;
+    }
+    if number != 7 {
+        return Verdict::Differs;
+    }
+    if cost != 0 {
+        return Verdict::Differs;
+    }
+    if zeros(&order, 0) {
+        return Verdict::Full;
+    }
+    Verdict::Differs
+}

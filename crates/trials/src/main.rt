@@ -1,0 +1,155 @@
+// Random tables under every choice, with and without a starting order, each report held against full enumeration. The tables, and so
+// what is printed, are the same in every run.
+ghost use Prim.Native.Nat.{_≤_};
+
+mod enumerate;
+mod judge;
+mod tables;
+
+use crate::enumerate::least;
+use crate::judge::Verdict;
+use crate::judge::judged;
+use crate::tables::TABLES;
+use crate::tables::next;
+use crate::tables::order_of;
+use crate::tables::size_of;
+use crate::tables::stops_in;
+use crate::tables::table_of;
+use libc::STDOUT_FILENO;
+use planner::plan;
+use planner::run::Report;
+use std::num::wrapping_add_u64;
+
+// How many jobs ended in which way, and a checksum over their costs and counts.
+struct Tally {
+    best: u64,
+    full: u64,
+    differed: u64,
+    sum: u64,
+}
+
+// A checksum with one number more.
+fn mixed(sum: u64, x: u64) -> u64 {
+    (sum % 1_000_000_007 * 31 + x % 1_000_000_007) % 1_000_000_007
+}
+
+// A checksum with a report's cost and counts.
+fn summed(sum: u64, r: Report) -> u64 {
+    let a = mixed(mixed(sum, r.number as u64), r.cost as u64);
+    let b = mixed(mixed(a, r.branched), r.generated);
+    mixed(mixed(mixed(b, r.eliminated), r.active), r.most)
+}
+
+// A tally with one job more, and its checksum.
+fn counted(t: Tally, v: Verdict, sum: u64) -> Tally {
+    match v {
+        Verdict::Best => Tally {
+            best: wrapping_add_u64(t.best, 1),
+            full: t.full,
+            differed: t.differed,
+            sum: sum,
+        },
+        Verdict::Full => Tally {
+            best: t.best,
+            full: wrapping_add_u64(t.full, 1),
+            differed: t.differed,
+            sum: sum,
+        },
+        Verdict::Differs => Tally {
+            best: t.best,
+            full: t.full,
+            differed: wrapping_add_u64(t.differed, 1),
+            sum: sum,
+        },
+    }
+}
+
+// One job: choice is the selection, four times the rules, and 64 times the bound.
+fn job(
+    table: &[u32],
+    n: usize,
+    least: u64,
+    choice: u32,
+    start: &[u8],
+    pool: &mut [u32],
+    t: Tally,
+) -> Tally
+    requires { ⌜ n ≤ 16 ⌝ }
+{
+    let r = plan(
+        n as u32,
+        table,
+        choice % 4,
+        choice / 4 % 16,
+        choice / 64,
+        start,
+        pool,
+    );
+    counted(t, judged(table, n, least, r), summed(t.sum, r))
+}
+
+// All 128 choices over one table, from one starting order or none.
+fn jobs(table: &[u32], n: usize, least: u64, start: &[u8], pool: &mut [u32], t: Tally) -> Tally
+    requires { ⌜ n ≤ 16 ⌝ }
+{
+    let mut tally = t;
+    let mut choice = 0u32;
+    while choice < 128 {
+        tally = job(table, n, least, choice, start, pool, tally);
+        choice += 1;
+    }
+    tally
+}
+
+// The jobs over one table, without a starting order and with one.
+fn both(table: &[u32], n: usize, start: &[u8], pool: &mut [u32], t: Tally) -> Tally
+    requires { ⌜ (1 ≤ n) × (n ≤ 6) ⌝ }
+{
+    let cost = least(table, n);
+    let without = jobs(table, n, cost, &start[..0], pool, t);
+    jobs(table, n, cost, start, pool, without)
+}
+
+// The jobs over table k.
+fn trial(k: u64, pool: &mut [u32], t: Tally) -> Tally {
+    let n = stops_in(k);
+    let size = size_of(n);
+    let numbers = table_of(k, n);
+    let start = order_of(n, next(k));
+    both(&numbers[..size], n, &start[..n], pool, t)
+}
+
+// The jobs over all tables.
+fn all_tables(pool: &mut [u32]) -> Tally {
+    let mut t = Tally {
+        best: 0,
+        full: 0,
+        differed: 0,
+        sum: 0,
+    };
+    let mut k = 0u64;
+    while k < TABLES {
+        t = trial(k, pool, t);
+        k += 1;
+    }
+    t
+}
+
+// A line: a number and words.
+fn line(n: u64, words: &[u8]) {
+    io::print_decimal(STDOUT_FILENO, n);
+    io::write_all(STDOUT_FILENO, words);
+}
+
+fn main() {
+    let mut pool = [0u32; 1980];
+    let t = all_tables(&mut pool);
+    line(
+        wrapping_add_u64(wrapping_add_u64(t.best, t.full), t.differed),
+        b" jobs planned\n",
+    );
+    line(t.best, b" finished, at the least cost over all orders\n");
+    line(t.full, b" filled the pool\n");
+    line(t.differed, b" differed\n");
+    line(t.sum, b" is the checksum over all costs and counts\n");
+}

@@ -1,0 +1,114 @@
+// Tables by their numbers: how many stops, of which kind, and legs by a generator that the number starts.
+ghost use mathlib.Core.Path.{_≡_};
+ghost use Prim.Native.Nat.{_+_, _≤_, _<_};
+ghost use lib.ListN.{length};
+use crate::enumerate::below;
+use crate::enumerate::is_order;
+use crate::enumerate::sequence;
+use crate::enumerate::sequences;
+
+// The number after x of a sequence that looks random.
+pub fn next(x: u64) -> u64
+    ensures { λ r. ⌜ r < 2147483647 ⌝ }
+{
+    (x % 2_147_483_647 + 1) * 48_271 % 2_147_483_647
+}
+
+// How many tables there are of up to five stops, and in all.
+pub const SMALL: u64 = 1_500;
+
+pub const TABLES: u64 = 1_530;
+
+// How many stops table k has: 1 to 5 in turn, and 6 behind these.
+pub fn stops_in(k: u64) -> usize
+    ensures { λ r. ⌜ (1 ≤ r) × (r ≤ 6) ⌝ }
+{
+    if k < SMALL {
+        return (k % 5 + 1) as usize;
+    }
+    6
+}
+
+// How many numbers a table of n stops has.
+pub fn size_of(n: usize) -> usize
+    ensures { λ r. ⌜ r ≤ 49 ⌝ }
+{
+    match n {
+        1 => 4,
+        2 => 9,
+        3 => 16,
+        4 => 25,
+        5 => 36,
+        _ => 49,
+    }
+}
+
+// The legs of a kind: from `least` on, so many different ones.
+struct Kind {
+    least: u64,
+    span: u64,
+}
+
+// The kind of table k: all equal, ties among few, ties among the longest, some, and any.
+fn kind_of(k: u64) -> Kind
+    ensures { λ r. ⌜ (1 ≤ r .span) × (r .least + r .span ≤ 1000001) ⌝ }
+{
+    match k % 6 {
+        0 => Kind { least: 7, span: 1 },
+        1 => Kind { least: 0, span: 2 },
+        2 => Kind { least: 0, span: 3 },
+        3 => Kind {
+            least: 999_998,
+            span: 3,
+        },
+        4 => Kind { least: 1, span: 20 },
+        _ => Kind {
+            least: 0,
+            span: 1_000_001,
+        },
+    }
+}
+
+// The number at place i of a table of n stops: 0 on the diagonal, else a leg by x.
+fn entry(kind: Kind, n: usize, i: usize, x: u64) -> u32
+    requires { ⌜ (1 ≤ kind .span) × ((kind .least + kind .span ≤ 1000001) × (n ≤ 6)) ⌝ }
+{
+    if i % (n + 2) == 0 {
+        return 0;
+    }
+    (kind.least + below(x, kind.span)) as u32
+}
+
+// Table k, of n stops; its numbers stand at the front.
+pub fn table_of(k: u64, n: usize) -> [u32; 49]
+    requires { ⌜ n ≤ 6 ⌝ }
+    ensures { λ r. ⌜ 49 ≡ length r ⌝ }
+{
+    let kind = kind_of(k);
+    let mut table = [0u32; 49];
+    let mut x = k;
+    let mut i = 0;
+    while i < 49 {
+        x = next(x);
+        table[i] = entry(kind, n, i, x);
+        i += 1;
+    }
+    table
+}
+
+// An order of n stops by x: that of the first sequence, from a place in the lower half on, which is one.
+pub fn order_of(n: usize, x: u64) -> [u8; 16]
+    requires { ⌜ (1 ≤ n) × (n ≤ 6) ⌝ }
+    ensures { λ r. ⌜ 16 ≡ length r ⌝ }
+{
+    let end = sequences(n);
+    let mut k = x % (end / 2 + 1);
+    while k < end {
+        let order = sequence(n, k);
+        if is_order(&order, n) {
+            return order;
+        }
+        k += 1;
+    }
+    [0u8; 16]
+}
