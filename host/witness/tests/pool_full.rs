@@ -2,7 +2,7 @@
 
 mod common;
 
-use common::{ample, choices, read_pool, Job, Random, KINDS};
+use common::{ample, choices, for_each_job, read_pool, Job, Random, KINDS};
 use witness::words::record;
 use witness::{plan_watched, State, WORDS};
 
@@ -57,30 +57,16 @@ fn check_sizes(job: &Job) {
     }
 }
 
-fn check_tables(seed: u64, n: usize, tables: usize) {
-    let mut random = Random(seed);
-    for kind in 0..KINDS.len() {
-        for _ in 0..tables {
-            let table = random.table_of_kind(n, kind);
-            let start = random.order(n);
-            for choice in choices() {
-                check_sizes(&Job::new(n, &table, choice, &[]));
-                check_sizes(&Job::new(n, &table, choice, &start));
-            }
-        }
-    }
-}
-
 #[test]
 fn sizes_up_to_three_stops() {
-    check_tables(31, 1, 1);
-    check_tables(32, 2, 4);
-    check_tables(33, 3, 6);
+    for_each_job(31, 1, 1, check_sizes);
+    for_each_job(32, 2, 4, check_sizes);
+    for_each_job(33, 3, 6, check_sizes);
 }
 
 #[test]
 fn sizes_of_four_stops() {
-    check_tables(34, 4, 1);
+    for_each_job(34, 4, 1, check_sizes);
 }
 
 /// Five stops, each choice over a table of its own.

@@ -3,7 +3,7 @@
 
 mod common;
 
-use common::{ample, choices, Job, Random, KINDS};
+use common::{ample, for_each_job, Job};
 use witness::node::Node;
 use witness::State;
 
@@ -129,33 +129,19 @@ fn check_report(job: &Job, last: &State) {
     assert_eq!(branched, kept);
 }
 
-fn check_tables(seed: u64, n: usize, tables: usize) {
-    let mut random = Random(seed);
-    for kind in 0..KINDS.len() {
-        for _ in 0..tables {
-            let table = random.table_of_kind(n, kind);
-            let start = random.order(n);
-            for choice in choices() {
-                check_run(&Job::new(n, &table, choice, &[]));
-                check_run(&Job::new(n, &table, choice, &start));
-            }
-        }
-    }
-}
-
 #[test]
 fn steps_up_to_three_stops() {
-    check_tables(11, 1, 1);
-    check_tables(12, 2, 8);
-    check_tables(13, 3, 16);
+    for_each_job(11, 1, 1, check_run);
+    for_each_job(12, 2, 8, check_run);
+    for_each_job(13, 3, 16, check_run);
 }
 
 #[test]
 fn steps_of_four_stops() {
-    check_tables(14, 4, 6);
+    for_each_job(14, 4, 6, check_run);
 }
 
 #[test]
 fn steps_of_five_stops() {
-    check_tables(15, 5, 1);
+    for_each_job(15, 5, 1, check_run);
 }

@@ -170,6 +170,22 @@ pub fn choices() -> Vec<[u64; 3]> {
     all
 }
 
+/// Holds `check` to jobs over `tables` tables of each kind: every choice, with
+/// and without a starting order.
+pub fn for_each_job(seed: u64, n: usize, tables: usize, check: impl Fn(&Job)) {
+    let mut random = Random(seed);
+    for kind in 0..KINDS.len() {
+        for _ in 0..tables {
+            let table = random.table_of_kind(n, kind);
+            let start = random.order(n);
+            for choice in choices() {
+                check(&Job::new(n, &table, choice, &[]));
+                check(&Job::new(n, &table, choice, &start));
+            }
+        }
+    }
+}
+
 /// The order that a record writes down; the record must be well formed.
 pub fn order_of(job: &Job, record: &[u32]) -> Vec<u32> {
     let size = record[0] as usize;
