@@ -1,6 +1,7 @@
 // What a host in C or Rust calls. Each function is the planner's own under a C name, and so is its promise; this crate holds nothing
 // else, so that building the static library proves nothing twice.
-ghost use Rattle.planner.specs.Promise.{callOf, Promised};
+ghost use Rattle.answer.specs.Call.{callOf};
+ghost use Rattle.planner.specs.Promise.{Promised};
 use planner::run::Report;
 
 // `planner::plan` for C: a slice is a pointer and a length.

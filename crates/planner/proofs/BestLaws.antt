@@ -41,7 +41,7 @@ use Rattle.pool.specs.Records.{mask, orderWord, padded}
 use Rattle.pool.specs.View.{encode}
 use Rattle.pool.proofs.OrderWords.{Digits, first-digit, second-digit}
 use Rattle.pool.proofs.Encode.{unbounded, encode-extend, encode-wide, partial-digits}
-use Rattle.planner.specs.Answer.{given}
+use Rattle.answer.specs.Answer.{given}
 use Rattle.planner.specs.OnRecords.{Table, recProblem, IsBest, Rows, stopAt}
 use Rattle.planner.specs.declared.best.Best.{Best}
 

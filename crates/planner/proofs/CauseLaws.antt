@@ -14,9 +14,9 @@ use Rattle.lists.specs.Lists.{any, from}
 use Rattle.orders.specs.Orders.{isOrder}
 use Rattle.stops.specs.Legs.{entry}
 use Rattle.pool.specs.Records.{recordsIn}
-use Rattle.planner.specs.Call.{Call, Report, Answer, refusal}
-use Rattle.planner.specs.Checks.{cause₁, cause₂, cause₃, cause₄, cause₅, cause₆, isEmpty, orLater, cause}
-use Rattle.planner.specs.Answer.{outcome, ending, respond, answer}
+use Rattle.answer.specs.Call.{Call, Report, Answer, refusal}
+use Rattle.answer.specs.Checks.{cause₁, cause₂, cause₃, cause₄, cause₅, cause₆, isEmpty, orLater, jobCause, cause}
+use Rattle.answer.specs.Answer.{outcome, ending, respond, answer}
 
 -- some leg is above 1,000,000; some entry of the diagonal is not 0
 abbrev large : Call → Bool
@@ -50,15 +50,15 @@ nonempty-length (s ∷ x) h = refl
 
 module _ (c : Call) where
   pub no-stop : c .n ≡ 0 → 1 ≡ cause c
-  unfolding cause cause₁
+  unfolding cause jobCause cause₁
   no-stop e = rw (eq-eqb (c .n) 0 e)
 
   pub many-stops : 16 < c .n → 1 ≡ cause c
-  unfolding cause cause₁
+  unfolding cause jobCause cause₁
   many-stops h = rw (lt-ltb 16 (c .n) h, or-true)
 
   pub stops-pass : c .n ≢ 0 → c .n ≤ 16 → cause c ≡ after₁ c
-  unfolding cause cause₁
+  unfolding cause jobCause cause₁
   stops-pass h k = rw (ne-eqb (c .n) 0 h, le-ltb 16 (c .n) k)
 
   pub other-area : length (c .table) ≢ suc (c .n) * suc (c .n) → 2 ≡ after₁ c

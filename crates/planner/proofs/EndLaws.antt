@@ -27,16 +27,16 @@ use Rattle.pool.specs.Records.{padded, poolWords, recordsIn, orderWord}
 use Rattle.pool.specs.View.{records, encode}
 use Rattle.pool.proofs.ViewLaws.{length-records}
 use Rattle.pool.proofs.PoolWords.{pool-words}
-use Rattle.planner.specs.Call.{Call, Report, orderPlaces}
-use Rattle.planner.specs.Checks.{cause}
-use Rattle.planner.specs.Answer.{legsOf, problemOf, choicesOf, outcome, StateOf, stopsOf, reportWith, wordsOf, ending, respond, answer}
+use Rattle.answer.specs.Call.{Call, Report, orderPlaces}
+use Rattle.answer.specs.Checks.{cause}
+use Rattle.answer.specs.Answer.{legsOf, problemOf, choicesOf, outcome, StateOf, stopsOf, reportWith, wordsOf, ending, respond, answer}
 use Rattle.planner.specs.OnRecords.{Table, farOf, IsBest, Running, Turned, Shown, recordsOf}
 use Rattle.planner.specs.declared.step.Run.{Run}
 use Rattle.planner.specs.declared.run.Turn.the-variants.{Finish, Full}
-use Rattle.planner.proofs.Passes.{passes}
-use Rattle.planner.proofs.Instance.{overflow-outcome, finish-outcome}
-use Rattle.planner.proofs.Ending.{Finished}
-use Rattle.planner.proofs.Demand3.{Solved, solved}
+use Rattle.answer.proofs.Passes.{passes}
+use Rattle.answer.proofs.Instance.{overflow-outcome, finish-outcome}
+use Rattle.answer.proofs.Ending.{Finished}
+use Rattle.answer.proofs.Demand3.{Solved, solved}
 use Rattle.planner.proofs.SearchLaws.{records-kept}
 
 pub record Stands (c : Call) (t : Table) (w : List ℕ) (r : Run) : Type 0 where

@@ -3,14 +3,14 @@
 use mathlib.Core.Path.{_≡_, sym, _∙_, ap, subst}
 use mathlib.Core.List.{List}
 use Prim.Native.Nat.{ℕ, _+_, _≤_}
-use Rattle.planner.specs.Call.{Call, Report, Answer}
-use Rattle.planner.specs.Checks.{cause}
-use Rattle.planner.specs.Answer.{answer}
+use Rattle.answer.specs.Call.{Call, Report, Answer}
+use Rattle.answer.specs.Checks.{cause}
+use Rattle.answer.specs.Answer.{answer}
 use Rattle.planner.specs.Promise.{reportOf, Promised}
 use Rattle.planner.specs.declared.run.Report.{Report as Returned}
-use Rattle.planner.proofs.Counting.{report-balances}
-use Rattle.planner.proofs.Demand3.{Cheapest, finished-cheapest, one-cost}
-use Rattle.planner.proofs.Demand3Pairs.{Favours, NoWorse, favoured-finishes}
+use Rattle.answer.proofs.Counting.{report-balances}
+use Rattle.answer.proofs.Demand3.{Cheapest, finished-cheapest, one-cost}
+use Rattle.answer.proofs.Demand3Pairs.{Favours, NoWorse, favoured-finishes}
 
 -- the report that a call returned is `answer`'s
 returned-report : (c : Call) (r : Returned) (pool : List ℕ) → Promised c r pool → reportOf r ≡ answer c .report

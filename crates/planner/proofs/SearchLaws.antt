@@ -23,13 +23,13 @@ use Rattle.stops.specs.Record.{Within}
 use Rattle.stops.proofs.Instance.{stops-weigh}
 use Rattle.pool.specs.View.{records, encode}
 use Rattle.pool.proofs.ViewLaws.{length-records}
-use Rattle.planner.specs.Call.{Call}
-use Rattle.planner.specs.Answer.{legsOf, given}
+use Rattle.answer.specs.Call.{Call}
+use Rattle.answer.specs.Answer.{legsOf, given}
 use Rattle.planner.specs.OnRecords.{Table, Rows, Running, Turned, Shown, recordsOf}
 use Rattle.planner.specs.declared.step.Run.{Run}
 use Rattle.planner.specs.declared.run.Turn.the-variants.{Go}
-use Rattle.planner.proofs.Passes.{Passes}
-use Rattle.planner.proofs.Instance.{legs-small}
+use Rattle.answer.proofs.Passes.{Passes}
+use Rattle.answer.proofs.Instance.{legs-small}
 
 pub records-kept : (v w : List ℕ) → length v ≡ length w → length (records v) ≡ length (records w)
 records-kept v w e = length-records v ∙ ap (λ (m : ℕ). m / 6) e ∙ sym (length-records w)

@@ -28,7 +28,7 @@ use Rattle.stops.specs.Stops.{problem}
 use Rattle.stops.specs.declared.node.Node.{Node as Record}
 use Rattle.stops.proofs.Instance.{tree-lawful, bound-lawful, stops-solvable}
 use Rattle.pool.specs.View.{records, encode}
-use Rattle.planner.specs.Answer.{given}
+use Rattle.answer.specs.Answer.{given}
 use Rattle.planner.specs.OnRecords.{Table, bounded, rootOf, IsBest, farOf, Rows, Shown, recordsOf}
 use Rattle.planner.specs.declared.best.Best.{Best}
 use Rattle.planner.proofs.RecordRun.{encode-root}

@@ -39,7 +39,7 @@ use Rattle.stops.specs.declared.node.Node.{Node as Record}
 use Rattle.stops.proofs.Instance.{tree-lawful, bound-lawful, stops-weigh, stops-solvable}
 use Rattle.pool.specs.View.{records, encode}
 use Rattle.pool.specs.Passes.{Chosen, dropAt}
-use Rattle.planner.specs.Answer.{given}
+use Rattle.answer.specs.Answer.{given}
 use Rattle.planner.specs.OnRecords.{Table, recProblem, recChoices, Encoded, Ready, Shown, stepOf, Stepping, recordsOf, Running, Turned}
 use Rattle.planner.specs.declared.step.Run.{Run}
 use Rattle.planner.specs.declared.step.After.the-variants.{Full as FullAfter, Go as GoAfter}

@@ -1,7 +1,2 @@
-pub mod Call
-pub mod Checks
-pub mod Answer
-pub mod Cases
-pub mod OwnCases
 pub mod OnRecords
 pub mod Promise

@@ -32,7 +32,7 @@ use Rattle.planner.specs.declared.step.After.{After}
 use Rattle.planner.specs.declared.step.After.the-variants.{Full as FullAfter, Go as GoAfter}
 use Rattle.planner.specs.declared.run.Turn.{Turn}
 use Rattle.planner.specs.declared.run.Turn.the-variants.{Finish, Full, Go}
-use Rattle.planner.specs.Answer.{given}
+use Rattle.answer.specs.Answer.{given}
 
 abbrev pub Table : Type 0
 Table = List (List ℕ)

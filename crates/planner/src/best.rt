@@ -11,7 +11,7 @@ ghost use Rattle.orders.specs.Orders.{Order};
 ghost use Rattle.stops.specs.Legs.{legs};
 ghost use Rattle.pool.specs.View.{records, encode};
 ghost use Rattle.pool.specs.Records.{padded, orderWord};
-ghost use Rattle.planner.specs.Answer.{given};
+ghost use Rattle.answer.specs.Answer.{given};
 ghost use Rattle.planner.specs.OnRecords.{Table, IsBest, recProblem, Rows, stopAt};
 use pool::record::load;
 use stops::node::Node;

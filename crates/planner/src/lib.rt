@@ -1,8 +1,9 @@
 // The planner: `plan` is open to a caller; every other function is public for this crate alone, and what it requires its callers meet.
-// specs/Answer says what `plan` answers; specs/OnRecords is the code's own.
+// specs/Answer of crate `answer` says what `plan` answers; specs/OnRecords is the code's own.
 ghost use mathlib.Core.Path.{_≡_};
-ghost use Rattle.planner.specs.Checks.{cause};
-ghost use Rattle.planner.specs.Promise.{callOf, Promised};
+ghost use Rattle.answer.specs.Call.{callOf};
+ghost use Rattle.answer.specs.Checks.{cause};
+ghost use Rattle.planner.specs.Promise.{Promised};
 
 pub mod best;
 pub mod family;

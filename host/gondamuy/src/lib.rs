@@ -1,5 +1,5 @@
 //! The proved stop-order planner, safe to call with anything. What `plan`
-//! answers is `answer` of crates/planner/specs/Answer.antt, over all inputs.
+//! answers is `answer` of crates/answer/specs/Answer.antt, over all inputs.
 
 /// Words in a record of the pool.
 pub const RECORD_WORDS: usize = 6;

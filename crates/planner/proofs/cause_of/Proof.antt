@@ -8,9 +8,8 @@ use native.Mathlib.Nat.{mul-le-mul}
 use native.Mathlib.Omega.{arith}
 use borrow.Author.Needs.{needs}
 use borrow.Author.Tests.{not-true, not-false}
-use Rattle.planner.specs.Call.{Call}
-use Rattle.planner.specs.Checks.{cause}
-use Rattle.planner.specs.Promise.{callOf}
+use Rattle.answer.specs.Call.{Call, callOf}
+use Rattle.answer.specs.Checks.{cause}
 use Rattle.planner.proofs.CauseLaws.{
   after₁,
   after₂,

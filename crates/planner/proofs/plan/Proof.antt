@@ -1,8 +1,7 @@
 -- `plan` meets its contract: a call with a cause answers with the refusal by its number, and the pool stays as it was; a call without one
 -- answers as its run ends. Assumes nothing.
 use borrow.Author.Needs.{needs}
-use Rattle.planner.specs.Call.{Call}
-use Rattle.planner.specs.Promise.{callOf}
+use Rattle.answer.specs.Call.{Call, callOf}
 use Rattle.planner.proofs.CauseLaws.{refused-answers, run-answers}
 use Rattle.planner.proofs.plan.Statement.{statement}
 use Rattle.planner.proofs.plan.Tie as tie

@@ -1,6 +1,6 @@
 -- `refused` meets its contract: each field is the one that `refusal` names. Assumes nothing.
 use mathlib.Core.Path.{refl}
-use Rattle.planner.specs.Call.{refusal}
+use Rattle.answer.specs.Call.{refusal}
 use Rattle.planner.specs.Promise.{reportOf}
 use Rattle.planner.proofs.run.refused.Statement.{statement}
 use Rattle.planner.proofs.run.refused.Tie as tie

@@ -11,11 +11,10 @@ use Rattle.search.specs.Problem.{State}
 use Rattle.orders.specs.Orders.{Node, nodes}
 use Rattle.pool.specs.Records.{recordsIn}
 use Rattle.pool.proofs.ViewLaws.{length-records}
-use Rattle.planner.specs.Call.{Call}
-use Rattle.planner.specs.Promise.{callOf}
+use Rattle.answer.specs.Call.{Call, callOf}
 use Rattle.planner.specs.OnRecords.{Running, Turned}
 use Rattle.planner.specs.declared.run.Turn.{Turn}
-use Rattle.planner.proofs.Passes.{Passes, passes}
+use Rattle.answer.proofs.Passes.{Passes, passes}
 use Rattle.planner.proofs.SearchLaws.{call-rows, run-begins, turn-keeps, turn-falls}
 use Rattle.planner.proofs.EndLaws.{Stands, settle-ready, finish-answers, full-answers}
 use Rattle.planner.proofs.run.search.Statement.{statement}

@@ -8,12 +8,12 @@ use Rattle.search.proofs.Plain.{tree, planOf, cutOf, adds}
 use Rattle.search.proofs.Counts.{counts-agree}
 use Rattle.orders.specs.Orders.{Node}
 use Rattle.pool.specs.Records.{recordsIn}
-use Rattle.planner.specs.Call.{Call, Report, Answer, refusal}
-use Rattle.planner.specs.Checks.{cause}
-use Rattle.planner.specs.Answer.{problemOf, choicesOf, given, reportWith, ending, answer, StateOf}
-use Rattle.planner.proofs.Passes.{passes}
-use Rattle.planner.proofs.Instance.{finished-state, full-state, state-reached}
-use Rattle.planner.proofs.Ending.{Ended, refused, filled, planned, call-ends}
+use Rattle.answer.specs.Call.{Call, Report, Answer, refusal}
+use Rattle.answer.specs.Checks.{cause}
+use Rattle.answer.specs.Answer.{problemOf, choicesOf, given, reportWith, ending, answer, StateOf}
+use Rattle.answer.proofs.Passes.{passes}
+use Rattle.answer.proofs.Instance.{finished-state, full-state, state-reached}
+use Rattle.answer.proofs.Ending.{Ended, refused, filled, planned, call-ends}
 
 abbrev Balanced : State Node → Type 0
 Balanced s = s .generated ≡ length (s .branched) + s .eliminated + length (s .active)

@@ -11,11 +11,11 @@ use Rattle.search.specs.Run.{finish, next, finished, full, Overflows}
 use Rattle.search.proofs.Outcome.{finish-whatever-pool}
 use Rattle.orders.specs.Orders.{Node}
 use Rattle.pool.specs.Records.{recordsIn}
-use Rattle.planner.specs.Call.{Call, Answer}
-use Rattle.planner.specs.Checks.{cause}
-use Rattle.planner.specs.Answer.{problemOf, choicesOf, outcome, reportWith, wordsOf, ending, respond, answer, StateOf}
-use Rattle.planner.proofs.Instance.{full-state, overflow-outcome, finish-outcome}
-use Rattle.planner.proofs.Ending.{Filled, number-7}
+use Rattle.answer.specs.Call.{Call, Answer}
+use Rattle.answer.specs.Checks.{cause}
+use Rattle.answer.specs.Answer.{problemOf, choicesOf, outcome, reportWith, wordsOf, ending, respond, answer, StateOf}
+use Rattle.answer.proofs.Instance.{full-state, overflow-outcome, finish-outcome}
+use Rattle.answer.proofs.Ending.{Filled, number-7}
 
 -- 7 only then: the steps done fitted, the next would not, and report and pool are those of the state before it
 pub record FullAt (c : Call) : Type 0 where

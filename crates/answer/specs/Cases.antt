@@ -15,9 +15,9 @@ use Rattle.stops.specs.Legs.{entry, rows, rowLeg, legs, path, last, cost}
 use Rattle.stops.specs.Bounds.{plain, cheapestInto, remainder, close, boundBy, dominates}
 use Rattle.stops.specs.Stops.{problem, choices}
 use Rattle.pool.specs.Records.{mask, record-of, padded, poolWords, recordsIn}
-use Rattle.planner.specs.Call.{Call, Report, Answer, refusal}
-use Rattle.planner.specs.Checks.{cause₁, cause₂, cause₃, cause₄, cause₅, cause₆, cause}
-use Rattle.planner.specs.Answer.{legsOf, problemOf, choicesOf, outcome, reportWith, wordsOf, ending, respond, answer}
+use Rattle.answer.specs.Call.{Call, Report, Answer, refusal}
+use Rattle.answer.specs.Checks.{cause₁, cause₂, cause₃, cause₄, cause₅, cause₆, jobCause, cause}
+use Rattle.answer.specs.Answer.{legsOf, problemOf, choicesOf, outcome, reportWith, wordsOf, ending, respond, answer}
 
 -- a call by its parts, with the number of the pool's records
 abbrev pub call : ℕ → List ℕ → ℕ → ℕ → ℕ → List ℕ → ℕ → Call
@@ -44,7 +44,7 @@ refused number branched generated eliminated active most = record {
 
 -- the answer, with every definition that it rests on open: a proof that says `unfolding computed` computes it
 unfoldable pub computed : Call → Answer
-unfolding start selectBy select finishes children₁ best₂ over₃ children₃ rest₃ dominated₄ children₄ dominated₅ children₅ dominated₆ rest₆ active₇ step held fitting decide next run flown set left size complete children count isOrder entry rows rowLeg legs path last cost plain cheapestInto remainder close boundBy dominates problem choices mask record-of padded poolWords recordsIn refusal cause₁ cause₂ cause₃ cause₄ cause₅ cause₆ cause legsOf problemOf choicesOf outcome reportWith wordsOf ending respond answer
+unfolding start selectBy select finishes children₁ best₂ over₃ children₃ rest₃ dominated₄ children₄ dominated₅ children₅ dominated₆ rest₆ active₇ step held fitting decide next run flown set left size complete children count isOrder entry rows rowLeg legs path last cost plain cheapestInto remainder close boundBy dominates problem choices mask record-of padded poolWords recordsIn refusal cause₁ cause₂ cause₃ cause₄ cause₅ cause₆ jobCause cause legsOf problemOf choicesOf outcome reportWith wordsOf ending respond answer
 computed c = answer c
 
 pub record Case : Type 0 where

@@ -16,6 +16,11 @@ pub record Call : Type 0 where
   -- the pool's words
   pub pool : List ℕ
 
+-- a call by its parts, in the order of the code's arguments
+unfoldable pub callOf : ℕ → List ℕ → ℕ → ℕ → ℕ → List ℕ → List ℕ → Call
+callOf n table selection rules bound start pool =
+    record { n = n; table = table; selection = selection; rules = rules; bound = bound; start = start; pool = pool }
+
 -- "Number 0, cost, order (zeros past n), and five 64-bit counts"
 pub record Report : Type 0 where
   pub number : ℕ

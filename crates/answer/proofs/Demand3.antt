@@ -21,11 +21,11 @@ use Rattle.orders.proofs.Orders.{orders-in, in-orders}
 use Rattle.stops.specs.Legs.{Legs, rows, legs, cost}
 use Rattle.stops.specs.Stops.{problem}
 use Rattle.pool.specs.Records.{padded, recordsIn}
-use Rattle.planner.specs.Call.{Call, Report, Answer, orderPlaces}
-use Rattle.planner.specs.Answer.{legsOf, problemOf, choicesOf, given, stopsOf, reportWith, ending, answer}
-use Rattle.planner.proofs.Passes.{Passes, passes}
-use Rattle.planner.proofs.Instance.{finished-state, state-reached, finish-stops, call-lawful, bound-laws, call-manner, call-solvable, start-known}
-use Rattle.planner.proofs.Ending.{Finished, number-0}
+use Rattle.answer.specs.Call.{Call, Report, Answer, orderPlaces}
+use Rattle.answer.specs.Answer.{legsOf, problemOf, choicesOf, given, stopsOf, reportWith, ending, answer}
+use Rattle.answer.proofs.Passes.{Passes, passes}
+use Rattle.answer.proofs.Instance.{finished-state, state-reached, finish-stops, call-lawful, bound-laws, call-manner, call-solvable, start-known}
+use Rattle.answer.proofs.Ending.{Finished, number-0}
 
 -- the order of a report: its first n places
 abbrev pub orderIn : Call → Report → Node

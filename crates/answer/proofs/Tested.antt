@@ -19,11 +19,11 @@ use Rattle.search.proofs.PlainSelection.{lateBy, rankBy, select-is-pick}
 use Rattle.search.proofs.Optimal.{active-some, tested-within}
 use Rattle.orders.specs.Orders.{Node, size}
 use Rattle.pool.specs.Records.{recordsIn}
-use Rattle.planner.specs.Call.{Call}
-use Rattle.planner.specs.Checks.{cause}
-use Rattle.planner.specs.Answer.{problemOf, choicesOf, given, StateOf}
-use Rattle.planner.proofs.Passes.{Passes, passes}
-use Rattle.planner.proofs.Instance.{state-reached, call-lawful, bound-laws, call-manner, call-solvable, start-known, selection-small}
+use Rattle.answer.specs.Call.{Call}
+use Rattle.answer.specs.Checks.{cause}
+use Rattle.answer.specs.Answer.{problemOf, choicesOf, given, StateOf}
+use Rattle.answer.proofs.Passes.{Passes, passes}
+use Rattle.answer.proofs.Instance.{state-reached, call-lawful, bound-laws, call-manner, call-solvable, start-known, selection-small}
 
 pub active-never-empty : (c : Call) → cause c ≡ 0 → (s : State Node) → StateOf c s → (x : Node) × In x (s .active)
 active-never-empty c e s steps =

@@ -14,9 +14,9 @@ use Rattle.orders.specs.Orders.{Order, isOrder}
 use Rattle.orders.proofs.Order.{isOrder-order}
 use Rattle.stops.specs.Legs.{entry}
 use Rattle.pool.specs.Records.{recordWords, recordsIn}
-use Rattle.planner.specs.Call.{Call}
-use Rattle.planner.specs.Checks.{cause₁, cause₂, cause₃, cause₄, cause₅, cause₆, isEmpty, orLater, cause}
-use Rattle.planner.specs.Cases
+use Rattle.answer.specs.Call.{Call}
+use Rattle.answer.specs.Checks.{cause₁, cause₂, cause₃, cause₄, cause₅, cause₆, isEmpty, orLater, jobCause, cause}
+use Rattle.answer.specs.Cases
 
 pub record Passes (c : Call) : Type 0 where
   pub some : 1 ≤ c .n
@@ -93,7 +93,7 @@ module _ (c : Call) where
   after₁ = orLater (cause₂ c) 2 after₂
 
 pub passes : (c : Call) → cause c ≡ 0 → Passes c
-unfolding cause after₁ after₂ after₃ after₄ after₅
+unfolding cause jobCause after₁ after₂ after₃ after₄ after₅
 passes c e =
     let (h₁, e₁) = none-first (cause₁ c) 0 (after₁ c) e in
     let (h₂, e₂) = none-first (cause₂ c) 1 (after₂ c) e₁ in

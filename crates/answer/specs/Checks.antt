@@ -8,7 +8,7 @@ use Rattle.lists.specs.Lists.{any, from}
 use Rattle.orders.specs.Orders.{isOrder}
 use Rattle.stops.specs.Legs.{entry}
 use Rattle.pool.specs.Records.{recordWords, recordsIn}
-use Rattle.planner.specs.Call.{Call}
+use Rattle.answer.specs.Call.{Call}
 
 -- n is 0 or above 16
 unfoldable pub cause₁ : Call → Bool
@@ -43,11 +43,14 @@ abbrev pub orLater : Bool → ℕ → ℕ → ℕ
 orLater true number later = number
 orLater false number later = later
 
-unfoldable pub cause : Call → ℕ
-cause c =
+-- causes 1 to 5, which look at the job alone; `later` where none applies
+unfoldable pub jobCause : Call → ℕ → ℕ
+jobCause c later =
     orLater (cause₁ c) 1
     (orLater (cause₂ c) 2
     (orLater (cause₃ c) 3
     (orLater (cause₄ c) 4
-    (orLater (cause₅ c) 5
-    (orLater (cause₆ c) 6 0)))))
+    (orLater (cause₅ c) 5 later))))
+
+unfoldable pub cause : Call → ℕ
+cause c = jobCause c (orLater (cause₆ c) 6 0)

@@ -27,12 +27,12 @@ use Rattle.stops.specs.Stops.{problem, choices}
 use Rattle.stops.proofs.Bounds.{bound-closer}
 use Rattle.stops.proofs.Instance.{order-below}
 use Rattle.pool.specs.Records.{recordsIn}
-use Rattle.planner.specs.Call.{Call, Report, Answer}
-use Rattle.planner.specs.Checks.{cause}
-use Rattle.planner.specs.Answer.{legsOf, problemOf, choicesOf, given, outcome, reportWith, ending, respond, answer}
-use Rattle.planner.proofs.Passes.{Passes, passes}
-use Rattle.planner.proofs.Instance.{legs-small, call-lawful, bound-laws, call-manner, call-solvable, start-known, selection-small}
-use Rattle.planner.proofs.Ending.{Finished, number-0}
+use Rattle.answer.specs.Call.{Call, Report, Answer}
+use Rattle.answer.specs.Checks.{cause}
+use Rattle.answer.specs.Answer.{legsOf, problemOf, choicesOf, given, outcome, reportWith, ending, respond, answer}
+use Rattle.answer.proofs.Passes.{Passes, passes}
+use Rattle.answer.proofs.Instance.{legs-small, call-lawful, bound-laws, call-manner, call-solvable, start-known, selection-small}
+use Rattle.answer.proofs.Ending.{Finished, number-0}
 
 -- A stands to B as the letter asks.
 pub record Favours (a b : Call) : Type 0 where

@@ -8,10 +8,10 @@ use Prim.Native.Nat.{ℕ, suc, _*_, _%_}
 use lib.Dec.{eqb}
 use lib.ListN.{replicate}
 use Rattle.lists.specs.Lists.{each, from}
-use Rattle.planner.specs.Call.{Call, Answer}
-use Rattle.planner.specs.Checks.{cause}
-use Rattle.planner.specs.Answer.{answer}
-use Rattle.planner.specs.Cases.{call, found, refused, computed, tableT}
+use Rattle.answer.specs.Call.{Call, Answer}
+use Rattle.answer.specs.Checks.{cause}
+use Rattle.answer.specs.Answer.{answer}
+use Rattle.answer.specs.Cases.{call, found, refused, computed, tableT}
 
 -- the table of n stops whose legs all cost 1
 ones : ℕ → List ℕ

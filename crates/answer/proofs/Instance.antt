@@ -21,9 +21,9 @@ use Rattle.stops.specs.Record.{Within}
 use Rattle.stops.proofs.LegTable.{legs-within}
 use Rattle.stops.proofs.Instance.{tree-lawful, bound-lawful, stops-weigh, stops-solvable}
 use Rattle.pool.specs.Records.{recordsIn}
-use Rattle.planner.specs.Call.{Call}
-use Rattle.planner.specs.Answer.{legsOf, problemOf, choicesOf, given, outcome, StateOf}
-use Rattle.planner.proofs.Passes.{Passes}
+use Rattle.answer.specs.Call.{Call}
+use Rattle.answer.specs.Answer.{legsOf, problemOf, choicesOf, given, outcome, StateOf}
+use Rattle.answer.proofs.Passes.{Passes}
 
 -- a node weighs as much as there are nodes below it, itself included
 pub weight : Call → Node → ℕ

@@ -10,10 +10,10 @@ use native.Mathlib.Omega.{arith}
 use Rattle.search.specs.Problem.{State}
 use Rattle.search.specs.Run.{Outcome, finished, full, unfinished}
 use Rattle.orders.specs.Orders.{Node}
-use Rattle.planner.specs.Call.{Call, Report, Answer, refusal}
-use Rattle.planner.specs.Checks.{cause₁, cause₂, cause₃, cause₄, cause₅, cause₆, orLater, cause}
-use Rattle.planner.specs.Answer.{outcome, reportWith, ending, respond, answer}
-use Rattle.planner.proofs.Instance.{outcome-ends}
+use Rattle.answer.specs.Call.{Call, Report, Answer, refusal}
+use Rattle.answer.specs.Checks.{cause₁, cause₂, cause₃, cause₄, cause₅, cause₆, orLater, jobCause, cause}
+use Rattle.answer.specs.Answer.{outcome, reportWith, ending, respond, answer}
+use Rattle.answer.proofs.Instance.{outcome-ends}
 
 pub data Ended (c : Call) : Type 0 where
   -- a check refused the call, and the pool is as it was
@@ -28,7 +28,7 @@ or-later true number later m h k = h
 or-later false number later m h k = k
 
 cause-small : (c : Call) → cause c ≤ 6
-unfolding cause
+unfolding cause jobCause
 cause-small c =
     or-later (cause₁ c) 1 _ 6 (omega arith)
     (or-later (cause₂ c) 2 _ 6 (omega arith)

@@ -10,8 +10,8 @@ use Rattle.orders.specs.Orders.{Node, nodes}
 use Rattle.stops.specs.Legs.{Legs, rows, legs}
 use Rattle.stops.specs.Stops.{problem, choices}
 use Rattle.pool.specs.Records.{padded, poolWords, recordsIn}
-use Rattle.planner.specs.Call.{Call, Report, Answer, orderPlaces, refusal}
-use Rattle.planner.specs.Checks.{cause}
+use Rattle.answer.specs.Call.{Call, Report, Answer, orderPlaces, refusal}
+use Rattle.answer.specs.Checks.{cause}
 
 unfoldable pub legsOf : Call → Legs
 legsOf c = legs (rows (c .n) (c .table))

@@ -1,0 +1,5 @@
+pub mod Call
+pub mod Checks
+pub mod Answer
+pub mod Cases
+pub mod OwnCases
