@@ -1,7 +1,6 @@
 pub mod RecordRun
 pub mod StepLaws
 pub mod FamilyLaws
-pub mod OrderLaws
 pub mod BestLaws
 pub mod StepShown
 pub mod StepAfter

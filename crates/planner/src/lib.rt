@@ -7,16 +7,13 @@ ghost use Rattle.planner.specs.Promise.{Promised};
 
 pub mod best;
 pub mod family;
-pub mod order;
 pub mod run;
 pub mod step;
 
-use crate::order::is_order;
 use crate::run::Report;
 use crate::run::refused;
 use crate::run::search;
-use stops::table::diagonal;
-use stops::table::small;
+use checks::job_cause;
 
 // The number of the first of causes 1 to 6 that applies to a call, 0 if none does.
 fn cause_of(
@@ -30,35 +27,9 @@ fn cause_of(
 ) -> u32
     ensures { λ r. ⌜ r ≡ cause (callOf n (now (table .entry)) selection rules bound (now (start .entry)) (now (pool .entry))) ⌝ }
 {
-    if n == 0 {
-        return 1;
-    }
-    if 16 < n {
-        return 1;
-    }
-    let side = (n + 1) as usize;
-    if table.len() != side * side {
-        return 2;
-    }
-    if !small(table) {
-        return 3;
-    }
-    if !diagonal(n as usize, table) {
-        return 3;
-    }
-    if 3 < selection {
-        return 4;
-    }
-    if 15 < rules {
-        return 4;
-    }
-    if 1 < bound {
-        return 4;
-    }
-    if start.len() != 0 {
-        if !is_order(n, start) {
-            return 5;
-        }
+    let number = job_cause(n, table, selection, rules, bound, start);
+    if number != 0 {
+        return number;
     }
     if pool.len() < 6 {
         return 6;

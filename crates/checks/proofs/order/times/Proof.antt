@@ -1,12 +1,12 @@
--- `planner::order::times` meets its contract. The loop's invariant: what is counted so far and how often s stands in the list from k on
+-- `checks::order::times` meets its contract. The loop's invariant: what is counted so far and how often s stands in the list from k on
 -- make up the whole. The measure is what is left of the length. Assumes nothing.
 use Prim.Native.Nat.{_≤_, _-_}
 use mathlib.Core.Logic.{⊎-elim}
 use native.Mathlib.Omega.{arith}
 use lib.ListN.{length}
-use Rattle.planner.proofs.OrderLaws.{Counted, count-found, count-passed, count-ends}
-use Rattle.planner.proofs.order.times.Statement.{statement}
-use Rattle.planner.proofs.order.times.Tie as tie
+use Rattle.checks.proofs.OrderLaws.{Counted, count-found, count-passed, count-ends}
+use Rattle.checks.proofs.order.times.Statement.{statement}
+use Rattle.checks.proofs.order.times.Tie as tie
 
 abbrev Inv-loop : tie.InvT-loop
 Inv-loop x s times₀ k₀ times k = (k ≤ length x) × (times ≤ k) × Counted s x k times

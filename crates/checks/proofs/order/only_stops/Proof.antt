@@ -1,4 +1,4 @@
--- `planner::order::only_stops` meets its contract. The loop's invariant: whether all are stops lies with the list from k on. The
+-- `checks::order::only_stops` meets its contract. The loop's invariant: whether all are stops lies with the list from k on. The
 -- measure is what is left of the length. Assumes nothing.
 use mathlib.Core.Path.{refl}
 use mathlib.Core.Logic.{inl, inr}
@@ -7,9 +7,9 @@ use native.Mathlib.Omega.{arith}
 use lib.ListN.{length, drop, drop-of-length-le}
 use denote.Ref.{now}
 use Rattle.orders.specs.Orders.{stops, flown}
-use Rattle.planner.proofs.OrderLaws.{drop-next, Left, all-fails, all-passes, all-ends, stop-flown, other-flown}
-use Rattle.planner.proofs.order.only_stops.Statement.{statement}
-use Rattle.planner.proofs.order.only_stops.Tie as tie
+use Rattle.checks.proofs.OrderLaws.{drop-next, Left, all-fails, all-passes, all-ends, stop-flown, other-flown}
+use Rattle.checks.proofs.order.only_stops.Statement.{statement}
+use Rattle.checks.proofs.order.only_stops.Tie as tie
 
 abbrev Inv-loop : tie.InvT-loop
 Inv-loop n x k₀ k = (k ≤ length x) × Left (flown (stops n)) x (drop k x)

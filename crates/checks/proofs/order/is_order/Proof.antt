@@ -1,11 +1,11 @@
--- `planner::order::is_order` meets its contract: a list of another length is no order, and the two tests make up the test for orders.
+-- `checks::order::is_order` meets its contract: a list of another length is no order, and the two tests make up the test for orders.
 -- Assumes nothing.
 use mathlib.Core.Path.{sym, _∙_}
 use native.Mathlib.Omega.{arith}
 use borrow.Author.Tests.{not-true, not-false}
-use Rattle.planner.proofs.OrderLaws.{other-length, not-once, only-left}
-use Rattle.planner.proofs.order.is_order.Statement.{statement}
-use Rattle.planner.proofs.order.is_order.Tie as tie
+use Rattle.checks.proofs.OrderLaws.{other-length, not-once, only-left}
+use Rattle.checks.proofs.order.is_order.Statement.{statement}
+use Rattle.checks.proofs.order.is_order.Tie as tie
 
 returns : tie.Need-returns
 returns c = other-length _ _ (c .if1 .taken)

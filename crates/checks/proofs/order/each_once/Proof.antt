@@ -1,4 +1,4 @@
--- `planner::order::each_once` meets its contract. The loop's invariant: whether each of 1 to n stands in x once lies with s to n. The
+-- `checks::order::each_once` meets its contract. The loop's invariant: whether each of 1 to n stands in x once lies with s to n. The
 -- measure is what is left of n + 1. Assumes nothing.
 use mathlib.Core.Path.{ap, sym, _∙_}
 use Prim.Native.Nat.{suc, _≤_, _-_}
@@ -7,9 +7,9 @@ use lib.Dec.{eqb}
 use borrow.Author.Tests.{eq-eqb, ne-eqb}
 use Rattle.lists.specs.Lists.{all}
 use Rattle.orders.specs.Orders.{stops, count}
-use Rattle.planner.proofs.OrderLaws.{Left, all-fails, all-passes, all-ends, between, between-all, between-next, between-none}
-use Rattle.planner.proofs.order.each_once.Statement.{statement}
-use Rattle.planner.proofs.order.each_once.Tie as tie
+use Rattle.checks.proofs.OrderLaws.{Left, all-fails, all-passes, all-ends, between, between-all, between-next, between-none}
+use Rattle.checks.proofs.order.each_once.Statement.{statement}
+use Rattle.checks.proofs.order.each_once.Tie as tie
 
 abbrev Inv-loop : tie.InvT-loop
 Inv-loop n x s₀ s = (s ≤ suc n) × Left (λ r. eqb (count r x) 1) (stops n) (between s n)

@@ -1,0 +1,3 @@
+pub mod JobCause
+pub mod OrderLaws
+pub mod CauseLaws
