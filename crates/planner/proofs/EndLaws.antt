@@ -30,8 +30,9 @@ use Rattle.pool.proofs.PoolWords.{pool-words}
 use Rattle.answer.specs.Call.{Call, Report, orderPlaces}
 use Rattle.answer.specs.Checks.{cause}
 use Rattle.answer.specs.Answer.{legsOf, problemOf, choicesOf, outcome, StateOf, stopsOf, reportWith, wordsOf, ending, respond, answer}
-use Rattle.planner.specs.OnRecords.{Table, farOf, IsBest, Running, Turned, Shown, recordsOf}
-use Rattle.planner.specs.declared.step.Run.{Run}
+use Rattle.step.specs.OnRecords.{Table, farOf, IsBest, Shown}
+use Rattle.planner.specs.Turns.{Running, Turned, recordsOf}
+use Rattle.step.specs.declared.Run.{Run}
 use Rattle.planner.specs.declared.run.Turn.the-variants.{Finish, Full}
 use Rattle.answer.proofs.Passes.{passes}
 use Rattle.answer.proofs.Instance.{overflow-outcome, finish-outcome}

@@ -1,15 +1,6 @@
-pub mod RecordRun
-pub mod StepLaws
-pub mod FamilyLaws
-pub mod BestLaws
-pub mod StepShown
-pub mod StepAfter
-pub mod SurvivorLaws
-pub mod ReplaceLaws
-pub mod ExpandLaws
 pub mod CauseLaws
-pub mod Returns
 pub mod StartLaws
 pub mod TurnLaws
 pub mod SearchLaws
 pub mod EndLaws
+pub mod Returns

@@ -25,8 +25,9 @@ use Rattle.pool.specs.View.{records, encode}
 use Rattle.pool.proofs.ViewLaws.{length-records}
 use Rattle.answer.specs.Call.{Call}
 use Rattle.answer.specs.Answer.{legsOf, given}
-use Rattle.planner.specs.OnRecords.{Table, Rows, Running, Turned, Shown, recordsOf}
-use Rattle.planner.specs.declared.step.Run.{Run}
+use Rattle.step.specs.OnRecords.{Table, Rows, Shown}
+use Rattle.planner.specs.Turns.{Running, Turned, recordsOf}
+use Rattle.step.specs.declared.Run.{Run}
 use Rattle.planner.specs.declared.run.Turn.the-variants.{Go}
 use Rattle.answer.proofs.Passes.{Passes}
 use Rattle.answer.proofs.Instance.{legs-small}

@@ -29,9 +29,10 @@ use Rattle.stops.specs.declared.node.Node.{Node as Record}
 use Rattle.stops.proofs.Instance.{tree-lawful, bound-lawful, stops-solvable}
 use Rattle.pool.specs.View.{records, encode}
 use Rattle.answer.specs.Answer.{given}
-use Rattle.planner.specs.OnRecords.{Table, bounded, rootOf, IsBest, farOf, Rows, Shown, recordsOf}
-use Rattle.planner.specs.declared.best.Best.{Best}
-use Rattle.planner.proofs.RecordRun.{encode-root}
+use Rattle.step.specs.OnRecords.{Table, bounded, rootOf, IsBest, farOf, Rows, Shown}
+use Rattle.planner.specs.Turns.{recordsOf}
+use Rattle.step.specs.declared.best.Best.{Best}
+use Rattle.step.proofs.RecordRun.{encode-root}
 
 module _ (n : ℕ) (L : Legs) where
   pub given-known : (first : List ℕ) → (first ≡ []) ⊎ Order n first → KnownIn (problem n L) (given first)

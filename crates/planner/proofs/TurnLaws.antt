@@ -40,13 +40,14 @@ use Rattle.stops.proofs.Instance.{tree-lawful, bound-lawful, stops-weigh, stops
 use Rattle.pool.specs.View.{records, encode}
 use Rattle.pool.specs.Passes.{Chosen, dropAt}
 use Rattle.answer.specs.Answer.{given}
-use Rattle.planner.specs.OnRecords.{Table, recProblem, recChoices, Encoded, Ready, Shown, stepOf, Stepping, recordsOf, Running, Turned}
-use Rattle.planner.specs.declared.step.Run.{Run}
-use Rattle.planner.specs.declared.step.After.the-variants.{Full as FullAfter, Go as GoAfter}
+use Rattle.step.specs.OnRecords.{Table, recProblem, recChoices, Encoded, Ready, Shown, stepOf, Stepping}
+use Rattle.planner.specs.Turns.{recordsOf, Running, Turned}
+use Rattle.step.specs.declared.Run.{Run}
+use Rattle.step.specs.declared.After.the-variants.{Full as FullAfter, Go as GoAfter}
 use Rattle.planner.specs.declared.run.Turn.the-variants.{Finish, Full, Go}
-use Rattle.planner.proofs.RecordRun.{record-maps}
-use Rattle.planner.proofs.StepShown.{upper-best}
-use Rattle.planner.proofs.StepAfter.{dropped-length}
+use Rattle.step.proofs.RecordRun.{record-maps}
+use Rattle.step.proofs.StepShown.{upper-best}
+use Rattle.step.proofs.StepAfter.{dropped-length}
 use Rattle.planner.proofs.StartLaws.{given-known, given-valid, root-within}
 
 -- what comes next of a state, from what comes next of its image

@@ -1,2 +1,2 @@
-pub mod OnRecords
+pub mod Turns
 pub mod Promise

@@ -1,14 +1,11 @@
 // The planner: `plan` is open to a caller; every other function is public for this crate alone, and what it requires its callers meet.
-// specs/Answer of crate `answer` says what `plan` answers; specs/OnRecords is the code's own.
+// specs/Answer of crate `answer` says what `plan` answers; specs/Turns is the code's own.
 ghost use mathlib.Core.Path.{_≡_};
 ghost use Rattle.answer.specs.Call.{callOf};
 ghost use Rattle.answer.specs.Checks.{cause};
 ghost use Rattle.planner.specs.Promise.{Promised};
 
-pub mod best;
-pub mod family;
 pub mod run;
-pub mod step;
 
 use crate::run::Report;
 use crate::run::refused;

@@ -9,8 +9,9 @@ use Rattle.stops.specs.declared.node.Node.{Node as Record}
 use Rattle.pool.specs.View.{records}
 use Rattle.pool.specs.Passes.{Chose, Chosen}
 use Rattle.pool.specs.declared.choose.Place.{Place}
-use Rattle.planner.specs.OnRecords.{Stepping, Shown, recordsOf}
-use Rattle.planner.specs.declared.step.After.{After}
+use Rattle.step.specs.OnRecords.{Stepping, Shown}
+use Rattle.planner.specs.Turns.{recordsOf}
+use Rattle.step.specs.declared.After.{After}
 use Rattle.planner.proofs.TurnLaws.{turn-chooses, turn-loads, turn-finishes, turn-ready, turn-full, turn-goes}
 use Rattle.planner.proofs.run.take_turn.Statement.{statement}
 use Rattle.planner.proofs.run.take_turn.Tie as tie

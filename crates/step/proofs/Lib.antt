@@ -1,0 +1,9 @@
+pub mod RecordRun
+pub mod FamilyLaws
+pub mod BestLaws
+pub mod SurvivorLaws
+pub mod ReplaceLaws
+pub mod ExpandLaws
+pub mod StepLaws
+pub mod StepShown
+pub mod StepAfter

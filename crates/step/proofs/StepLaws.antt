@@ -1,0 +1,188 @@
+-- What the planner's step computes is the written step on records: the passes of the rules, one after the other, are its parts 3 to 7,
+-- and the one subtraction that counts the eliminated nodes is the sum over its parts.
+--   limit      the largest bound that rule 1 keeps: U, or the largest number of 32 bits where rule 1 is off
+-- Assumes nothing.
+use mathlib.Core.Path.{_≡_, refl, sym, _∙_, ap, ap₂, subst}
+use mathlib.Core.Bool.{Bool, true, false, not, _&&_, _||_, cond}
+use mathlib.Core.List.{List, [], _∷_, _++_, reverse, reverse-cons, List·Memᴰ·tail}
+use mathlib.Core.Option.{Option, none, some}
+use Prim.Native.Nat.{ℕ, suc, _+_, _-_, _≤_, _<_}
+use native.Mathlib.Omega.{arith}
+use lib.Dec.{T, leb, ltb, le→leb, not-T}
+use lib.ListN.{length, take, drop, length-append}
+use Rattle.lists.specs.Lists.{In, keep, any, put}
+use Rattle.lists.proofs.Tests.{to-true, same-tests, tests, either}
+use Rattle.lists.proofs.Members.{in-head}
+use Rattle.lists.proofs.Keep.{keep-same, keep-keep, keep-all, any-append}
+use Rattle.lists.proofs.Numbers.{keep-parts}
+use Rattle.search.specs.Problem.{Problem, Choices, State, upper}
+use Rattle.search.specs.Step.{on, learn, children₁, best₂, over₃, children₃, rest₃, dominated₄, children₄, dominated₅, children₅, dominated₆, rest₆, active₇, step}
+use Rattle.stops.specs.Record.{recDominates}
+use Rattle.stops.specs.Stops.{aboveEveryCost}
+use Rattle.stops.specs.declared.node.Node.{Node as Record}
+use Rattle.pool.specs.Passes.{isWithin, isFree, isStaying, dropAt}
+use Rattle.step.specs.OnRecords.{Table, recProblem, recChoices, childrenOf, survivorsOf, passing, farOf}
+
+-- any over a part, and over a list turned around
+any-keep : {A : Type 0} (p q : A → Bool) (xs : List A) → any p (keep q xs) ≡ any (λ x. q x && p x) xs
+any-keep p q [] = refl
+any-keep p q (x ∷ xs) = go (q x) (any-keep p q xs)
+  where
+    go : (b : Bool) → any p (keep q xs) ≡ any (λ y. q y && p y) xs → any p (put b x (keep q xs)) ≡ (b && p x || any (λ y. q y && p y) xs)
+    go true e = ap (λ (k : Bool). p x || k) e
+    go false e = e
+
+or-turn : (a b : Bool) → (a || (b || false)) ≡ (b || a)
+or-turn true true = refl
+or-turn true false = refl
+or-turn false true = refl
+or-turn false false = refl
+
+any-reverse : {A : Type 0} (p : A → Bool) (xs : List A) → any p (reverse xs) ≡ any p xs
+any-reverse p [] = refl
+any-reverse p (x ∷ xs) =
+    ap (any p) (reverse-cons x xs) ∙ any-append p (reverse xs) (x ∷ []) ∙ or-turn (any p (reverse xs)) (p x)
+    ∙ ap (λ (k : Bool). p x || k) (any-reverse p xs)
+
+any-same : {A : Type 0} (p q : A → Bool) (xs : List A) → ((x : A) → In x xs → p x ≡ q x) → any p xs ≡ any q xs
+any-same p q [] h = refl
+any-same p q (x ∷ xs) h = ap₂ _||_ (h x in-head) (any-same p q xs (λ y m. h y (List·Memᴰ·tail m)))
+
+-- no bound is above the largest number
+abbrev pub Bounded : List Record → Type 0
+Bounded xs = (x : Record) → In x xs → x .bound ≤ aboveEveryCost
+
+-- dominators up to a limit that no bound passes are all of them
+free-any : (ys : List Record) → Bounded ys → (x : Record) → isFree aboveEveryCost ys x ≡ not (any (λ w. recDominates w x) ys)
+unfolding isFree
+free-any ys small x =
+    ap not
+    (any-same (λ y. leb (y .bound) aboveEveryCost && recDominates y x) (λ w. recDominates w x) ys
+    (λ y m. ap (λ (k : Bool). k && recDominates y x) (to-true (leb (y .bound) aboveEveryCost) (le→leb (y .bound) aboveEveryCost (small y m)))))
+
+-- a test under a rule, and the rule's pass
+off-keeps : (rule : Bool) (test passes : Record → Bool) (xs : List Record)
+    → ((x : Record) → In x xs → T rule → not (test x) ≡ passes x) → keep (λ x. not (rule && test x)) xs ≡ passing rule passes xs
+off-keeps true test passes xs h = keep-same (λ x. not (test x)) passes xs (λ x m. h x m tt)
+off-keeps false test passes xs h = keep-all (λ x. true) xs (λ x m. tt)
+
+within-limit : (u : ℕ) (x : Record) → not (ltb u (x .bound)) ≡ isWithin u x
+unfolding isWithin
+within-limit u x = same-tests (not (ltb u (x .bound))) (leb (x .bound) u) (λ h. omega (arith, tests)) (λ h. not-T (ltb u (x .bound)) (λ g. omega (arith, tests)))
+
+module _ (n : ℕ) (t : Table) (k rules : ℕ) (s : State Record) (b : Record) (rest : List Record) where
+  abbrev Q : Problem Record
+  Q = recProblem n t k
+
+  abbrev D : Choices Record
+  D = recChoices 0 rules
+
+  -- the limit of rule 1
+  abbrev limit : ℕ
+  limit = cond (on 1 rules) (upper Q (best₂ Q D s b rest)) aboveEveryCost
+
+  by-rule-1 : (xs : List Record) → keep (λ x. not (over₃ Q D s b rest x)) xs ≡ passing (on 1 rules) (isWithin limit) xs
+  unfolding over₃ recChoices
+  by-rule-1 xs = off-keeps (on 1 rules) (λ x. ltb (upper Q (best₂ Q D s b rest)) (x .bound)) (isWithin limit) xs (λ x m. within x (on 1 rules))
+    where
+      u : ℕ
+      u = upper Q (best₂ Q D s b rest)
+
+      within : (x : Record) (rule : Bool) → T rule → not (ltb u (x .bound)) ≡ isWithin (cond rule u aboveEveryCost) x
+      within x true h = within-limit u x
+      within x false h = absurd h
+
+  by-rule-1-children : children₃ Q D s b rest ≡ passing (on 1 rules) (isWithin limit) (childrenOf n t k b)
+  unfolding children₃ children₁ recProblem
+  by-rule-1-children = by-rule-1 (childrenOf n t k b)
+
+  by-rule-1-rest : rest₃ Q D s b rest ≡ passing (on 1 rules) (isWithin limit) rest
+  unfolding rest₃
+  by-rule-1-rest = by-rule-1 rest
+
+  -- an active node that rule 1 leaves dominates x: an active node with a bound up to the limit does
+  rivals : Bounded rest → (x : Record) → any (λ w. recDominates w x) (rest₃ Q D s b rest) ≡ any (λ y. leb (y .bound) limit && recDominates y x) rest
+  unfolding isWithin
+  rivals small x = ap (any (λ w. recDominates w x)) by-rule-1-rest ∙ go (on 1 rules)
+    where
+      u : ℕ
+      u = upper Q (best₂ Q D s b rest)
+
+      go :
+          (rule : Bool)
+          → any (λ w. recDominates w x) (passing rule (isWithin (cond rule u aboveEveryCost)) rest)
+          ≡ any (λ y. leb (y .bound) (cond rule u aboveEveryCost) && recDominates y x) rest
+      go true = any-keep (λ w. recDominates w x) (isWithin u) rest
+      go false =
+          sym
+          (any-same (λ y. leb (y .bound) aboveEveryCost && recDominates y x) (λ w. recDominates w x) rest
+          (λ y m. ap (λ (e : Bool). e && recDominates y x) (to-true (leb (y .bound) aboveEveryCost) (le→leb (y .bound) aboveEveryCost (small y m)))))
+
+  by-rule-2 : Bounded rest → children₄ Q D s b rest ≡ passing (on 2 rules) (isFree limit rest) (children₃ Q D s b rest)
+  unfolding children₄ dominated₄ recProblem recChoices isFree
+  by-rule-2 small =
+      off-keeps (on 2 rules) (λ x. any (λ w. recDominates w x) (rest₃ Q D s b rest)) (isFree limit rest) (children₃ Q D s b rest)
+      (λ x m h. ap not (rivals small x))
+
+  by-rule-4 :
+      (far : List Record) → Bounded far → far ≡ farOf (on 4 rules) (s .branched)
+      → children₅ Q D s b rest ≡ passing (on 4 rules) (isFree aboveEveryCost far) (children₄ Q D s b rest)
+  unfolding children₅ dominated₅ recProblem recChoices
+  by-rule-4 far small e =
+      off-keeps (on 4 rules) (λ x. any (λ w. recDominates w x) (s .branched)) (isFree aboveEveryCost far) (children₄ Q D s b rest)
+      (λ x m h. go (on 4 rules) e h x)
+    where
+      go : (rule : Bool) → far ≡ farOf rule (s .branched) → T rule → (x : Record) → not (any (λ w. recDominates w x) (s .branched)) ≡ isFree aboveEveryCost far x
+      go true q h x = ap not (sym (ap (any (λ w. recDominates w x)) q ∙ any-reverse (λ w. recDominates w x) (s .branched))) ∙ sym (free-any far small x)
+      go false q h x = absurd h
+
+  -- parts 3 to 5: what survives of the children
+  pub survivors-are :
+      (far : List Record) → Bounded rest → Bounded far → far ≡ farOf (on 4 rules) (s .branched)
+      → children₅ Q D s b rest ≡ survivorsOf rules limit rest far (childrenOf n t k b)
+  unfolding survivorsOf
+  survivors-are far small small-far e =
+      by-rule-4 far small-far e
+      ∙ ap (passing (on 4 rules) (isFree aboveEveryCost far))
+      (by-rule-2 small ∙ ap (passing (on 2 rules) (isFree limit rest)) by-rule-1-children)
+
+  -- part 6: what stays of the active nodes, with the children that take part in rule 8
+  pub staying-are :
+      Bounded rest → rest₆ Q D s b rest ≡ keep (isStaying limit (cond (on 8 rules) (children₅ Q D s b rest) [])) rest
+  unfolding rest₆ dominated₆ recProblem recChoices isStaying isWithin
+  staying-are small =
+      ap (keep (λ x. not (on 8 rules && any (λ w. recDominates w x) (children₅ Q D s b rest)))) by-rule-1-rest
+      ∙ go (on 1 rules) (on 8 rules)
+    where
+      kids : List Record
+      kids = children₅ Q D s b rest
+
+      u : ℕ
+      u = upper Q (best₂ Q D s b rest)
+
+      fit : (x : Record) → In x rest → (e : Bool) → e ≡ (leb (x .bound) aboveEveryCost && e)
+      fit x m e = ap (λ (f : Bool). f && e) (sym (to-true (leb (x .bound) aboveEveryCost) (le→leb (x .bound) aboveEveryCost (small x m))))
+
+      go :
+          (one eight : Bool)
+          → keep (λ x. not (eight && any (λ w. recDominates w x) kids)) (passing one (isWithin (cond one u aboveEveryCost)) rest)
+          ≡ keep (isStaying (cond one u aboveEveryCost) (cond eight kids [])) rest
+      go true true = keep-keep (λ x. not (any (λ w. recDominates w x) kids)) (isWithin u) rest
+      go true false = keep-keep (λ x. true) (isWithin u) rest
+      go false true = keep-same (λ x. not (any (λ w. recDominates w x) kids)) (isStaying aboveEveryCost kids) rest (λ x m. fit x m (not (any (λ w. recDominates w x) kids)))
+      go false false = keep-same (λ x. true) (isStaying aboveEveryCost []) rest (λ x m. fit x m true)
+
+  -- parts 3 to 6 together: what was eliminated is what is neither left nor new
+  pub eliminated-are :
+      step Q D s b rest .eliminated + length (rest₆ Q D s b rest ++ children₅ Q D s b rest) ≡ s .eliminated + (length rest + length (children₁ Q D s b rest))
+  unfolding step children₃ rest₃ children₄ children₅ rest₆
+  eliminated-are =
+      omega (
+        arith,
+        length-append (rest₆ Q D s b rest) (children₅ Q D s b rest),
+        keep-parts (over₃ Q D s b rest) (children₁ Q D s b rest),
+        keep-parts (over₃ Q D s b rest) rest,
+        keep-parts (dominated₄ Q D s b rest) (children₃ Q D s b rest),
+        keep-parts (dominated₅ Q D s b rest) (children₄ Q D s b rest),
+        keep-parts (dominated₆ Q D s b rest) (rest₃ Q D s b rest),
+      )

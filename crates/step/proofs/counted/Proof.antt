@@ -1,0 +1,24 @@
+-- `counted` meets its contract: `most` is the larger of the two. Assumes nothing.
+use mathlib.Core.Path.{_≡_, sym, _∙_}
+use mathlib.Core.Logic.{⊎-elim}
+use Prim.Native.Nat.{_≤_, max}
+use native.Mathlib.Nat.{max-eq-left, max-eq-right}
+use native.Mathlib.Omega.{arith}
+use Rattle.step.proofs.counted.Statement.{statement}
+use Rattle.step.proofs.counted.Tie as tie
+
+most-is : (c : tie.Joined1) → c .if1 .most ≡ max (c .before .before .args .r .most) (c .before .before .args .active)
+most-is c =
+    let a = c .before .before .args in
+    ⊎-elim
+    (λ w. let h : a .r .most ≤ a .active = omega arith in w .1 ∙ sym (max-eq-right h))
+    (λ w. let h : a .active ≤ a .r .most = omega arith in w .1 ∙ sym (max-eq-left h))
+    (c .if1 .came)
+
+returns : tie.Need-returns
+returns c = rw (most-is (c .before .before .before))
+
+pub counted-spec : {M : Type 1} → statement M
+counted-spec =
+    tie.close
+    (tie.spec (λ c. omega arith) (λ c. omega arith) (λ c. omega arith) (λ c. omega arith) (λ c. omega arith) (λ c. omega arith) returns)

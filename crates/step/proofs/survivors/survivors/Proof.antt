@@ -1,0 +1,45 @@
+-- `survivors` meets its contract: the passes of the three rules, each over what the one before it left. Assumes nothing.
+use Prim.Native.Nat.{_-_}
+use native.Mathlib.Omega.{arith}
+use lib.ListN.{take, drop}
+use borrow.Author.Needs.{needs}
+use Rattle.pool.specs.View.{records}
+use Rattle.pool.specs.Passes.{dropAt}
+use Rattle.step.proofs.SurvivorLaws.{sifted-fewer, survivors-sifted}
+use Rattle.step.proofs.survivors.survivors.Statement.{statement}
+use Rattle.step.proofs.survivors.survivors.Tie as tie
+
+by-rule-1-requires : tie.Need-by-rule-1-requires
+by-rule-1-requires c κs = search needs
+
+by-rule-2-requires : tie.Need-by-rule-2-requires
+by-rule-2-requires c κs =
+    let first = c .before .before .before .by-rule-1 .ensures in
+    omega (arith, sifted-fewer first, first .same-length)
+
+by-rule-4-requires : tie.Need-by-rule-4-requires
+by-rule-4-requires c κs =
+    let first = c .before .before .before .before .before .before .before .by-rule-1 .ensures in
+    let second = c .before .before .before .by-rule-2 .ensures in
+    omega (arith, sifted-fewer first, first .same-length, sifted-fewer second, second .same-length)
+
+same-length : tie.Need-same-length
+same-length c = search needs
+
+returns : tie.Need-returns
+returns c =
+    let args = c .before .before .before .before .before .before .before .before .before .before .before .before .before .before .args in
+    let recs = records (args .w .now) in
+    survivors-sifted
+    (args .rules)
+    (args .limit)
+    (dropAt (args .i) (take (args .a) recs))
+    (drop (args .count - args .held) recs)
+    (c .before .before .before .before .before .before .before .before .before .before .by-rule-1 .ensures)
+    (c .before .before .before .before .before .before .by-rule-2 .ensures)
+    (c .before .before .by-rule-4 .ensures)
+
+pub survivors-spec : {M : Type 1} → statement M
+survivors-spec =
+    tie.close
+    (tie.spec by-rule-1-requires by-rule-2-requires by-rule-4-requires same-length returns)
