@@ -52,7 +52,7 @@ turned wrong right e = rw (e, Bool·not-not)
 
 stops : (c : tie.Else2) → cause₁ (call (start₁ c)) ≡ false
 unfolding callOf
-stops c = stops-pass (call (start₁ c)) (c .before .if1 .left) (c .if2 .left)
+stops c = stops-pass (call (start₁ c)) (c .before .if1 .left) (omega arith)
 
 area : (c : tie.Else3) → cause₂ (call (start₂ c)) ≡ false
 unfolding callOf

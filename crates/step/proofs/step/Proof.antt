@@ -178,9 +178,7 @@ counted-requires c κs =
     let some : 1 ≤ run d .active = omega (arith, ready .inside) in
     let room : run d .active + given d .count < 2 ^ 62 =
     omega (arith, ready .fits, length-records (words d), x .few, start d .good .1 .1 .1 .1 .0) in
-    let number : put .result ≡ length (staying d) + given d .left = put .ensures .1 .0 in
-    let few : put .result ≤ run d .active - 1 + given d .count = omega (arith, x .fewer) in
-    (some, (room, (few, ready .room)))
+    (some, (room, (omega (arith, put .ensures .1 .0, x .fewer), ready .room)))
 
 same-length-2 : tie.Need-same-length-2
 same-length-2 c = search needs
