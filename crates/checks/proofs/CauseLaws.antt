@@ -118,7 +118,7 @@ module _ (n : ℕ) (table : List ℕ) where
 
   -- a job with this table
   module _ (selection rules bound : ℕ) (start : List ℕ) where
-    abbrev pub job : Call
+    abbrev job : Call
     job = callOf n table selection rules bound start []
 
     abbrev later : ℕ

@@ -1,5 +1,5 @@
 -- Demand 3 of the planner: what `plan` returns, from its promise alone (`Promised`). The two halves are those of `Demand3` and
--- `Demand3Pairs`, which speak of `answer`. Assumes nothing.
+-- `Demand3Pairs` (crate `answer`), which speak of `answer`. Assumes nothing.
 use mathlib.Core.Path.{_≡_, sym, _∙_, ap, subst}
 use mathlib.Core.List.{List}
 use Prim.Native.Nat.{ℕ, _+_, _≤_}

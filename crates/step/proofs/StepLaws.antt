@@ -1,4 +1,4 @@
--- What the planner's step computes is the written step on records: the passes of the rules, one after the other, are its parts 3 to 7,
+-- What the code of a step computes is the written step on records: the passes of the rules, one after the other, are its parts 3 to 7,
 -- and the one subtraction that counts the eliminated nodes is the sum over its parts.
 --   limit      the largest bound that rule 1 keeps: U, or the largest number of 32 bits where rule 1 is off
 -- Assumes nothing.

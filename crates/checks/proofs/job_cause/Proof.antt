@@ -1,7 +1,5 @@
 -- `job_cause` meets its contract: a cause of the table stands; without one, cause 4 or 5 does, or none. Assumes nothing.
-use mathlib.Core.Path.{_≡_, sym, _∙_}
-use mathlib.Core.List.{List}
-use Prim.Native.Nat.{ℕ}
+use mathlib.Core.Path.{sym, _∙_}
 use borrow.Author.Needs.{needs}
 use Rattle.checks.proofs.CauseLaws.{few-stops, table-refuses, choice-refuses, start-refuses, all-pass}
 use Rattle.checks.proofs.job_cause.Statement.{statement}
