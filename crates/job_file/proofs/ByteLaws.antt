@@ -1,0 +1,149 @@
+-- Laws of bytes.
+--   overwrite-none, overwrite-next, overwrite-one, length-overwrite    a buffer whose front is written, a few bytes at a time
+--   overwrite-behind    a part of a buffer, behind what is written, is lent and written in its turn
+--   padded-overwrite, length-padded, padded-one    an array of zeros whose front is written
+--   take-next, numbers-next, table-next    the lists that the loops write, one element more
+--   length-numbers, length-each-number    their lengths
+--   four-bytes    the number at a place, byte by byte
+--   value-bytes, bytes-value    a number and its bytes, least byte first: each way and back
+-- Assumes nothing.
+use mathlib.Core.Path.{_≡_, refl, ap, sym, _∙_}
+use mathlib.Core.List.{List, [], _∷_, _++_, map, append-assoc, append-nil, List·Memᴰ·tail}
+use Prim.Native.Nat.{ℕ, zero, suc, _+_, _*_, _-_, _^_, _/_, _%_, _≤_, _<_}
+use native.Mathlib.Numerals.{add-one, towards-suc}
+use native.Mathlib.Omega.{arith}
+use lib.ListN.{length, getD, set, take, drop, replicate, length-append, length-drop, length-map, length-replicate}
+use lib.Seq.{sets, sets-eq, take-append-seam, drop-append-seam, drop-append-add, drop-drop, take-suc, length-take-le}
+use Rattle.lists.specs.Lists.{In, from, each}
+use Rattle.lists.proofs.Members.{in-head, length-from}
+use Rattle.pool.specs.Records.{padded}
+use Rattle.job_file.specs.Bytes.{leastFirst, valueOf, number, numberAt, overwrite, AllBytes}
+use Rattle.job_file.specs.Reader.{numbersIn}
+use Rattle.job_file.specs.Cases
+
+pub overwrite-none : (buffer : List ℕ) → buffer ≡ overwrite [] buffer
+unfolding overwrite
+overwrite-none buffer = refl
+
+pub length-overwrite : (xs buffer : List ℕ) → length xs ≤ length buffer → length (overwrite xs buffer) ≡ length buffer
+unfolding overwrite
+length-overwrite xs buffer h = simp (length-append, length-drop) (omega arith)
+
+overwrite-more :
+    (xs ys buffer : List ℕ) → length xs + length ys ≤ length buffer → sets (overwrite xs buffer) (length xs) ys ≡ overwrite (xs ++ ys) buffer
+unfolding overwrite
+overwrite-more xs ys buffer h =
+    sets-eq ys (overwrite xs buffer) (length xs) (omega (arith, length-overwrite xs buffer (omega arith)))
+    ∙ rw (take-append-seam, drop-append-add, drop-drop, length-append)
+
+-- one turn of a loop that writes ys behind xs
+pub overwrite-next :
+    (xs ys zs buffer : List ℕ) (place : ℕ) → length xs ≡ place → zs ≡ xs ++ ys → place + length ys ≤ length buffer
+    → sets (overwrite xs buffer) place ys ≡ overwrite zs buffer
+overwrite-next xs ys zs buffer place e f h = rw (← e, f) (overwrite-more xs ys buffer (omega arith))
+
+-- one turn of a loop that writes bytes, or numbers into an array, one after another
+pub overwrite-one :
+    (xs zs buffer : List ℕ) (k y : ℕ) → length xs ≡ k → zs ≡ xs ++ (y ∷ []) → k < length buffer
+    → set (overwrite xs buffer) k y ≡ overwrite zs buffer
+overwrite-one xs zs buffer k y e f h = overwrite-next xs (y ∷ []) zs buffer k e f (omega arith)
+
+pub overwrite-behind :
+    (xs ys buffer : List ℕ)
+    → take (length xs) (overwrite xs buffer) ++ overwrite ys (drop (length xs) (overwrite xs buffer)) ≡ overwrite (xs ++ ys) buffer
+unfolding overwrite
+overwrite-behind xs ys buffer = rw (take-append-seam, drop-append-seam, drop-drop, length-append, append-assoc)
+
+abbrev zeros : ℕ → List ℕ
+zeros n = replicate n 0
+
+drop-zeros : (k n : ℕ) → drop k (zeros n) ≡ zeros (n - k)
+drop-zeros zero n = ap zeros (let e : n ≡ n - 0 = omega arith in e)
+drop-zeros (suc k) zero = ap zeros (let e : 0 ≡ 0 - suc k = omega arith in e)
+drop-zeros (suc k) (suc n) = drop-zeros k n ∙ ap zeros (let e : n - k ≡ suc n - suc k = omega arith in e)
+
+pub padded-overwrite : (n : ℕ) (xs : List ℕ) → padded n xs ≡ overwrite xs (zeros n)
+unfolding padded overwrite
+padded-overwrite n xs = ap (λ (l : List ℕ). xs ++ l) (sym (drop-zeros (length xs) n))
+
+pub length-padded : (n : ℕ) (xs : List ℕ) → length xs ≤ n → length (padded n xs) ≡ n
+length-padded n xs h =
+    let long : length (zeros n) ≡ n = length-replicate n 0 in
+    rw (padded-overwrite n xs, length-overwrite xs (zeros n) (omega arith)) long
+
+pub padded-one :
+    (n : ℕ) (xs zs : List ℕ) (k y : ℕ) → length xs ≡ k → zs ≡ xs ++ (y ∷ []) → k < n → set (padded n xs) k y ≡ padded n zs
+padded-one n xs zs k y e f h =
+    rw (padded-overwrite n xs, padded-overwrite n zs) (overwrite-one xs zs (zeros n) k y e f (omega (arith, length-replicate {A = ℕ} n 0)))
+
+-- the lists that the loops write, one element more
+pub take-next : (xs : List ℕ) (k : ℕ) → k < length xs → take (k + 1) xs ≡ take k xs ++ (getD xs k 0 ∷ [])
+take-next xs k h = rw add-one (take-suc xs k 0 h)
+
+numbers-from : (f : ℕ → ℕ) (a k b : ℕ) → a + k ≡ b → map f (from a (suc k)) ≡ map f (from a k) ++ (f b ∷ [])
+numbers-from f a zero b e = rw (let e′ : a ≡ b = omega arith in e′)
+numbers-from f a (suc k) b e = ap (λ (l : List ℕ). f a ∷ l) (numbers-from f (suc a) k b (omega arith))
+
+pub numbers-next : (k : ℕ) (file : List ℕ) → numbersIn (k + 1) file ≡ numbersIn k file ++ (numberAt file (4 * k) ∷ [])
+unfolding numbersIn
+numbers-next k file = rw add-one (numbers-from (λ i. numberAt file (4 * i)) 0 k k (omega arith))
+
+pub length-numbers : (k : ℕ) (file : List ℕ) → length (numbersIn k file) ≡ k
+unfolding numbersIn
+length-numbers k file = length-map (from 0 k) (λ i. numberAt file (4 * i)) ∙ length-from 0 k
+
+pub length-each-number : (xs : List ℕ) → length (each number xs) ≡ 4 * length xs
+unfolding number
+length-each-number [] = omega arith
+length-each-number (x ∷ xs) = omega (arith, length-each-number xs)
+
+each-append : (xs ys : List ℕ) → each number (xs ++ ys) ≡ each number xs ++ each number ys
+each-append [] ys = refl
+each-append (x ∷ xs) ys = rw (each-append xs ys, append-assoc)
+
+each-next : (xs : List ℕ) (k : ℕ) → k < length xs → each number (take (k + 1) xs) ≡ each number (take k xs) ++ number (getD xs k 0)
+each-next xs k h = rw (take-next xs k, each-append, append-nil)
+
+length-number : (x : ℕ) → length (number x) ≡ 4
+unfolding number
+length-number x = refl
+
+-- one turn of the loop that writes the table
+pub table-next :
+    (table buffer : List ℕ) (k : ℕ) → k < length table → 4 * length table ≤ length buffer
+    → sets (overwrite (each number (take k table)) buffer) (4 * k) (number (getD table k 0)) ≡ overwrite (each number (take (k + 1) table)) buffer
+table-next table buffer k h fits =
+    let front : List ℕ = each number (take k table) in
+    let place : length front ≡ 4 * k = omega (arith, length-each-number (take k table), length-take-le k table (omega arith)) in
+    overwrite-next front _ _ buffer (4 * k) place (each-next table k h) (omega (arith, length-number (getD table k 0)))
+
+four-from :
+    (bytes : List ℕ) (place : ℕ) → place + 4 ≤ length bytes
+    → numberAt bytes place
+    ≡ getD bytes place 0
+    + 256 * (getD bytes (suc place) 0 + 256 * (getD bytes (suc (suc place)) 0 + 256 * getD bytes (suc (suc (suc place))) 0))
+unfolding numberAt
+four-from [] place h = absurd (omega arith)
+four-from (a ∷ []) zero h = absurd (omega arith)
+four-from (a ∷ b ∷ []) zero h = absurd (omega arith)
+four-from (a ∷ b ∷ c ∷ []) zero h = absurd (omega arith)
+four-from (a ∷ b ∷ c ∷ d ∷ bytes) zero h = omega arith
+four-from (a ∷ bytes) (suc place) h = four-from bytes place (omega arith)
+
+pub four-bytes :
+    (bytes : List ℕ) (place : ℕ) → place + 4 ≤ length bytes
+    → numberAt bytes place
+    ≡ getD bytes place 0 + 256 * (getD bytes (place + 1) 0 + 256 * (getD bytes (place + 2) 0 + 256 * getD bytes (place + 3) 0))
+four-bytes bytes place h = simp towards-suc (four-from bytes place h)
+
+pub value-bytes : (k x : ℕ) → x < 256 ^ k → valueOf (leastFirst k x) ≡ x
+value-bytes zero x h = omega arith
+value-bytes (suc k) x h = let again : valueOf (leastFirst k (x / 256)) ≡ x / 256 = value-bytes k (x / 256) (omega arith) in omega arith
+
+pub bytes-value : (bytes : List ℕ) → AllBytes bytes → leastFirst (length bytes) (valueOf bytes) ≡ bytes
+bytes-value [] h = refl
+bytes-value (b ∷ bytes) h =
+    let small : b < 256 = h b in-head in
+    let first : (b + 256 * valueOf bytes) % 256 ≡ b = omega arith in
+    let rest : (b + 256 * valueOf bytes) / 256 ≡ valueOf bytes = omega arith in
+    rw (first, rest, bytes-value bytes (λ x m. h x (List·Memᴰ·tail m)))

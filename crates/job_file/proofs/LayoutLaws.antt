@@ -1,0 +1,95 @@
+-- The layout of a file, as the code reckons it.
+--   area-of, area-small    (n+1) squared, as the code reckons it
+--   Layout, layout-of, of-layout    the places and the length, where nothing is misplaced, and back
+--   table-elsewhere, start-elsewhere, other-length, layout-fits    what each test of the layout decides
+-- Assumes nothing.
+use mathlib.Core.Path.{_≡_, refl, ap, sym, _∙_}
+use mathlib.Core.Bool.{Bool, true, false, not, _||_, or-true}
+use mathlib.Core.List.{List}
+use mathlib.Core.Logic.{_≢_}
+use Prim.Native.Nat.{ℕ, _+_, _*_, _≤_}
+use native.Mathlib.Nat.{mul-le-mul}
+use native.Mathlib.Omega.{arith}
+use lib.Dec.{ltb, eqb}
+use lib.ListN.{getD}
+use borrow.Author.Tests.{eqb-true, ltb-false, not-false, eq-eqb, ne-eqb, le-ltb}
+use Rattle.job_file.specs.Bytes.{numberAt}
+use Rattle.job_file.specs.Job.{Trailer, trailerLength, area, startPlaceOf, fileLength, longest}
+use Rattle.job_file.specs.Reader.{trailerFrom, misplaced}
+
+pub area-of : (n : ℕ) → (n + 1) * (n + 1) ≡ area n
+area-of n = omega arith
+
+pub area-small : (n : ℕ) → n ≤ 16 → (n + 1) * (n + 1) ≤ 289
+area-small n h =
+    let few : n + 1 ≤ 17 = omega arith in
+    mul-le-mul few few
+
+pub or-false : (a b : Bool) → (a || b) ≡ false → (a ≡ false) × (b ≡ false)
+or-false true b e = absurd (let z : _≡_ {A = ℕ} 0 1 = cc in omega arith)
+or-false false b e = (refl, e)
+
+pub record Layout (t : Trailer) (len : ℕ) : Type 0 where
+  pub table : t .tablePlace ≡ 0
+  pub start : t .startPlace ≡ startPlaceOf (t .n)
+  pub whole : len ≡ fileLength (t .n) (t .startLength)
+  pub short : len ≤ longest
+
+module _ (t : Trailer) (len : ℕ) where
+  abbrev table-off : Bool
+  table-off = not (eqb (t .tablePlace) 0)
+
+  abbrev start-off : Bool
+  start-off = not (eqb (t .startPlace) (startPlaceOf (t .n)))
+
+  abbrev end-off : Bool
+  end-off = not (eqb len (fileLength (t .n) (t .startLength)))
+
+  pub layout-of : misplaced t len ≡ false → Layout t len
+  unfolding misplaced
+  layout-of e =
+      let (most, long) = or-false (table-off || start-off || end-off) (ltb longest len) e in
+      let (places, end) = or-false (table-off || start-off) end-off most in
+      let (table, start) = or-false table-off start-off places in
+      record {
+        table = eqb-true (t .tablePlace) 0 (not-false _ table);
+        start = eqb-true (t .startPlace) (startPlaceOf (t .n)) (not-false _ start);
+        whole = eqb-true len (fileLength (t .n) (t .startLength)) (not-false _ end);
+        short = ltb-false longest len long;
+      }
+
+  pub of-layout : Layout t len → misplaced t len ≡ false
+  unfolding misplaced
+  of-layout l = rw
+      (eq-eqb (t .tablePlace) 0 (l .table), eq-eqb (t .startPlace) (startPlaceOf (t .n)) (l .start), eq-eqb len (fileLength (t .n) (t .startLength)) (l .whole), le-ltb longest len (l .short))
+
+-- The layout for n stops, where n stands in the trailer, in a file of some length.
+module _ (bytes : List ℕ) (len n : ℕ) (stands : n ≡ getD bytes 8 0) where
+  -- where the starting order begins, and where the file ends
+  abbrev start : ℕ
+  start = 4 * ((n + 1) * (n + 1))
+
+  abbrev end : ℕ
+  end = start + getD bytes 9 0 + trailerLength
+
+  start-is : start ≡ startPlaceOf (getD bytes 8 0)
+  start-is = ap (λ (m : ℕ). 4 * m) (area-of n) ∙ ap startPlaceOf stands
+
+  end-is : end ≡ fileLength (getD bytes 8 0) (getD bytes 9 0)
+  end-is = ap (λ (m : ℕ). m + getD bytes 9 0 + trailerLength) start-is
+
+  pub table-elsewhere : numberAt bytes 0 ≢ 0 → true ≡ misplaced (trailerFrom bytes) len
+  unfolding misplaced trailerFrom
+  table-elsewhere h = rw (ne-eqb (numberAt bytes 0) 0 h)
+
+  pub start-elsewhere : numberAt bytes 4 ≢ start → true ≡ misplaced (trailerFrom bytes) len
+  unfolding misplaced trailerFrom
+  start-elsewhere h = rw (← start-is, ne-eqb (numberAt bytes 4) start h, or-true)
+
+  pub other-length : len ≢ end → true ≡ misplaced (trailerFrom bytes) len
+  unfolding misplaced trailerFrom
+  other-length h = rw (ne-eqb len _ (λ e. h (e ∙ sym end-is)), or-true)
+
+  pub layout-fits : numberAt bytes 0 ≡ 0 → numberAt bytes 4 ≡ start → len ≡ end → ltb longest len ≡ misplaced (trailerFrom bytes) len
+  unfolding misplaced trailerFrom
+  layout-fits h k l = rw (eq-eqb (numberAt bytes 0) 0 h, eq-eqb (numberAt bytes 4) _ (k ∙ start-is), eq-eqb len _ (l ∙ end-is))

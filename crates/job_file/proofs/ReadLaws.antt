@@ -1,0 +1,91 @@
+-- What the reader answers, test by test.
+--   first-cause        the planner's check of a job without a table answers whether cause 1 applies
+--   short-file, wrong-stops, wrong-layout, right-layout    what each test decides
+--   layout-laid        a file whose length and places are those of the layout is long enough
+-- Assumes nothing.
+use mathlib.Core.Path.{_≡_, refl, ap, sym, _∙_}
+use mathlib.Core.Bool.{Bool, true, false}
+use mathlib.Core.List.{List, []}
+use Prim.Native.Nat.{ℕ, suc, _+_, _*_, _-_, _≤_, _<_}
+use native.Mathlib.Omega.{arith}
+use lib.Dec.{ltb, eqb}
+use lib.ListN.{length, getD, drop, length-drop}
+use borrow.Author.Tests.{ltb-false, lt-ltb, le-ltb, eq-eqb, ne-eqb}
+use Rattle.answer.specs.Call.{Call, callOf}
+use Rattle.answer.specs.Checks.{cause₁, cause₂, cause₃, cause₄, cause₅, orLater, jobCause}
+use Rattle.job_file.specs.Job.{Job, callFor, Trailer, trailerLength, area, fileLength}
+use Rattle.job_file.specs.Reader.{numbersIn, trailerFrom, trailerIn, jobBy, jobIn, misplaced, fileCause, refusal, readingBy, read}
+use Rattle.job_file.specs.Code.{checked, Laid}
+use Rattle.job_file.proofs.ByteLaws.{length-numbers}
+use Rattle.job_file.proofs.LayoutLaws.{or-false, layout-of}
+
+-- a call of n stops with nothing else
+abbrev pub bare : ℕ → Call
+bare n = callOf n [] 0 0 0 [] []
+
+pub first-cause : (n k : ℕ) → k ≡ jobCause (bare n) 0 → eqb k 1 ≡ cause₁ (bare n)
+unfolding jobCause cause₂ callOf
+first-cause n k e =
+    let other : eqb 0 (suc n * suc n) ≡ false = ne-eqb 0 (suc n * suc n) (λ z. omega arith) in
+    let found : jobCause (bare n) 0 ≡ orLater (cause₁ (bare n)) 1 2 = rw other in
+    ap (λ (m : ℕ). eqb m 1) (e ∙ found) ∙ go (cause₁ (bare n))
+  where
+    go : (b : Bool) → eqb (orLater b 1 2) 1 ≡ b
+    go true = refl
+    go false = refl
+
+pub few-stops : (n : ℕ) → cause₁ (bare n) ≡ false → n ≤ 16
+unfolding cause₁ callOf
+few-stops n e = ltb-false 16 n (or-false (eqb n 0) (ltb 16 n) e .1)
+
+-- "Number 2 can't come from a file": the table that is read has the numbers that it should
+pub table-fits : (t : Trailer) (file : List ℕ) → cause₂ (callFor (jobBy t file)) ≡ false
+unfolding cause₂ callFor callOf jobBy
+table-fits t file = rw (eq-eqb (length (numbersIn (area (t .n)) file)) (area (t .n)) (length-numbers (area (t .n)) file))
+
+pub short-file : (file : List ℕ) → length file < trailerLength → refusal 8 ≡ read file
+unfolding read fileCause readingBy
+short-file file h = rw (lt-ltb (length file) trailerLength h)
+
+module _ (file trailer : List ℕ) (last : trailer ≡ drop (length file - trailerLength) file) (long : trailerLength ≤ length file) where
+  abbrev job : Job
+  job = jobBy (trailerFrom trailer) file
+
+  -- the reader's answer where the file is not short
+  by-cause :
+      (number : ℕ)
+      → orLater (cause₁ (callFor job)) 1
+      (orLater (misplaced (trailerFrom trailer) (length file)) 9
+      (orLater (cause₃ (callFor job)) 3
+      (orLater (cause₄ (callFor job)) 4
+      (orLater (cause₅ (callFor job)) 5 0))))
+      ≡ number
+      → readingBy number job ≡ read file
+  unfolding read fileCause jobIn trailerIn
+  by-cause number e = rw (← e, last, le-ltb (length file) trailerLength long)
+
+  pub wrong-stops : cause₁ (callFor job) ≡ true → refusal 1 ≡ read file
+  unfolding readingBy
+  wrong-stops e = by-cause 1 (rw e)
+
+  pub wrong-layout : cause₁ (callFor job) ≡ false → misplaced (trailerFrom trailer) (length file) ≡ true → refusal 9 ≡ read file
+  unfolding readingBy
+  wrong-layout e f = by-cause 9 (rw (e, f))
+
+  pub right-layout : cause₁ (callFor job) ≡ false → misplaced (trailerFrom trailer) (length file) ≡ false → checked job ≡ read file
+  unfolding checked jobCause
+  right-layout e f = by-cause _ (rw (e, f, table-fits (trailerFrom trailer) file))
+
+  pub same-stops : (n : ℕ) → n ≡ getD trailer 8 0 → cause₁ (bare n) ≡ cause₁ (callFor job)
+  unfolding cause₁ callFor callOf jobBy trailerFrom
+  same-stops n e = rw e
+
+  pub length-last : length trailer ≡ trailerLength
+  length-last = omega (arith, ap length last, length-drop (length file - trailerLength) file)
+
+  pub layout-laid :
+      (n : ℕ) → n ≡ getD trailer 8 0 → cause₁ (bare n) ≡ false → misplaced (trailerFrom trailer) (length file) ≡ false → Laid file trailer n
+  unfolding trailerFrom
+  layout-laid n e f g =
+      let fits : length file ≡ fileLength (getD trailer 8 0) (getD trailer 9 0) = layout-of (trailerFrom trailer) (length file) g .whole in
+      record { whole = length-last; stands = e; few = few-stops n f; inside = rw e (omega arith) }

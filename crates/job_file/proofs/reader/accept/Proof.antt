@@ -1,0 +1,158 @@
+-- `accept` meets its contract. Assumes nothing.
+use mathlib.Core.Path.{sym, _∙_}
+use native.Mathlib.Omega.{arith}
+use lib.Seq.{length-take-le}
+use Rattle.job_file.proofs.LayoutLaws.{area-small}
+use Rattle.job_file.proofs.AcceptLaws.{Found, table-long, found-short, accept-refuses, accept-returns}
+use borrow.Author.Needs.{needs}
+use Rattle.job_file.proofs.reader.accept.Statement.{statement}
+use Rattle.job_file.proofs.reader.accept.Tie as tie
+
+-- what has been read when the checks answer
+abbrev Read : tie.After-job-cause → Type 0
+Read c =
+    let table = c .before .before .before in
+    let fourth = table .before in
+    let third = fourth .before .before in
+    let second = third .before .before in
+    let first = second .before .before in
+    let args = first .before .before .before .before .args in
+    Found
+    (args .file .now)
+    (args .trailer .now)
+    (args .n)
+    (table .table-of .result)
+    (first .wide .result)
+    (second .wide2 .result)
+    (third .wide3 .result)
+    (fourth .wide4 .result)
+
+found : (c : tie.After-job-cause) → Read c
+found c =
+    let table = c .before .before .before in
+    let fourth = table .before in
+    let third = fourth .before .before in
+    let second = third .before .before in
+    let first = second .before .before in
+    record {
+      laid = first .before .before .before .before .pre;
+      numbers = table .table-of .ensures;
+      long = first .wide .ensures .0;
+      choice = second .wide2 .ensures .0;
+      sum = third .wide3 .ensures .0;
+      number = fourth .wide4 .ensures .0;
+    }
+
+shared-slice-read-wide : tie.Need-shared-slice-read-wide
+shared-slice-read-wide c = search needs
+
+wide-requires : tie.Need-wide-requires
+wide-requires c κs = search needs
+
+shared-slice-read-wide-2 : tie.Need-shared-slice-read-wide-2
+shared-slice-read-wide-2 c = search needs
+
+wide-requires-2 : tie.Need-wide-requires-2
+wide-requires-2 c κs = search needs
+
+shared-slice-read-wide-3 : tie.Need-shared-slice-read-wide-3
+shared-slice-read-wide-3 c = search needs
+
+wide-requires-3 : tie.Need-wide-requires-3
+wide-requires-3 c κs = search needs
+
+shared-slice-read-wide-4 : tie.Need-shared-slice-read-wide-4
+shared-slice-read-wide-4 c = search needs
+
+wide-requires-4 : tie.Need-wide-requires-4
+wide-requires-4 c κs = search needs
+
+add-count : tie.Need-add-count
+add-count c = search needs
+
+add-count-2 : tie.Need-add-count-2
+add-count-2 c = search needs
+
+mul-count : tie.Need-mul-count
+mul-count c = omega (arith, area-small (c .before .before .before .before .before .before .before .before .before .before .args .n) (omega arith))
+
+cast-count : tie.Need-cast-count
+cast-count c = search needs
+
+table-of-requires : tie.Need-table-of-requires
+table-of-requires c κs =
+    let start = c .before .before .before .before .before .before .before .before .before .before in
+    (area-small (start .args .n) (start .pre .few), omega (arith, start .pre .inside))
+
+mul-from : tie.Need-mul-from
+mul-from c = search needs
+
+cast-to : tie.Need-cast-to
+cast-to c = search needs
+
+add-to : tie.Need-add-to
+add-to c = search needs
+
+sub-order : tie.Need-sub-order
+sub-order c = search needs
+
+part-order-start : tie.Need-part-order-start
+part-order-start c = search needs
+
+part-order-end : tie.Need-part-order-end
+part-order-end c = search needs
+
+array-share-prefix-table : tie.Need-array-share-prefix-table
+array-share-prefix-table c =
+    let table = c .before in
+    let start = table .before .before .before .before .before .before .before .before .before .before .before in
+    table-long (start .args .n) (start .args .file .now) (table .table-of .result) (start .pre .few) (table .table-of .ensures)
+
+slice-aggregate-job-cause : tie.Need-slice-aggregate-job-cause
+slice-aggregate-job-cause c = sym (length-take-le _ (c .before .before .table-of .result) (array-share-prefix-table (c .before)))
+
+job-cause-requires : tie.Need-job-cause-requires
+job-cause-requires c κs = search needs
+
+refused-requires : tie.Need-refused-requires
+refused-requires c κs = search needs
+
+returns : tie.Need-returns
+returns c = c .refused .ensures ∙ accept-refuses _ _ _ _ _ _ _ _ (found (c .before .before)) _ (c .before .before .job-cause .ensures) (c .before .if1 .taken)
+
+start-of-requires : tie.Need-start-of-requires
+start-of-requires c κs = found-short _ _ _ _ _ _ _ _ (found (c .before)) _ (c .before .job-cause .ensures) (c .if1 .left)
+
+returns-2 : tie.Need-returns-2
+returns-2 c = accept-returns _ _ _ _ _ _ _ _ (found (c .before .before)) _ (c .before .before .job-cause .ensures) (c .before .if1 .left) _ (c .start-of .ensures)
+
+pub accept-spec : {M : Type 1} → statement M
+accept-spec =
+    tie.close
+    (tie.spec
+    shared-slice-read-wide
+    wide-requires
+    shared-slice-read-wide-2
+    wide-requires-2
+    shared-slice-read-wide-3
+    wide-requires-3
+    shared-slice-read-wide-4
+    wide-requires-4
+    add-count
+    add-count-2
+    mul-count
+    cast-count
+    table-of-requires
+    mul-from
+    cast-to
+    add-to
+    sub-order
+    part-order-start
+    part-order-end
+    array-share-prefix-table
+    slice-aggregate-job-cause
+    job-cause-requires
+    refused-requires
+    returns
+    start-of-requires
+    returns-2)

@@ -1,0 +1,125 @@
+-- `read` meets its contract, test by test. Assumes nothing.
+use mathlib.Core.Path.{_≡_, ap, sym, _∙_}
+use mathlib.Core.List.{List}
+use Prim.Native.Nat.{ℕ, _-_}
+use native.Mathlib.Omega.{arith}
+use lib.ListN.{length, take, drop}
+use Rattle.stops.proofs.RowLaws.{part-from}
+use Rattle.answer.specs.Checks.{cause₁}
+use borrow.Author.Needs.{needs}
+use Rattle.job_file.specs.Job.{callFor, trailerLength}
+use Rattle.job_file.specs.Reader.{trailerFrom, jobBy}
+use Rattle.job_file.specs.Promise.{returned}
+use Rattle.job_file.proofs.ReadLaws.{few-stops, short-file, wrong-stops, wrong-layout, right-layout, same-stops, length-last, layout-laid}
+use Rattle.job_file.proofs.reader.read.Statement.{statement}
+use Rattle.job_file.proofs.reader.read.Tie as tie
+
+-- the file, and its last thirteen bytes
+abbrev file : tie.Start → List ℕ
+file c = c .args .file .now
+
+abbrev trailer : tie.Start → List ℕ
+trailer c = take (length (file c) - (length (file c) - trailerLength)) (drop (length (file c) - trailerLength) (file c))
+
+last : (c : tie.Start) → trailer c ≡ drop (length (file c) - trailerLength) (file c)
+last c = part-from (length (file c) - trailerLength) (file c)
+
+-- the answer to cause 1, as the file's job has it
+stops : (c : tie.After-wrong-n) → let s = c .before .before .before .before .before .before in
+    c .wrong-n .result ≡ cause₁ (callFor (jobBy (trailerFrom (trailer s)) (file s)))
+stops c =
+    let s = c .before .before .before .before .before .before in
+    c .wrong-n .ensures ∙ same-stops (file s) (trailer s) (last s) (omega arith) _ (c .before .wide .ensures .0)
+
+refused-requires : tie.Need-refused-requires
+refused-requires c κs = search needs
+
+returns : tie.Need-returns
+returns c = c .refused .ensures ∙ ap returned (short-file _ (c .before .if1 .taken))
+
+sub-end : tie.Need-sub-end
+sub-end c = search needs
+
+sub-trailer : tie.Need-sub-trailer
+sub-trailer c = search needs
+
+part-trailer-start : tie.Need-part-trailer-start
+part-trailer-start c = search needs
+
+part-trailer-end : tie.Need-part-trailer-end
+part-trailer-end c = search needs
+
+shared-slice-read-wide : tie.Need-shared-slice-read-wide
+shared-slice-read-wide c = search needs
+
+wide-requires : tie.Need-wide-requires
+wide-requires c κs = search needs
+
+wrong-n-requires : tie.Need-wrong-n-requires
+wrong-n-requires c κs = search needs
+
+refused-requires-2 : tie.Need-refused-requires-2
+refused-requires-2 c κs = search needs
+
+returns-2 : tie.Need-returns-2
+returns-2 c =
+    let w = c .before .before in
+    let s = w .before .before .before .before .before .before in
+    c .refused2 .ensures ∙ ap returned (wrong-stops (file s) (trailer s) (last s) (omega arith) (sym (stops w) ∙ c .before .if2 .taken))
+
+misplaced-requires : tie.Need-misplaced-requires
+misplaced-requires c κs =
+    let w = c .before in
+    let s = w .before .before .before .before .before .before in
+    (length-last (file s) (trailer s) (last s) (omega arith), (w .before .wide .ensures .0, few-stops _ (sym (w .wrong-n .ensures) ∙ c .if2 .left)))
+
+refused-requires-3 : tie.Need-refused-requires-3
+refused-requires-3 c κs = search needs
+
+returns-3 : tie.Need-returns-3
+returns-3 c =
+    let m = c .before .before in
+    let w = m .before .before in
+    let s = w .before .before .before .before .before .before in
+    c .refused3 .ensures
+    ∙ ap returned
+    (wrong-layout (file s) (trailer s) (last s) (omega arith) (sym (stops w) ∙ m .before .if2 .left) (sym (m .misplaced .ensures) ∙ c .before .if3 .taken))
+
+accept-requires : tie.Need-accept-requires
+accept-requires c κs =
+    let m = c .before in
+    let w = m .before .before in
+    let s = w .before .before .before .before .before .before in
+    layout-laid (file s) (trailer s) (last s) (omega arith) _ (w .before .wide .ensures .0)
+    (sym (w .wrong-n .ensures) ∙ m .before .if2 .left)
+    (sym (m .misplaced .ensures) ∙ c .if3 .left)
+
+returns-4 : tie.Need-returns-4
+returns-4 c =
+    let m = c .before .before in
+    let w = m .before .before in
+    let s = w .before .before .before .before .before .before in
+    c .accept .ensures
+    ∙ ap returned
+    (right-layout (file s) (trailer s) (last s) (omega arith) (sym (stops w) ∙ m .before .if2 .left) (sym (m .misplaced .ensures) ∙ c .before .if3 .left))
+
+pub read-spec : {M : Type 1} → statement M
+read-spec =
+    tie.close
+    (tie.spec
+    refused-requires
+    returns
+    sub-end
+    sub-trailer
+    part-trailer-start
+    part-trailer-end
+    shared-slice-read-wide
+    wide-requires
+    wrong-n-requires
+    refused-requires-2
+    returns-2
+    misplaced-requires
+    refused-requires-3
+    returns-3
+    accept-requires
+    returns-4)

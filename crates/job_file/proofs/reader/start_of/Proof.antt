@@ -1,0 +1,18 @@
+-- `start_of` meets its contract: an array of zeros whose front is written. Assumes nothing.
+use mathlib.Core.Path.{sym, _∙_}
+use borrow.Author.Needs.{needs}
+use Rattle.job_file.proofs.ByteLaws.{padded-overwrite}
+use Rattle.job_file.proofs.reader.start_of.Statement.{statement}
+use Rattle.job_file.proofs.reader.start_of.Tie as tie
+
+slice-aggregate-put-bytes : tie.Need-slice-aggregate-put-bytes
+slice-aggregate-put-bytes c = search needs
+
+put-bytes-requires : tie.Need-put-bytes-requires
+put-bytes-requires c κs = search needs
+
+returns : tie.Need-returns
+returns c = c .before .put-bytes .ensures ∙ sym (padded-overwrite 16 _)
+
+pub start-of-spec : {M : Type 1} → statement M
+start-of-spec = tie.close (tie.spec slice-aggregate-put-bytes put-bytes-requires returns)

@@ -1,0 +1,69 @@
+-- `table_of` meets its contract. The loop's invariant: the first k numbers stand at the front of the array, and zeros behind them. The
+-- measure is how many are left. Assumes nothing.
+use mathlib.Core.Path.{_≡_, refl, ap, sym, _∙_}
+use mathlib.Core.List.{[], _∷_, _++_}
+use Prim.Native.Nat.{ℕ, _-_, _≤_}
+use native.Mathlib.Omega.{arith}
+use Rattle.pool.specs.Records.{padded}
+use Rattle.job_file.specs.Reader.{numbersIn}
+use Rattle.job_file.specs.Promise.{tablePlaces}
+use Rattle.job_file.proofs.ByteLaws.{padded-one, numbers-next, length-numbers}
+use Rattle.job_file.proofs.reader.table_of.Statement.{statement}
+use Rattle.job_file.proofs.reader.table_of.Tie as tie
+
+abbrev Inv-loop : tie.InvT-loop
+Inv-loop file count table₀ k₀ table k = (k ≤ count) × (table ≡ padded tablePlaces (numbersIn k file))
+
+abbrev μ-loop : tie.MeasureT-loop
+μ-loop file count table₀ k₀ table k = count - k
+
+loop-holds : tie.Need-loop-holds Inv-loop μ-loop
+unfolding padded numbersIn
+loop-holds c = (omega arith, refl)
+
+mul-number-at : tie.Need-mul-number-at Inv-loop μ-loop
+mul-number-at c = omega arith
+
+number-at-requires : tie.Need-number-at-requires Inv-loop μ-loop
+number-at-requires c κs = omega arith
+
+mul-table : tie.Need-mul-table Inv-loop μ-loop
+mul-table c = omega arith
+
+array-write-table : tie.Need-array-write-table Inv-loop μ-loop
+array-write-table c = omega arith
+
+add-k : tie.Need-add-k Inv-loop μ-loop
+add-k c = omega arith
+
+loop-less : tie.Need-loop-less Inv-loop μ-loop
+loop-less c = omega arith
+
+loop-again : tie.Need-loop-again Inv-loop μ-loop
+loop-again c =
+    let at = c .before .before .loop in
+    let file = c .before .before .before .before .args .file .now in
+    let next = numbers-next (at .k) file ∙ ap (λ (x : ℕ). numbersIn (at .k) file ++ (x ∷ [])) (sym (c .number-at .ensures)) in
+    (omega arith, rw (at .inv .1) (padded-one tablePlaces _ _ (at .k) _ (length-numbers (at .k) file) next (omega arith)))
+
+returns : tie.Need-returns Inv-loop μ-loop
+returns c =
+    let at = c .before .loop in
+    let all : at .k ≡ c .before .before .before .args .count = omega arith in
+    at .inv .1 ∙ rw all
+
+pub table-of-spec : {M : Type 1} → statement M
+table-of-spec =
+    tie.close
+    (tie.spec
+    Inv-loop
+    μ-loop
+    loop-holds
+    mul-number-at
+    number-at-requires
+    mul-table
+    array-write-table
+    add-k
+    loop-less
+    loop-again
+    returns)

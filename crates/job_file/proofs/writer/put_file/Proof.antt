@@ -1,0 +1,95 @@
+-- `put_file` meets its contract: the table, the starting order and the trailer, one behind the other. Assumes nothing.
+use mathlib.Core.Path.{refl}
+use native.Mathlib.Omega.{arith}
+use Rattle.job_file.proofs.WriterLaws.{table-small, parts-written}
+use borrow.Author.Needs.{needs}
+use Rattle.job_file.proofs.writer.put_file.Statement.{statement}
+use Rattle.job_file.proofs.writer.put_file.Tie as tie
+
+mul-place : tie.Need-mul-place
+mul-place c = search needs
+
+add-end : tie.Need-add-end
+add-end c = search needs
+
+put-table-requires : tie.Need-put-table-requires
+put-table-requires c κs = search needs
+
+sub-put-bytes : tie.Need-sub-put-bytes
+sub-put-bytes c = search needs
+
+part-put-bytes-start : tie.Need-part-put-bytes-start
+part-put-bytes-start c = search needs
+
+part-put-bytes-end : tie.Need-part-put-bytes-end
+part-put-bytes-end c = search needs
+
+put-bytes-requires : tie.Need-put-bytes-requires
+put-bytes-requires c κs = search needs
+
+sub-put-trailer : tie.Need-sub-put-trailer
+sub-put-trailer c = search needs
+
+part-put-trailer-start : tie.Need-part-put-trailer-start
+part-put-trailer-start c = search needs
+
+part-put-trailer-end : tie.Need-part-put-trailer-end
+part-put-trailer-end c = search needs
+
+cast-put-trailer : tie.Need-cast-put-trailer
+cast-put-trailer c =
+    let start = c .before .before .before .before .before .before .before .before .before .before .before .before in
+    omega (arith, table-small (start .args .n) (start .args .table .now) (start .pre .few) (start .pre .square))
+
+cast-put-trailer-2 : tie.Need-cast-put-trailer-2
+cast-put-trailer-2 c = search needs
+
+cast-put-trailer-3 : tie.Need-cast-put-trailer-3
+cast-put-trailer-3 c = search needs
+
+cast-put-trailer-4 : tie.Need-cast-put-trailer-4
+cast-put-trailer-4 c = search needs
+
+cast-put-trailer-5 : tie.Need-cast-put-trailer-5
+cast-put-trailer-5 c = search needs
+
+cast-put-trailer-6 : tie.Need-cast-put-trailer-6
+cast-put-trailer-6 c = search needs
+
+put-trailer-requires : tie.Need-put-trailer-requires
+put-trailer-requires c κs = search needs
+
+same-length : tie.Need-same-length
+same-length c = search needs
+
+returns : tie.Need-returns
+returns c =
+    let trailer = c .before .before in
+    let bytes = trailer .before .before .before .before in
+    let table = bytes .before .before .before .before in
+    let start = table .before .before .before .before .before in
+    parts-written _ _ _ _ _ _ _ (start .pre) _ _ _ _ (table .put-table .ensures) (bytes .put-bytes .ensures) refl (trailer .put-trailer .ensures)
+
+pub put-file-spec : {M : Type 1} → statement M
+put-file-spec =
+    tie.close
+    (tie.spec
+    mul-place
+    add-end
+    put-table-requires
+    sub-put-bytes
+    part-put-bytes-start
+    part-put-bytes-end
+    put-bytes-requires
+    sub-put-trailer
+    part-put-trailer-start
+    part-put-trailer-end
+    cast-put-trailer
+    cast-put-trailer-2
+    cast-put-trailer-3
+    cast-put-trailer-4
+    cast-put-trailer-5
+    cast-put-trailer-6
+    put-trailer-requires
+    same-length
+    returns)
