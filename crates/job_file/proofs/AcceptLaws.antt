@@ -10,7 +10,7 @@ use mathlib.Core.Logic.{_≢_}
 use Prim.Native.Nat.{ℕ, zero, suc, _+_, _*_, _-_, _≤_}
 use native.Mathlib.Omega.{arith}
 use lib.ListN.{length, getD, take, drop, length-drop}
-use lib.Seq.{length-take-le, take-at}
+use lib.Seq.{length-take-le}
 use Rattle.pool.specs.Records.{padded}
 use Rattle.answer.specs.Call.{Call, callOf, orderPlaces}
 use Rattle.answer.specs.Checks.{jobCause}
@@ -19,7 +19,7 @@ use Rattle.job_file.specs.Reader.{numbersIn, trailerFrom, jobBy, Reading
 use Rattle.job_file.specs.Promise.{tablePlaces, returned}
 use Rattle.job_file.specs.Code.{checked, Laid}
 use Rattle.job_file.specs.declared.reader.Reading.{Reading as Returned}
-use Rattle.job_file.proofs.ByteLaws.{length-numbers, length-padded}
+use Rattle.job_file.proofs.ByteLaws.{length-numbers, length-padded, take-padded}
 use Rattle.job_file.proofs.JobLaws.{passed}
 use Rattle.job_file.proofs.LayoutLaws.{area-of, area-small}
 
@@ -35,10 +35,6 @@ pub table-long : (n : ℕ) (file table : List ℕ) → n ≤ 16 → table ≡ pa
 table-long n file table h e =
     let count : length (numbersIn (counted n) file) ≡ counted n = length-numbers (counted n) file in
     omega (arith, area-small n h, ap length e, length-padded tablePlaces (numbersIn (counted n) file) (omega (arith, area-small n h)))
-
-take-padded : (k : ℕ) (xs : List ℕ) → take (length xs) (padded k xs) ≡ xs
-unfolding padded
-take-padded k xs = take-at xs _ (length xs) refl
 
 module _ (file trailer : List ℕ) (n : ℕ) where
   abbrev job : Job

@@ -1,7 +1,7 @@
 -- Laws of bytes.
---   overwrite-none, overwrite-next, overwrite-one, length-overwrite    a buffer whose front is written, a few bytes at a time
+--   overwrite-none, overwrite-next, overwrite-one, length-overwrite, take-overwrite    a buffer whose front is written, a few bytes at a time
 --   overwrite-behind    a part of a buffer, behind what is written, is lent and written in its turn
---   padded-overwrite, length-padded, padded-one    an array of zeros whose front is written
+--   padded-overwrite, length-padded, take-padded, padded-one    an array of zeros whose front is written
 --   take-next, numbers-next, table-next    the lists that the loops write, one element more
 --   length-numbers, length-each-number    their lengths
 --   four-bytes    the number at a place, byte by byte
@@ -35,6 +35,10 @@ unfolding overwrite
 overwrite-more xs ys buffer h =
     sets-eq ys (overwrite xs buffer) (length xs) (omega (arith, length-overwrite xs buffer (omega arith)))
     ∙ rw (take-append-seam, drop-append-add, drop-drop, length-append)
+
+pub take-overwrite : (xs buffer : List ℕ) → take (length xs) (overwrite xs buffer) ≡ xs
+unfolding overwrite
+take-overwrite xs buffer = take-append-seam xs (drop (length xs) buffer)
 
 -- one turn of a loop that writes ys behind xs
 pub overwrite-next :
@@ -70,6 +74,10 @@ pub length-padded : (n : ℕ) (xs : List ℕ) → length xs ≤ n → length (pa
 length-padded n xs h =
     let long : length (zeros n) ≡ n = length-replicate n 0 in
     rw (padded-overwrite n xs, length-overwrite xs (zeros n) (omega arith)) long
+
+pub take-padded : (n : ℕ) (xs : List ℕ) → take (length xs) (padded n xs) ≡ xs
+unfolding padded
+take-padded n xs = take-append-seam xs (zeros (n - length xs))
 
 pub padded-one :
     (n : ℕ) (xs zs : List ℕ) (k y : ℕ) → length xs ≡ k → zs ≡ xs ++ (y ∷ []) → k < n → set (padded n xs) k y ≡ padded n zs

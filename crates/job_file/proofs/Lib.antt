@@ -4,3 +4,8 @@ pub mod LayoutLaws
 pub mod AcceptLaws
 pub mod WriterLaws
 pub mod ReadLaws
+pub mod FileLaws
+pub mod Accepted
+pub mod Returned
+pub mod RoundTrip
+pub mod Refusals

@@ -3,10 +3,10 @@
 use mathlib.Core.Path.{_≡_}
 use mathlib.Core.List.{List}
 use Prim.Native.Nat.{ℕ}
-use lib.ListN.{length}
+use lib.ListN.{length, take}
 use Rattle.pool.specs.Records.{padded}
 use Rattle.answer.specs.Call.{orderPlaces}
-use Rattle.job_file.specs.Job.{Job}
+use Rattle.job_file.specs.Job.{Job, area}
 use Rattle.job_file.specs.Reader.{Reading}
 use Rattle.job_file.specs.Writer.{Writing, write}
 use Rattle.job_file.specs.declared.reader.Reading.{Reading as Returned}
@@ -32,6 +32,11 @@ returned r = record {
 unfoldable pub jobOf : ℕ → List ℕ → ℕ → ℕ → ℕ → List ℕ → Job
 jobOf n table selection rules bound start =
     record { n = n; table = table; selection = selection; rules = rules; bound = bound; start = start }
+
+-- The job that a caller hands on from what the reader returned: the first (n+1) squared numbers of the table, and as many stops of the
+-- starting order as its length says.
+unfoldable pub jobFrom : Returned → Job
+jobFrom r = jobOf (r .n) (take (area (r .n)) (r .table)) (r .selection) (r .rules) (r .bound) (take (r .length) (r .start))
 
 -- What the writer promises of a job and a buffer: the number and the length that it returns, and the bytes that it leaves in the buffer, are
 -- those of `write`.
