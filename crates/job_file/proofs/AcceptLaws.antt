@@ -1,11 +1,10 @@
 -- The job of a file whose length and places are those of the layout, as `accept` finds it.
 --   Found                 what the code has read is what the trailer and the file say
---   table-long            the array of the table's numbers is long enough
 --   found-short           a starting order that the checks let pass has at most sixteen stops
 --   accept-refuses, accept-returns    the two answers
 -- Assumes nothing.
-use mathlib.Core.Path.{_≡_, refl, ap, sym, subst, _∙_}
-use mathlib.Core.List.{List, [], _++_}
+use mathlib.Core.Path.{_≡_, refl, ap, sym, _∙_}
+use mathlib.Core.List.{List, []}
 use mathlib.Core.Logic.{_≢_}
 use Prim.Native.Nat.{ℕ, zero, suc, _+_, _*_, _-_, _≤_}
 use native.Mathlib.Omega.{arith}
@@ -15,62 +14,53 @@ use Rattle.pool.specs.Records.{padded}
 use Rattle.answer.specs.Call.{Call, callOf, orderPlaces}
 use Rattle.answer.specs.Checks.{jobCause}
 use Rattle.job_file.specs.Job.{Job, callFor, area, startPlaceOf}
-use Rattle.job_file.specs.Reader.{numbersIn, trailerFrom, jobBy, Reading, refusal, readingBy}
+use Rattle.job_file.specs.Reader.{numbersIn, trailerFrom, jobBy, refusal, readingBy}
 use Rattle.job_file.specs.Promise.{tablePlaces, returned}
 use Rattle.job_file.specs.Code.{checked, Laid}
 use Rattle.job_file.specs.declared.reader.Reading.{Reading as Returned}
-use Rattle.job_file.proofs.ByteLaws.{length-numbers, length-padded, take-padded}
+use Rattle.job_file.proofs.ByteLaws.{length-numbers, take-padded}
 use Rattle.job_file.proofs.JobLaws.{passed}
-use Rattle.job_file.proofs.LayoutLaws.{area-of, area-small}
-
--- how many numbers the table has, as the code reckons it
-abbrev pub counted : ℕ → ℕ
-counted n = (n + 1) * (n + 1)
 
 -- the part of the file that the code takes for the starting order
-abbrev pub orderPart : ℕ → ℕ → List ℕ → List ℕ
-orderPart n len file = take (4 * counted n + len - 4 * counted n) (drop (4 * counted n) file)
-
-pub table-long : (n : ℕ) (file table : List ℕ) → n ≤ 16 → table ≡ padded tablePlaces (numbersIn (counted n) file) → counted n ≤ length table
-table-long n file table h e =
-    let count : length (numbersIn (counted n) file) ≡ counted n = length-numbers (counted n) file in
-    omega (arith, area-small n h, ap length e, length-padded tablePlaces (numbersIn (counted n) file) (omega (arith, area-small n h)))
+abbrev orderPart : ℕ → ℕ → List ℕ → List ℕ
+orderPart count len file = take (4 * count + len - 4 * count) (drop (4 * count) file)
 
 module _ (file trailer : List ℕ) (n : ℕ) where
   abbrev job : Job
   job = jobBy (trailerFrom trailer) file
 
-  pub record Found (table : List ℕ) (len selection rules bound : ℕ) : Type 0 where
+  pub record Found (count : ℕ) (table : List ℕ) (len selection rules bound : ℕ) : Type 0 where
     pub laid : Laid file trailer n
-    pub numbers : table ≡ padded tablePlaces (numbersIn (counted n) file)
+    pub square : count ≡ area n
+    pub numbers : table ≡ padded tablePlaces (numbersIn (count) file)
     pub long : len ≡ getD trailer 9 0
     pub choice : selection ≡ getD trailer 10 0
     pub sum : rules ≡ getD trailer 11 0
     pub number : bound ≡ getD trailer 12 0
 
-  module _ (table : List ℕ) (len selection rules bound : ℕ) (found : Found table len selection rules bound) where
+  module _ (count : ℕ) (table : List ℕ) (len selection rules bound : ℕ) (found : Found count table len selection rules bound) where
     abbrev order : List ℕ
-    order = orderPart n len file
+    order = orderPart count len file
 
     abbrev call : Call
-    call = callOf n (take (counted n) table) selection rules bound order []
+    call = callOf n (take (count) table) selection rules bound order []
 
-    count-is : counted n ≡ area (getD trailer 8 0)
-    count-is = area-of n ∙ ap area (found .laid .stands)
+    count-is : count ≡ area (getD trailer 8 0)
+    count-is = found .square ∙ ap area (found .laid .stands)
 
     table-is : table ≡ padded tablePlaces (numbersIn (area (getD trailer 8 0)) file)
     table-is = found .numbers ∙ ap (λ (k : ℕ). padded tablePlaces (numbersIn k file)) count-is
 
-    numbers-is : take (counted n) table ≡ numbersIn (area (getD trailer 8 0)) file
+    numbers-is : take (count) table ≡ numbersIn (area (getD trailer 8 0)) file
     numbers-is =
-        ap (take (counted n)) (found .numbers)
-        ∙ ap (λ (k : ℕ). take k (padded tablePlaces (numbersIn (counted n) file))) (sym (length-numbers (counted n) file))
-        ∙ take-padded tablePlaces (numbersIn (counted n) file)
+        ap (take (count)) (found .numbers)
+        ∙ ap (λ (k : ℕ). take k (padded tablePlaces (numbersIn (count) file))) (sym (length-numbers (count) file))
+        ∙ take-padded tablePlaces (numbersIn (count) file)
         ∙ ap (λ (k : ℕ). numbersIn k file) count-is
 
     order-is : order ≡ take (getD trailer 9 0) (drop (startPlaceOf (getD trailer 8 0)) file)
     order-is =
-        let part : 4 * counted n + len - 4 * counted n ≡ getD trailer 9 0 = omega (arith, found .long) in
+        let part : 4 * count + len - 4 * count ≡ getD trailer 9 0 = omega (arith, found .long) in
         rw (part, count-is)
 
     call-is : call ≡ callFor job

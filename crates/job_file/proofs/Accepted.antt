@@ -5,7 +5,7 @@
 -- Assumes nothing.
 use mathlib.Core.Path.{_≡_, refl, ap, sym, _∙_}
 use mathlib.Core.Bool.{Bool, true, false}
-use mathlib.Core.List.{List, [], _++_, append-assoc}
+use mathlib.Core.List.{List, _++_, append-assoc}
 use Prim.Native.Nat.{ℕ, zero, suc, _+_, _*_, _-_, _≤_, _<_}
 use native.Mathlib.Omega.{arith}
 use lib.Dec.{ltb}
@@ -13,16 +13,16 @@ use lib.ListN.{length, take, drop, length-append, take-append-drop, length-drop}
 use lib.Seq.{take-at, drop-at, take-add, length-take-le}
 use borrow.Author.Tests.{ltb-false}
 use Rattle.lists.specs.Lists.{each}
-use Rattle.answer.specs.Checks.{cause₁, cause₂, cause₃, cause₄, cause₅, orLater, jobCause}
+use Rattle.answer.specs.Checks.{cause₁, orLater, jobCause}
 use Rattle.job_file.specs.Bytes.{number, AllBytes}
-use Rattle.job_file.specs.Job.{Job, callFor, Trailer, trailerLength, area, startPlaceOf, trailerOf, trailerBytes, bytesOf, fileLength}
-use Rattle.job_file.specs.Reader.{numbersIn, trailerFrom, trailerIn, jobBy, jobIn, misplaced, fileCause, Reading, refusal, readingBy, read}
+use Rattle.job_file.specs.Job.{Job, callFor, Trailer, trailerLength, area, startPlaceOf, trailerOf, trailerBytes, bytesOf}
+use Rattle.job_file.specs.Reader.{numbersIn, trailerFrom, trailerIn, jobBy, jobIn, misplaced, fileCause, refusal, readingBy, read}
 use Rattle.job_file.specs.Code.{checked}
 use Rattle.job_file.proofs.ByteLaws.{length-each-number}
 use Rattle.job_file.proofs.JobLaws.{Passed, passed, length-trailer, length-file, file-short}
-use Rattle.job_file.proofs.LayoutLaws.{area-of, area-small, Layout, layout-of, of-layout}
+use Rattle.job_file.proofs.LayoutLaws.{area-small, Layout, layout-of, of-layout}
 use Rattle.job_file.proofs.ReadLaws.{table-fits, right-layout}
-use Rattle.job_file.proofs.FileLaws.{front-bytes, rest-bytes, numbers-of, of-numbers, trailer-of, of-trailer}
+use Rattle.job_file.proofs.FileLaws.{rest-bytes, numbers-of, of-numbers, trailer-of, of-trailer}
 
 -- the first cause does not apply, and neither does a later one
 none-first : (b : Bool) (number later : ℕ) → orLater b (suc number) later ≡ 0 → (b ≡ false) × (later ≡ 0)
@@ -45,7 +45,7 @@ module _ (j : Job) (passes : jobCause (callFor j) 0 ≡ 0) where
   length-table = length-each-number (j .table) ∙ ap (λ (k : ℕ). 4 * k) (p .square)
 
   small : startPlaceOf (j .n) < 4_294_967_296
-  small = omega (arith, area-of (j .n), area-small (j .n) (p .few))
+  small = omega (arith, area-small (j .n) (p .few))
 
   last : end ≡ drop (length (bytesOf j) - trailerLength) (bytesOf j)
   unfolding bytesOf

@@ -1,7 +1,7 @@
 -- Laws of bytes.
 --   overwrite-none, overwrite-next, overwrite-one, length-overwrite, take-overwrite    a buffer whose front is written, a few bytes at a time
 --   overwrite-behind    a part of a buffer, behind what is written, is lent and written in its turn
---   padded-overwrite, length-padded, take-padded, padded-one    an array of zeros whose front is written
+--   padded-overwrite, take-padded, padded-one    an array of zeros whose front is written
 --   take-next, numbers-next, table-next    the lists that the loops write, one element more
 --   length-numbers, length-each-number    their lengths
 --   four-bytes    the number at a place, byte by byte
@@ -14,7 +14,7 @@ use native.Mathlib.Numerals.{add-one, towards-suc}
 use native.Mathlib.Omega.{arith}
 use lib.ListN.{length, getD, set, take, drop, replicate, length-append, length-drop, length-map, length-replicate}
 use lib.Seq.{sets, sets-eq, take-append-seam, drop-append-seam, drop-append-add, drop-drop, take-suc, length-take-le}
-use Rattle.lists.specs.Lists.{In, from, each}
+use Rattle.lists.specs.Lists.{from, each}
 use Rattle.lists.proofs.Members.{in-head, length-from}
 use Rattle.pool.specs.Records.{padded}
 use Rattle.job_file.specs.Bytes.{leastFirst, valueOf, number, numberAt, overwrite, AllBytes}
@@ -69,11 +69,6 @@ drop-zeros (suc k) (suc n) = drop-zeros k n ∙ ap zeros (let e : n - k ≡ suc 
 pub padded-overwrite : (n : ℕ) (xs : List ℕ) → padded n xs ≡ overwrite xs (zeros n)
 unfolding padded overwrite
 padded-overwrite n xs = ap (λ (l : List ℕ). xs ++ l) (sym (drop-zeros (length xs) n))
-
-pub length-padded : (n : ℕ) (xs : List ℕ) → length xs ≤ n → length (padded n xs) ≡ n
-length-padded n xs h =
-    let long : length (zeros n) ≡ n = length-replicate n 0 in
-    rw (padded-overwrite n xs, length-overwrite xs (zeros n) (omega arith)) long
 
 pub take-padded : (n : ℕ) (xs : List ℕ) → take (length xs) (padded n xs) ≡ xs
 unfolding padded

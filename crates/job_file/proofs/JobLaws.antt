@@ -2,7 +2,7 @@
 --   Passed, passed    its numbers are within their bounds
 --   length-trailer, length-file, file-short    how long its file is
 -- Assumes nothing.
-use mathlib.Core.Path.{_≡_, refl, ap, sym, _∙_}
+use mathlib.Core.Path.{_≡_, refl, ap, sym}
 use mathlib.Core.List.{List, [], _++_, List·Memᴰ·not-nil}
 use mathlib.Core.Logic.{_⊎_, inl, inr}
 use Prim.Native.Nat.{ℕ, suc, _*_, _≤_}

@@ -1,5 +1,5 @@
 -- The layout of a file, as the code reckons it.
---   area-of, area-small    (n+1) squared, as the code reckons it
+--   area-small    (n+1) squared is at most 289
 --   Layout, layout-of, of-layout    the places and the length, where nothing is misplaced, and back
 --   table-elsewhere, start-elsewhere, other-length, layout-fits    what each test of the layout decides
 -- Assumes nothing.
@@ -7,22 +7,20 @@ use mathlib.Core.Path.{_≡_, refl, ap, sym, _∙_}
 use mathlib.Core.Bool.{Bool, true, false, not, _||_, or-true}
 use mathlib.Core.List.{List}
 use mathlib.Core.Logic.{_≢_}
-use Prim.Native.Nat.{ℕ, _+_, _*_, _≤_}
+use Prim.Native.Nat.{ℕ, suc, _≤_}
 use native.Mathlib.Nat.{mul-le-mul}
 use native.Mathlib.Omega.{arith}
 use lib.Dec.{ltb, eqb}
 use lib.ListN.{getD}
 use borrow.Author.Tests.{eqb-true, ltb-false, not-false, eq-eqb, ne-eqb, le-ltb}
 use Rattle.job_file.specs.Bytes.{numberAt}
-use Rattle.job_file.specs.Job.{Trailer, trailerLength, area, startPlaceOf, fileLength, longest}
+use Rattle.job_file.specs.Job.{Trailer, area, startPlaceOf, fileLength, longest}
 use Rattle.job_file.specs.Reader.{trailerFrom, misplaced}
+use Rattle.job_file.specs.Promise.{tablePlaces}
 
-pub area-of : (n : ℕ) → (n + 1) * (n + 1) ≡ area n
-area-of n = omega arith
-
-pub area-small : (n : ℕ) → n ≤ 16 → (n + 1) * (n + 1) ≤ 289
+pub area-small : (n : ℕ) → n ≤ 16 → area n ≤ tablePlaces
 area-small n h =
-    let few : n + 1 ≤ 17 = omega arith in
+    let few : suc n ≤ 17 = omega arith in
     mul-le-mul few few
 
 pub or-false : (a b : Bool) → (a || b) ≡ false → (a ≡ false) × (b ≡ false)
@@ -65,31 +63,26 @@ module _ (t : Trailer) (len : ℕ) where
 
 -- The layout for n stops, where n stands in the trailer, in a file of some length.
 module _ (bytes : List ℕ) (len n : ℕ) (stands : n ≡ getD bytes 8 0) where
-  -- where the starting order begins, and where the file ends
-  abbrev start : ℕ
-  start = 4 * ((n + 1) * (n + 1))
+  start-is : startPlaceOf n ≡ startPlaceOf (getD bytes 8 0)
+  start-is = ap startPlaceOf stands
 
-  abbrev end : ℕ
-  end = start + getD bytes 9 0 + trailerLength
-
-  start-is : start ≡ startPlaceOf (getD bytes 8 0)
-  start-is = ap (λ (m : ℕ). 4 * m) (area-of n) ∙ ap startPlaceOf stands
-
-  end-is : end ≡ fileLength (getD bytes 8 0) (getD bytes 9 0)
-  end-is = ap (λ (m : ℕ). m + getD bytes 9 0 + trailerLength) start-is
+  end-is : fileLength n (getD bytes 9 0) ≡ fileLength (getD bytes 8 0) (getD bytes 9 0)
+  end-is = ap (λ (m : ℕ). fileLength m (getD bytes 9 0)) stands
 
   pub table-elsewhere : numberAt bytes 0 ≢ 0 → true ≡ misplaced (trailerFrom bytes) len
   unfolding misplaced trailerFrom
   table-elsewhere h = rw (ne-eqb (numberAt bytes 0) 0 h)
 
-  pub start-elsewhere : numberAt bytes 4 ≢ start → true ≡ misplaced (trailerFrom bytes) len
+  pub start-elsewhere : numberAt bytes 4 ≢ startPlaceOf n → true ≡ misplaced (trailerFrom bytes) len
   unfolding misplaced trailerFrom
-  start-elsewhere h = rw (← start-is, ne-eqb (numberAt bytes 4) start h, or-true)
+  start-elsewhere h = rw (ne-eqb (numberAt bytes 4) _ (λ e. h (e ∙ sym start-is)), or-true)
 
-  pub other-length : len ≢ end → true ≡ misplaced (trailerFrom bytes) len
+  pub other-length : len ≢ fileLength n (getD bytes 9 0) → true ≡ misplaced (trailerFrom bytes) len
   unfolding misplaced trailerFrom
   other-length h = rw (ne-eqb len _ (λ e. h (e ∙ sym end-is)), or-true)
 
-  pub layout-fits : numberAt bytes 0 ≡ 0 → numberAt bytes 4 ≡ start → len ≡ end → ltb longest len ≡ misplaced (trailerFrom bytes) len
+  pub layout-fits :
+      numberAt bytes 0 ≡ 0 → numberAt bytes 4 ≡ startPlaceOf n → len ≡ fileLength n (getD bytes 9 0)
+      → ltb longest len ≡ misplaced (trailerFrom bytes) len
   unfolding misplaced trailerFrom
   layout-fits h k l = rw (eq-eqb (numberAt bytes 0) 0 h, eq-eqb (numberAt bytes 4) _ (k ∙ start-is), eq-eqb len _ (l ∙ end-is))

@@ -3,10 +3,10 @@
 --   short-file, wrong-stops, wrong-layout, right-layout    what each test decides
 --   layout-laid        a file whose length and places are those of the layout is long enough
 -- Assumes nothing.
-use mathlib.Core.Path.{_≡_, refl, ap, sym, _∙_}
+use mathlib.Core.Path.{_≡_, refl, ap, _∙_}
 use mathlib.Core.Bool.{Bool, true, false}
 use mathlib.Core.List.{List, []}
-use Prim.Native.Nat.{ℕ, suc, _+_, _*_, _-_, _≤_, _<_}
+use Prim.Native.Nat.{ℕ, suc, _*_, _-_, _≤_, _<_}
 use native.Mathlib.Omega.{arith}
 use lib.Dec.{ltb, eqb}
 use lib.ListN.{length, getD, drop, length-drop}
@@ -20,7 +20,7 @@ use Rattle.job_file.proofs.ByteLaws.{length-numbers}
 use Rattle.job_file.proofs.LayoutLaws.{or-false, layout-of}
 
 -- a call of n stops with nothing else
-abbrev pub bare : ℕ → Call
+abbrev bare : ℕ → Call
 bare n = callOf n [] 0 0 0 [] []
 
 pub first-cause : (n k : ℕ) → k ≡ jobCause (bare n) 0 → eqb k 1 ≡ cause₁ (bare n)

@@ -13,7 +13,7 @@ use lib.ListN.{length}
 use Rattle.answer.specs.Call.{Call}
 use Rattle.answer.specs.Checks.{cause₁, cause₂, cause₃, cause₄, cause₅, orLater}
 use Rattle.job_file.specs.Job.{Job, callFor, trailerLength}
-use Rattle.job_file.specs.Reader.{trailerIn, jobIn, misplaced, fileCause, Reading, refusal, readingBy, read}
+use Rattle.job_file.specs.Reader.{trailerIn, jobIn, misplaced, fileCause, refusal, readingBy, read}
 use Rattle.job_file.specs.Writer.{Writing, writeCause, writingBy, write}
 use Rattle.job_file.specs.Promise.{returned, Promised}
 use Rattle.job_file.specs.declared.reader.Reading.{Reading as Returned}

@@ -6,7 +6,7 @@
 use mathlib.Core.Path.{_≡_, refl, ap, sym, _∙_}
 use mathlib.Core.Bool.{Bool, true, false}
 use mathlib.Core.List.{List}
-use mathlib.Core.Logic.{_⊎_, inl, inr, _≢_, ⊎-elim}
+use mathlib.Core.Logic.{_⊎_, inl, inr, _≢_}
 use Prim.Native.Nat.{ℕ, zero, suc, _≤_}
 use native.Mathlib.Omega.{arith}
 use lib.Dec.{ltb}
@@ -18,8 +18,7 @@ use Rattle.answer.specs.Checks.{orLater, jobCause}
 use Rattle.checks.proofs.JobCause.{job-first}
 use Rattle.job_file.specs.Bytes.{overwrite}
 use Rattle.job_file.specs.Job.{Job, callFor, area, bytesOf}
-use Rattle.job_file.specs.Reader.{Reading}
-use Rattle.job_file.specs.Writer.{Writing, writeCause, writingBy, write}
+use Rattle.job_file.specs.Writer.{writeCause, writingBy, write}
 use Rattle.job_file.specs.Promise.{tablePlaces, returned, jobOf, jobFrom}
 use Rattle.job_file.proofs.ByteLaws.{take-padded}
 use Rattle.job_file.proofs.WriterLaws.{file-written}

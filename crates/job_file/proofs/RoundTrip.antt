@@ -1,9 +1,8 @@
 -- Job files read back as they were written, and an accepted file is rewritten byte for byte: the letter's demand 2. First of the
 -- definitions, then of what `read` and `write` return and leave. Assumes nothing.
-use mathlib.Core.Path.{_≡_, refl, ap, sym, subst, _∙_}
+use mathlib.Core.Path.{_≡_, ap, sym, _∙_}
 use mathlib.Core.List.{List, _++_}
 use Prim.Native.Nat.{ℕ, _≤_}
-use native.Mathlib.Omega.{arith}
 use lib.ListN.{length, take, drop}
 use Rattle.answer.specs.Checks.{jobCause}
 use Rattle.job_file.specs.Bytes.{overwrite, AllBytes}

@@ -1,17 +1,17 @@
 -- Laws behind the functions of the writer.
 --   trailer-written    the trailer, byte by byte
+--   table-small        the starting order's place fits 32 bits
 --   lent-written       a part of the buffer, behind what is written, is lent and comes back written
 --   parts-written      the three parts of a file
 --   cause-refuses, buffer-refuses, file-written    what each test of the writer decides
 -- Assumes nothing.
 use mathlib.Core.Path.{_≡_, refl, ap, sym, _∙_}
-use mathlib.Core.Bool.{Bool, true, false}
 use mathlib.Core.List.{List, [], _++_, append-nil}
 use mathlib.Core.Logic.{_≢_}
 use Prim.Native.Nat.{ℕ, zero, suc, _+_, _*_, _-_, _≤_, _<_}
 use native.Mathlib.Omega.{arith}
 use lib.Dec.{ltb}
-use lib.ListN.{length, take, drop, set, length-append}
+use lib.ListN.{length, drop, set, length-append}
 use lib.Seq.{sets, drop-length}
 use borrow.Author.Tests.{lt-ltb, le-ltb}
 use borrow.Rule.Slice.PartMut.{midOf, putMid, post-is}
@@ -25,7 +25,7 @@ use Rattle.job_file.specs.Writer.{Writing, writeCause, writingBy, write}
 use Rattle.job_file.specs.Promise.{jobOf}
 use Rattle.job_file.specs.Code.{trailerBy, Fits}
 use Rattle.job_file.proofs.ByteLaws.{overwrite-next, overwrite-behind, length-overwrite, length-each-number}
-use Rattle.job_file.proofs.LayoutLaws.{area-of, area-small}
+use Rattle.job_file.proofs.LayoutLaws.{area-small}
 
 pub trailer-written :
     (buffer : List ℕ) (place n len selection rules bound : ℕ) → 13 ≤ length buffer
@@ -38,9 +38,9 @@ trailer-written buffer place n len selection rules bound h =
 
 -- the starting order's place fits 32 bits
 pub table-small : (n : ℕ) (table : List ℕ) → n ≤ 16 → length table ≡ area n → length table ≤ 289
-table-small n table h e = omega (arith, area-of n, area-small n h)
+table-small n table h e = omega (arith, area-small n h)
 
-pub lent-written :
+lent-written :
     (xs ys buffer w v : List ℕ) (place : ℕ) → length xs ≡ place → place ≤ length buffer → w ≡ overwrite xs buffer
     → v ≡ overwrite ys (midOf place (length w - place) w) → putMid place (length w - place) w v ≡ overwrite (xs ++ ys) buffer
 lent-written xs ys buffer w v place e h f g =

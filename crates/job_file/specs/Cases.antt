@@ -12,8 +12,8 @@ use Rattle.answer.specs.Checks.{cause₁, cause₂, cause₃, cause₄, cause�
 use Rattle.answer.specs.Cases.{tableT}
 use Rattle.job_file.specs.Bytes.{number, numberAt, overwrite}
 use Rattle.job_file.specs.Job.{Job, callFor, Trailer, trailerOf, trailerBytes, bytesOf, fileLength, longest}
-use Rattle.job_file.specs.Reader.{Reading, trailerFrom, trailerIn, numbersIn, jobBy, jobIn, misplaced, fileCause, refusal, readingBy, read}
-use Rattle.job_file.specs.Writer.{Writing, writeCause, writingBy, write}
+use Rattle.job_file.specs.Reader.{trailerFrom, trailerIn, numbersIn, jobBy, jobIn, misplaced, fileCause, refusal, readingBy, read}
+use Rattle.job_file.specs.Writer.{writeCause, writingBy, write}
 
 -- a job by its parts
 abbrev job : ℕ → List ℕ → ℕ → ℕ → ℕ → List ℕ → Job

@@ -3,8 +3,7 @@ ghost use mathlib.Core.Path.{_≡_};
 ghost use Prim.Native.Nat.{_+_, _≤_, _<_};
 ghost use lib.ListN.{length};
 ghost use lib.Seq.{sets};
-ghost use Rattle.pool.specs.Records.{padded};
-ghost use Rattle.job_file.specs.Bytes.{number, numberAt, overwrite};
+ghost use Rattle.job_file.specs.Bytes.{numberBytes, number, numberAt, overwrite};
 
 // A byte as a number of 32 bits.
 pub fn wide(x: u8) -> u32
@@ -15,7 +14,7 @@ pub fn wide(x: u8) -> u32
 
 // The number that begins at a place.
 pub fn number_at(bytes: &[u8], place: usize) -> u32
-    requires { ⌜ place + 4 ≤ length (now bytes) ⌝ }
+    requires { ⌜ place + numberBytes ≤ length (now bytes) ⌝ }
     ensures { λ r. ⌜ r ≡ numberAt (now (bytes .entry)) place ⌝ }
 {
     let a = wide(bytes[place]);
@@ -27,7 +26,7 @@ pub fn number_at(bytes: &[u8], place: usize) -> u32
 
 // Writes a number at a place.
 pub fn put_number(bytes: &mut [u8], place: usize, x: u32)
-    requires { ⌜ place + 4 ≤ length (now bytes) ⌝ }
+    requires { ⌜ place + numberBytes ≤ length (now bytes) ⌝ }
     ensures { λ u. ⌜ now (bytes .exit) ≡ sets (now (bytes .entry)) place (number x) ⌝ }
 {
     bytes[place] = (x % 256) as u8;

@@ -3,3 +3,18 @@
 pub mod bytes;
 pub mod reader;
 pub mod writer;
+
+// Bytes of a number of 32 bits.
+pub const NUMBER: usize = 4;
+
+// Bytes of the trailer.
+pub const TRAILER: usize = 13;
+
+// Bytes of the longest file.
+pub const LONGEST: usize = 1_185;
+
+// Places for the table's numbers, 17 times 17.
+pub const TABLE: usize = 289;
+
+// Places for the stops of a starting order.
+pub const ORDER: usize = 16;

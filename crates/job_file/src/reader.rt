@@ -4,11 +4,18 @@ ghost use mathlib.Core.List.{[]};
 ghost use Prim.Native.Nat.{_*_, _≤_};
 ghost use lib.ListN.{length, getD};
 ghost use Rattle.pool.specs.Records.{padded};
-ghost use Rattle.answer.specs.Call.{callOf};
+ghost use Rattle.answer.specs.Call.{callOf, orderPlaces};
 ghost use Rattle.answer.specs.Checks.{cause₁};
 ghost use Rattle.job_file.specs.Reader.{numbersIn, trailerFrom, jobBy, misplaced, refusal, read};
-ghost use Rattle.job_file.specs.Promise.{returned};
+ghost use Rattle.job_file.specs.Bytes.{numberBytes};
+ghost use Rattle.job_file.specs.Job.{trailerLength, area};
+ghost use Rattle.job_file.specs.Promise.{tablePlaces, returned};
 ghost use Rattle.job_file.specs.Code.{checked, Laid};
+use crate::LONGEST;
+use crate::NUMBER;
+use crate::ORDER;
+use crate::TABLE;
+use crate::TRAILER;
 use crate::bytes::number_at;
 use crate::bytes::put_bytes;
 use crate::bytes::wide;
@@ -19,11 +26,11 @@ use checks::job_cause;
 pub struct Reading {
     pub number: u32,
     pub n: u32,
-    pub table: [u32; 289],
+    pub table: [u32; TABLE],
     pub selection: u32,
     pub rules: u32,
     pub bound: u32,
-    pub start: [u8; 16],
+    pub start: [u8; ORDER],
     pub length: u32,
 }
 
@@ -34,55 +41,64 @@ fn refused(number: u32) -> Reading
     Reading {
         number,
         n: 0,
-        table: [0u32; 289],
+        table: [0u32; TABLE],
         selection: 0,
         rules: 0,
         bound: 0,
-        start: [0u8; 16],
+        start: [0u8; ORDER],
         length: 0,
     }
 }
 
 // The first numbers of a file, with zeros behind.
-fn table_of(file: &[u8], count: usize) -> [u32; 289]
-    requires { ⌜ (count ≤ 289) × (4 * count ≤ length (now file)) ⌝ }
-    ensures { λ r. ⌜ r ≡ padded 289 (numbersIn count (now (file .entry))) ⌝ }
+fn table_of(file: &[u8], count: usize) -> [u32; TABLE]
+    requires { ⌜ (count ≤ tablePlaces) × (numberBytes * count ≤ length (now file)) ⌝ }
+    ensures { λ r. ⌜ r ≡ padded tablePlaces (numbersIn count (now (file .entry))) ⌝ }
 {
-    let mut table = [0u32; 289];
+    let mut table = [0u32; TABLE];
     let mut k = 0;
     while k < count {
-        table[k] = number_at(file, 4 * k);
+        table[k] = number_at(file, NUMBER * k);
         k += 1;
     }
     table
 }
 
 // A starting order, with zeros behind.
-fn start_of(order: &[u8]) -> [u8; 16]
-    requires { ⌜ length (now order) ≤ 16 ⌝ }
-    ensures { λ r. ⌜ r ≡ padded 16 (now (order .entry)) ⌝ }
+fn start_of(order: &[u8]) -> [u8; ORDER]
+    requires { ⌜ length (now order) ≤ orderPlaces ⌝ }
+    ensures { λ r. ⌜ r ≡ padded orderPlaces (now (order .entry)) ⌝ }
 {
-    let mut start = [0u8; 16];
+    let mut start = [0u8; ORDER];
     put_bytes(order, &mut start);
     start
 }
 
+// (n+1) squared: how many numbers the table has.
+fn area(n: u32) -> usize
+    requires { ⌜ n ≤ 16 ⌝ }
+    ensures { λ r. ⌜ (r ≡ area n) × (r ≤ tablePlaces) ⌝ }
+{
+    let side = (n + 1) as usize;
+    side * side
+}
+
 // Whether the length of a file or the places in its trailer are not those of the layout for n stops.
 fn misplaced(trailer: &[u8], n: u32, len: usize) -> bool
-    requires { ⌜ (length (now trailer) ≡ 13) × ((n ≡ getD (now trailer) 8 0) × (n ≤ 16)) ⌝ }
+    requires { ⌜ (length (now trailer) ≡ trailerLength) × ((n ≡ getD (now trailer) 8 0) × (n ≤ 16)) ⌝ }
     ensures { λ r. ⌜ r ≡ misplaced (trailerFrom (now (trailer .entry))) len ⌝ }
 {
-    let place = 4 * ((n + 1) * (n + 1));
+    let place = NUMBER * area(n);
     if number_at(trailer, 0) != 0 {
         return true;
     }
-    if number_at(trailer, 4) != place {
+    if number_at(trailer, NUMBER) as usize != place {
         return true;
     }
-    if len != (place + wide(trailer[9]) + 13) as usize {
+    if len != place + wide(trailer[9]) as usize + TRAILER {
         return true;
     }
-    1185 < len
+    LONGEST < len
 }
 
 // Whether cause 1 applies, by the planner's own check: of a job without a table it answers 1 or 2.
@@ -103,9 +119,9 @@ fn accept(file: &[u8], trailer: &[u8], n: u32) -> Reading
     let selection = wide(trailer[10]);
     let rules = wide(trailer[11]);
     let bound = wide(trailer[12]);
-    let count = ((n + 1) * (n + 1)) as usize;
+    let count = area(n);
     let table = table_of(file, count);
-    let from = 4 * count;
+    let from = NUMBER * count;
     let to = from + length as usize;
     let order = &file[from..to];
     let number = job_cause(n, &table[..count], selection, rules, bound, order);
@@ -129,10 +145,10 @@ fn accept(file: &[u8], trailer: &[u8], n: u32) -> Reading
 pub fn read(file: &[u8]) -> Reading
     ensures { λ r. ⌜ r ≡ returned (read (now (file .entry))) ⌝ }
 {
-    if file.len() < 13 {
+    if file.len() < TRAILER {
         return refused(8);
     }
-    let end = file.len() - 13;
+    let end = file.len() - TRAILER;
     let trailer = &file[end..];
     let n = wide(trailer[8]);
     if wrong_n(n) {

@@ -3,10 +3,12 @@ ghost use mathlib.Core.Path.{_≡_};
 ghost use Prim.Native.Nat.{_*_, _≤_};
 ghost use lib.ListN.{length};
 ghost use Rattle.lists.specs.Lists.{each};
-ghost use Rattle.job_file.specs.Bytes.{number, overwrite};
-ghost use Rattle.job_file.specs.Job.{trailerBytes, bytesOf};
+ghost use Rattle.job_file.specs.Bytes.{numberBytes, number, overwrite};
+ghost use Rattle.job_file.specs.Job.{trailerLength, trailerBytes, bytesOf};
 ghost use Rattle.job_file.specs.Promise.{jobOf, Promised};
 ghost use Rattle.job_file.specs.Code.{trailerBy, Fits};
+use crate::NUMBER;
+use crate::TRAILER;
 use crate::bytes::put_bytes;
 use crate::bytes::put_number;
 use checks::job_cause;
@@ -20,23 +22,23 @@ pub struct Written {
 
 // Writes the table at the front of a buffer.
 fn put_table(table: &[u32], buffer: &mut [u8])
-    requires { ⌜ 4 * length (now table) ≤ length (now buffer) ⌝ }
+    requires { ⌜ numberBytes * length (now table) ≤ length (now buffer) ⌝ }
     ensures { λ u. ⌜ now (buffer .exit) ≡ overwrite (each number (now (table .entry))) (now (buffer .entry)) ⌝ }
 {
     let mut k = 0;
     while k < table.len() {
-        put_number(buffer, 4 * k, table[k]);
+        put_number(buffer, NUMBER * k, table[k]);
         k += 1;
     }
 }
 
 // Writes a trailer at the front of a buffer.
 fn put_trailer(buffer: &mut [u8], place: u32, n: u8, len: u8, selection: u8, rules: u8, bound: u8)
-    requires { ⌜ 13 ≤ length (now buffer) ⌝ }
+    requires { ⌜ trailerLength ≤ length (now buffer) ⌝ }
     ensures { λ u. ⌜ now (buffer .exit) ≡ overwrite (trailerBytes (trailerBy place n len selection rules bound)) (now (buffer .entry)) ⌝ }
 {
     put_number(buffer, 0, 0);
-    put_number(buffer, 4, place);
+    put_number(buffer, NUMBER, place);
     buffer[8] = n;
     buffer[9] = len;
     buffer[10] = selection;
@@ -57,7 +59,7 @@ fn put_file(
     requires { ⌜ Fits n (now table) selection rules bound (now start) (now buffer) ⌝ }
     ensures { λ u. ⌜ now (buffer .exit) ≡ overwrite (bytesOf (jobOf n (now (table .entry)) selection rules bound (now (start .entry)))) (now (buffer .entry)) ⌝ }
 {
-    let place = 4 * table.len();
+    let place = NUMBER * table.len();
     let end = place + start.len();
     put_table(table, buffer);
     put_bytes(start, &mut buffer[place..]);
@@ -88,7 +90,7 @@ pub fn write(
     if number != 0 {
         return Written { number, length: 0 };
     }
-    let length = 4 * table.len() + start.len() + 13;
+    let length = NUMBER * table.len() + start.len() + TRAILER;
     if buffer.len() < length {
         return Written {
             number: 10,

@@ -1,10 +1,8 @@
--- `accept` meets its contract. Assumes nothing.
+-- `accept` meets its contract: what it has read is the file's job (`found`), and the checks answer for it. Assumes nothing.
 use mathlib.Core.Path.{sym, _∙_}
-use native.Mathlib.Omega.{arith}
 use lib.Seq.{length-take-le}
-use Rattle.job_file.proofs.LayoutLaws.{area-small}
-use Rattle.job_file.proofs.AcceptLaws.{Found, table-long, found-short, accept-refuses, accept-returns}
 use borrow.Author.Needs.{needs}
+use Rattle.job_file.proofs.AcceptLaws.{Found, found-short, accept-refuses, accept-returns}
 use Rattle.job_file.proofs.reader.accept.Statement.{statement}
 use Rattle.job_file.proofs.reader.accept.Tie as tie
 
@@ -12,7 +10,7 @@ use Rattle.job_file.proofs.reader.accept.Tie as tie
 abbrev Read : tie.After-job-cause → Type 0
 Read c =
     let table = c .before .before .before in
-    let fourth = table .before in
+    let fourth = table .before .before in
     let third = fourth .before .before in
     let second = third .before .before in
     let first = second .before .before in
@@ -21,6 +19,7 @@ Read c =
     (args .file .now)
     (args .trailer .now)
     (args .n)
+    (table .before .area .result)
     (table .table-of .result)
     (first .wide .result)
     (second .wide2 .result)
@@ -30,12 +29,13 @@ Read c =
 found : (c : tie.After-job-cause) → Read c
 found c =
     let table = c .before .before .before in
-    let fourth = table .before in
+    let fourth = table .before .before in
     let third = fourth .before .before in
     let second = third .before .before in
     let first = second .before .before in
     record {
       laid = first .before .before .before .before .pre;
+      square = table .before .area .ensures .0;
       numbers = table .table-of .ensures;
       long = first .wide .ensures .0;
       choice = second .wide2 .ensures .0;
@@ -67,22 +67,11 @@ shared-slice-read-wide-4 c = search needs
 wide-requires-4 : tie.Need-wide-requires-4
 wide-requires-4 c κs = search needs
 
-add-count : tie.Need-add-count
-add-count c = search needs
-
-add-count-2 : tie.Need-add-count-2
-add-count-2 c = search needs
-
-mul-count : tie.Need-mul-count
-mul-count c = omega (arith, area-small (c .before .before .before .before .before .before .before .before .before .before .args .n) (omega arith))
-
-cast-count : tie.Need-cast-count
-cast-count c = search needs
+area-requires : tie.Need-area-requires
+area-requires c κs = search needs
 
 table-of-requires : tie.Need-table-of-requires
-table-of-requires c κs =
-    let start = c .before .before .before .before .before .before .before .before .before .before in
-    (area-small (start .args .n) (start .pre .few), omega (arith, start .pre .inside))
+table-of-requires c κs = search needs
 
 mul-from : tie.Need-mul-from
 mul-from c = search needs
@@ -103,10 +92,7 @@ part-order-end : tie.Need-part-order-end
 part-order-end c = search needs
 
 array-share-prefix-table : tie.Need-array-share-prefix-table
-array-share-prefix-table c =
-    let table = c .before in
-    let start = table .before .before .before .before .before .before .before .before .before .before .before in
-    table-long (start .args .n) (start .args .file .now) (table .table-of .result) (start .pre .few) (table .table-of .ensures)
+array-share-prefix-table c = search needs
 
 slice-aggregate-job-cause : tie.Need-slice-aggregate-job-cause
 slice-aggregate-job-cause c = sym (length-take-le _ (c .before .before .table-of .result) (array-share-prefix-table (c .before)))
@@ -118,13 +104,17 @@ refused-requires : tie.Need-refused-requires
 refused-requires c κs = search needs
 
 returns : tie.Need-returns
-returns c = c .refused .ensures ∙ accept-refuses _ _ _ _ _ _ _ _ (found (c .before .before)) _ (c .before .before .job-cause .ensures) (c .before .if1 .taken)
+returns c =
+    let checks = c .before .before in
+    c .refused .ensures ∙ accept-refuses _ _ _ _ _ _ _ _ _ (found checks) _ (checks .job-cause .ensures) (c .before .if1 .taken)
 
 start-of-requires : tie.Need-start-of-requires
-start-of-requires c κs = found-short _ _ _ _ _ _ _ _ (found (c .before)) _ (c .before .job-cause .ensures) (c .if1 .left)
+start-of-requires c κs = found-short _ _ _ _ _ _ _ _ _ (found (c .before)) _ (c .before .job-cause .ensures) (c .if1 .left)
 
 returns-2 : tie.Need-returns-2
-returns-2 c = accept-returns _ _ _ _ _ _ _ _ (found (c .before .before)) _ (c .before .before .job-cause .ensures) (c .before .if1 .left) _ (c .start-of .ensures)
+returns-2 c =
+    let checks = c .before .before in
+    accept-returns _ _ _ _ _ _ _ _ _ (found checks) _ (checks .job-cause .ensures) (c .before .if1 .left) _ (c .start-of .ensures)
 
 pub accept-spec : {M : Type 1} → statement M
 accept-spec =
@@ -138,10 +128,7 @@ accept-spec =
     wide-requires-3
     shared-slice-read-wide-4
     wide-requires-4
-    add-count
-    add-count-2
-    mul-count
-    cast-count
+    area-requires
     table-of-requires
     mul-from
     cast-to

@@ -1,7 +1,7 @@
 -- `put_table` meets its contract. The loop's invariant: the first k numbers stand at the front of the buffer. The measure is how many are
 -- left. Assumes nothing.
 use mathlib.Core.Path.{_≡_, refl, ap, _∙_}
-use Prim.Native.Nat.{_*_, _-_, _≤_}
+use Prim.Native.Nat.{_-_, _≤_}
 use native.Mathlib.Omega.{arith}
 use lib.ListN.{length, take}
 use lib.Seq.{length-sets, take-all}
