@@ -101,7 +101,7 @@ module _ (file trailer : List ℕ) (n : ℕ) where
             rules = rules;
             bound = bound;
             start = start;
-            length = len;
+            stops = len;
           })
           (returned (checked job))
       unfolding checked readingBy returned jobBy trailerFrom

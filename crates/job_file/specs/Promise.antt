@@ -16,7 +16,8 @@ use Rattle.job_file.specs.declared.writer.Written.{Written}
 abbrev pub tablePlaces : ℕ
 tablePlaces = 289
 
--- What the reader returns: the number and the job, with zeros in unused places of the table and of the starting order.
+-- What the reader returns: the number and the job, with zeros in unused places of the table and of the starting order, and how many stops
+-- the starting order has.
 unfoldable pub returned : Reading → Returned
 returned r = record {
   number = r .number;
@@ -26,17 +27,17 @@ returned r = record {
   rules = r .job .rules;
   bound = r .job .bound;
   start = padded orderPlaces (r .job .start);
-  length = length (r .job .start);
+  stops = length (r .job .start);
 }
 
 unfoldable pub jobOf : ℕ → List ℕ → ℕ → ℕ → ℕ → List ℕ → Job
 jobOf n table selection rules bound start =
     record { n = n; table = table; selection = selection; rules = rules; bound = bound; start = start }
 
--- The job that a caller hands on from what the reader returned: the first (n+1) squared numbers of the table, and as many stops of the
--- starting order as its length says.
+-- The job that a caller hands on from what the reader returned: the first (n+1) squared numbers of the table, and the stops of the
+-- starting order.
 unfoldable pub jobFrom : Returned → Job
-jobFrom r = jobOf (r .n) (take (area (r .n)) (r .table)) (r .selection) (r .rules) (r .bound) (take (r .length) (r .start))
+jobFrom r = jobOf (r .n) (take (area (r .n)) (r .table)) (r .selection) (r .rules) (r .bound) (take (r .stops) (r .start))
 
 -- What the writer promises of a job and a buffer: the number and the length that it returns, and the bytes that it leaves in the buffer, are
 -- those of `write`.

@@ -31,7 +31,8 @@ pub struct Reading {
     pub rules: u32,
     pub bound: u32,
     pub start: [u8; ORDER],
-    pub length: u32,
+    // of the starting order: 0 or n
+    pub stops: u32,
 }
 
 // A refusal: a number, and zeros.
@@ -46,7 +47,7 @@ fn refused(number: u32) -> Reading
         rules: 0,
         bound: 0,
         start: [0u8; ORDER],
-        length: 0,
+        stops: 0,
     }
 }
 
@@ -115,14 +116,14 @@ fn accept(file: &[u8], trailer: &[u8], n: u32) -> Reading
     requires { ⌜ Laid (now file) (now trailer) n ⌝ }
     ensures { λ r. ⌜ r ≡ returned (checked (jobBy (trailerFrom (now (trailer .entry))) (now (file .entry)))) ⌝ }
 {
-    let length = wide(trailer[9]);
+    let stops = wide(trailer[9]);
     let selection = wide(trailer[10]);
     let rules = wide(trailer[11]);
     let bound = wide(trailer[12]);
     let count = area(n);
     let table = table_of(file, count);
     let from = NUMBER * count;
-    let to = from + length as usize;
+    let to = from + stops as usize;
     let order = &file[from..to];
     let number = job_cause(n, &table[..count], selection, rules, bound, order);
     if number != 0 {
@@ -137,7 +138,7 @@ fn accept(file: &[u8], trailer: &[u8], n: u32) -> Reading
         rules,
         bound,
         start,
-        length,
+        stops,
     }
 }
 
