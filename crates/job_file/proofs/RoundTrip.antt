@@ -6,20 +6,24 @@ use Prim.Native.Nat.{ℕ, _≤_}
 use lib.ListN.{length, take, drop}
 use Rattle.answer.specs.Checks.{jobCause}
 use Rattle.job_file.specs.Bytes.{overwrite, AllBytes}
-use Rattle.job_file.specs.Job.{Job, callFor, bytesOf}
+use Rattle.job_file.specs.Job.{Job, callFor, bytesOf, fileLength, longest}
 use Rattle.job_file.specs.Reader.{Reading, read}
 use Rattle.job_file.specs.Writer.{Writing, write}
 use Rattle.job_file.specs.Promise.{returned, jobFrom, Promised}
 use Rattle.job_file.specs.declared.reader.Reading.{Reading as Returned}
 use Rattle.job_file.specs.declared.writer.Written.{Written}
 use Rattle.job_file.proofs.ByteLaws.{take-overwrite}
-use Rattle.job_file.proofs.JobLaws.{passed}
+use Rattle.job_file.proofs.JobLaws.{passed, length-file, file-short}
 use Rattle.job_file.proofs.Accepted.{bytes-read, accepted-passes, accepted-bytes}
 use Rattle.job_file.proofs.Returned.{job-returned, Done, done, writes}
 
 -- checks 1 to 5 let the job pass
 abbrev pub Passes : Job → Type 0
 Passes j = jobCause (callFor j) 0 ≡ 0
+
+-- "The length is 4 times (n+1) squared, plus the starting order, plus 13; at most 1,185."
+pub file-length : (j : Job) → Passes j → (length (bytesOf j) ≡ fileLength (j .n) (length (j .start))) × (length (bytesOf j) ≤ longest)
+file-length j p = (length-file j (passed j p .square), file-short j (passed j p))
 
 -- "Job files read back as they were written"
 pub written-reads-back : (j : Job) → Passes j → read (bytesOf j) ≡ record { number = 0; job = j }

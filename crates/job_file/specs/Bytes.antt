@@ -25,7 +25,7 @@ number x = leastFirst numberBytes x
 unfoldable pub numberAt : List ℕ → ℕ → ℕ
 numberAt bytes place = valueOf (take numberBytes (drop place bytes))
 
--- some bytes at the front of a buffer; "bytes behind" them stay
+-- some bytes at the front of a buffer; what is behind them stays: "The writer leaves bytes behind the file untouched."
 unfoldable pub overwrite : List ℕ → List ℕ → List ℕ
 overwrite bytes buffer = bytes ++ drop (length bytes) buffer
 
