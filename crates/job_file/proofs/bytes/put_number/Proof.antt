@@ -7,34 +7,34 @@ use Rattle.job_file.proofs.bytes.put_number.Statement.{statement}
 use Rattle.job_file.proofs.bytes.put_number.Tie as tie
 
 cast-bytes : tie.Need-cast-bytes
-cast-bytes c = search needs
+cast-bytes c = omega arith
 
 slice-write-bytes : tie.Need-slice-write-bytes
-slice-write-bytes c = search needs
+slice-write-bytes c = omega arith
 
 cast-bytes-2 : tie.Need-cast-bytes-2
-cast-bytes-2 c = search needs
+cast-bytes-2 c = omega arith
 
 add-bytes : tie.Need-add-bytes
-add-bytes c = search needs
+add-bytes c = omega arith
 
 slice-write-bytes-2 : tie.Need-slice-write-bytes-2
 slice-write-bytes-2 c = simp length-set (omega arith)
 
 cast-bytes-3 : tie.Need-cast-bytes-3
-cast-bytes-3 c = search needs
+cast-bytes-3 c = omega arith
 
 add-bytes-2 : tie.Need-add-bytes-2
-add-bytes-2 c = search needs
+add-bytes-2 c = omega arith
 
 slice-write-bytes-3 : tie.Need-slice-write-bytes-3
 slice-write-bytes-3 c = simp length-set (omega arith)
 
 cast-bytes-4 : tie.Need-cast-bytes-4
-cast-bytes-4 c = search needs
+cast-bytes-4 c = omega arith
 
 add-bytes-3 : tie.Need-add-bytes-3
-add-bytes-3 c = search needs
+add-bytes-3 c = omega arith
 
 slice-write-bytes-4 : tie.Need-slice-write-bytes-4
 slice-write-bytes-4 c = simp length-set (omega arith)

@@ -1,7 +1,7 @@
 -- `accept` meets its contract: what it has read is the file's job (`found`), and the checks answer for it. Assumes nothing.
 use mathlib.Core.Path.{sym, _∙_}
 use lib.Seq.{length-take-le}
-use borrow.Author.Needs.{needs}
+use native.Mathlib.Omega.{arith}
 use Rattle.job_file.proofs.AcceptLaws.{Found, found-short, accept-refuses, accept-returns}
 use Rattle.job_file.proofs.reader.accept.Statement.{statement}
 use Rattle.job_file.proofs.reader.accept.Tie as tie
@@ -44,64 +44,64 @@ found c =
     }
 
 shared-slice-read-wide : tie.Need-shared-slice-read-wide
-shared-slice-read-wide c = search needs
+shared-slice-read-wide c = omega arith
 
 wide-requires : tie.Need-wide-requires
-wide-requires c κs = search needs
+wide-requires c κs = omega arith
 
 shared-slice-read-wide-2 : tie.Need-shared-slice-read-wide-2
-shared-slice-read-wide-2 c = search needs
+shared-slice-read-wide-2 c = omega arith
 
 wide-requires-2 : tie.Need-wide-requires-2
-wide-requires-2 c κs = search needs
+wide-requires-2 c κs = omega arith
 
 shared-slice-read-wide-3 : tie.Need-shared-slice-read-wide-3
-shared-slice-read-wide-3 c = search needs
+shared-slice-read-wide-3 c = omega arith
 
 wide-requires-3 : tie.Need-wide-requires-3
-wide-requires-3 c κs = search needs
+wide-requires-3 c κs = omega arith
 
 shared-slice-read-wide-4 : tie.Need-shared-slice-read-wide-4
-shared-slice-read-wide-4 c = search needs
+shared-slice-read-wide-4 c = omega arith
 
 wide-requires-4 : tie.Need-wide-requires-4
-wide-requires-4 c κs = search needs
+wide-requires-4 c κs = omega arith
 
 area-requires : tie.Need-area-requires
-area-requires c κs = search needs
+area-requires c κs = omega arith
 
 table-of-requires : tie.Need-table-of-requires
-table-of-requires c κs = search needs
+table-of-requires c κs = omega arith
 
 mul-from : tie.Need-mul-from
-mul-from c = search needs
+mul-from c = omega arith
 
 cast-to : tie.Need-cast-to
-cast-to c = search needs
+cast-to c = omega arith
 
 add-to : tie.Need-add-to
-add-to c = search needs
+add-to c = omega arith
 
 sub-order : tie.Need-sub-order
-sub-order c = search needs
+sub-order c = omega arith
 
 part-order-start : tie.Need-part-order-start
-part-order-start c = search needs
+part-order-start c = omega arith
 
 part-order-end : tie.Need-part-order-end
-part-order-end c = search needs
+part-order-end c = omega arith
 
 array-share-prefix-table : tie.Need-array-share-prefix-table
-array-share-prefix-table c = search needs
+array-share-prefix-table c = omega arith
 
 slice-aggregate-job-cause : tie.Need-slice-aggregate-job-cause
 slice-aggregate-job-cause c = sym (length-take-le _ (c .before .before .table-of .result) (array-share-prefix-table (c .before)))
 
 job-cause-requires : tie.Need-job-cause-requires
-job-cause-requires c κs = search needs
+job-cause-requires c κs = omega arith
 
 refused-requires : tie.Need-refused-requires
-refused-requires c κs = search needs
+refused-requires c κs = omega arith
 
 returns : tie.Need-returns
 returns c =

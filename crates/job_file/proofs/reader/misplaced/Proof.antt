@@ -1,28 +1,27 @@
 -- `misplaced` meets its contract, test by test. Assumes nothing.
 use mathlib.Core.Path.{sym, _∙_}
 use native.Mathlib.Omega.{arith}
-use borrow.Author.Needs.{needs}
 use Rattle.job_file.proofs.LayoutLaws.{table-elsewhere, start-elsewhere, other-length, layout-fits}
 use Rattle.job_file.proofs.reader.misplaced.Statement.{statement}
 use Rattle.job_file.proofs.reader.misplaced.Tie as tie
 
 area-requires : tie.Need-area-requires
-area-requires c κs = search needs
+area-requires c κs = omega arith
 
 mul-place : tie.Need-mul-place
-mul-place c = search needs
+mul-place c = omega arith
 
 number-at-requires : tie.Need-number-at-requires
-number-at-requires c κs = search needs
+number-at-requires c κs = omega arith
 
 returns : tie.Need-returns
 returns c = table-elsewhere _ _ _ (c .before .before .before .before .pre .1 .0) (λ e. c .if1 .taken (c .before .number-at .ensures ∙ e))
 
 number-at-requires-2 : tie.Need-number-at-requires-2
-number-at-requires-2 c κs = search needs
+number-at-requires-2 c κs = omega arith
 
 cast-if2 : tie.Need-cast-if2
-cast-if2 c = search needs
+cast-if2 c = omega arith
 
 returns-2 : tie.Need-returns-2
 returns-2 c =
@@ -30,19 +29,19 @@ returns-2 c =
     start-elsewhere _ _ _ (area .before .before .pre .1 .0) (λ e. c .if2 .taken (omega (arith, c .before .number-at2 .ensures, e, area .area .ensures .0)))
 
 shared-slice-read-wide : tie.Need-shared-slice-read-wide
-shared-slice-read-wide c = search needs
+shared-slice-read-wide c = omega arith
 
 wide-requires : tie.Need-wide-requires
-wide-requires c κs = search needs
+wide-requires c κs = omega arith
 
 cast-if3 : tie.Need-cast-if3
-cast-if3 c = search needs
+cast-if3 c = omega arith
 
 add-if3 : tie.Need-add-if3
-add-if3 c = search needs
+add-if3 c = omega arith
 
 add-if3-2 : tie.Need-add-if3-2
-add-if3-2 c = search needs
+add-if3-2 c = omega arith
 
 returns-3 : tie.Need-returns-3
 returns-3 c =

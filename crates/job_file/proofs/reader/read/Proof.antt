@@ -6,7 +6,6 @@ use native.Mathlib.Omega.{arith}
 use lib.ListN.{length, take, drop}
 use Rattle.stops.proofs.RowLaws.{part-from}
 use Rattle.answer.specs.Checks.{cause₁}
-use borrow.Author.Needs.{needs}
 use Rattle.job_file.specs.Job.{callFor, trailerLength}
 use Rattle.job_file.specs.Reader.{trailerFrom, jobBy}
 use Rattle.job_file.specs.Promise.{returned}
@@ -32,34 +31,34 @@ stops c =
     c .wrong-n .ensures ∙ same-stops (file s) (trailer s) (last s) (omega arith) _ (c .before .wide .ensures .0)
 
 refused-requires : tie.Need-refused-requires
-refused-requires c κs = search needs
+refused-requires c κs = omega arith
 
 returns : tie.Need-returns
 returns c = c .refused .ensures ∙ ap returned (short-file _ (c .before .if1 .taken))
 
 sub-end : tie.Need-sub-end
-sub-end c = search needs
+sub-end c = omega arith
 
 sub-trailer : tie.Need-sub-trailer
-sub-trailer c = search needs
+sub-trailer c = omega arith
 
 part-trailer-start : tie.Need-part-trailer-start
-part-trailer-start c = search needs
+part-trailer-start c = omega arith
 
 part-trailer-end : tie.Need-part-trailer-end
-part-trailer-end c = search needs
+part-trailer-end c = omega arith
 
 shared-slice-read-wide : tie.Need-shared-slice-read-wide
-shared-slice-read-wide c = search needs
+shared-slice-read-wide c = omega arith
 
 wide-requires : tie.Need-wide-requires
-wide-requires c κs = search needs
+wide-requires c κs = omega arith
 
 wrong-n-requires : tie.Need-wrong-n-requires
-wrong-n-requires c κs = search needs
+wrong-n-requires c κs = omega arith
 
 refused-requires-2 : tie.Need-refused-requires-2
-refused-requires-2 c κs = search needs
+refused-requires-2 c κs = omega arith
 
 returns-2 : tie.Need-returns-2
 returns-2 c =
@@ -74,7 +73,7 @@ misplaced-requires c κs =
     (length-last (file s) (trailer s) (last s) (omega arith), (w .before .wide .ensures .0, few-stops _ (sym (w .wrong-n .ensures) ∙ c .if2 .left)))
 
 refused-requires-3 : tie.Need-refused-requires-3
-refused-requires-3 c κs = search needs
+refused-requires-3 c κs = omega arith
 
 returns-3 : tie.Need-returns-3
 returns-3 c =

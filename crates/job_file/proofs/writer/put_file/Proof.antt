@@ -2,39 +2,38 @@
 use mathlib.Core.Path.{refl}
 use native.Mathlib.Omega.{arith}
 use Rattle.job_file.proofs.WriterLaws.{table-small, parts-written}
-use borrow.Author.Needs.{needs}
 use Rattle.job_file.proofs.writer.put_file.Statement.{statement}
 use Rattle.job_file.proofs.writer.put_file.Tie as tie
 
 mul-place : tie.Need-mul-place
-mul-place c = search needs
+mul-place c = omega arith
 
 add-end : tie.Need-add-end
-add-end c = search needs
+add-end c = omega arith
 
 put-table-requires : tie.Need-put-table-requires
-put-table-requires c κs = search needs
+put-table-requires c κs = omega arith
 
 sub-put-bytes : tie.Need-sub-put-bytes
-sub-put-bytes c = search needs
+sub-put-bytes c = omega arith
 
 part-put-bytes-start : tie.Need-part-put-bytes-start
-part-put-bytes-start c = search needs
+part-put-bytes-start c = omega arith
 
 part-put-bytes-end : tie.Need-part-put-bytes-end
-part-put-bytes-end c = search needs
+part-put-bytes-end c = omega arith
 
 put-bytes-requires : tie.Need-put-bytes-requires
-put-bytes-requires c κs = search needs
+put-bytes-requires c κs = omega arith
 
 sub-put-trailer : tie.Need-sub-put-trailer
-sub-put-trailer c = search needs
+sub-put-trailer c = omega arith
 
 part-put-trailer-start : tie.Need-part-put-trailer-start
-part-put-trailer-start c = search needs
+part-put-trailer-start c = omega arith
 
 part-put-trailer-end : tie.Need-part-put-trailer-end
-part-put-trailer-end c = search needs
+part-put-trailer-end c = omega arith
 
 cast-put-trailer : tie.Need-cast-put-trailer
 cast-put-trailer c =
@@ -42,25 +41,25 @@ cast-put-trailer c =
     omega (arith, table-small (start .args .n) (start .args .table .now) (start .pre .few) (start .pre .square))
 
 cast-put-trailer-2 : tie.Need-cast-put-trailer-2
-cast-put-trailer-2 c = search needs
+cast-put-trailer-2 c = omega arith
 
 cast-put-trailer-3 : tie.Need-cast-put-trailer-3
-cast-put-trailer-3 c = search needs
+cast-put-trailer-3 c = omega arith
 
 cast-put-trailer-4 : tie.Need-cast-put-trailer-4
-cast-put-trailer-4 c = search needs
+cast-put-trailer-4 c = omega arith
 
 cast-put-trailer-5 : tie.Need-cast-put-trailer-5
-cast-put-trailer-5 c = search needs
+cast-put-trailer-5 c = omega arith
 
 cast-put-trailer-6 : tie.Need-cast-put-trailer-6
-cast-put-trailer-6 c = search needs
+cast-put-trailer-6 c = omega arith
 
 put-trailer-requires : tie.Need-put-trailer-requires
-put-trailer-requires c κs = search needs
+put-trailer-requires c κs = omega arith
 
 same-length : tie.Need-same-length
-same-length c = search needs
+same-length c = omega arith
 
 returns : tie.Need-returns
 returns c =

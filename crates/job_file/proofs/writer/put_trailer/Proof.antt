@@ -1,19 +1,18 @@
 -- `put_trailer` meets its contract: two numbers and five bytes, one behind the other. Assumes nothing.
 use native.Mathlib.Omega.{arith}
 use lib.ListN.{length-set}
-use borrow.Author.Needs.{needs}
 use Rattle.job_file.proofs.WriterLaws.{trailer-written}
 use Rattle.job_file.proofs.writer.put_trailer.Statement.{statement}
 use Rattle.job_file.proofs.writer.put_trailer.Tie as tie
 
 put-number-requires : tie.Need-put-number-requires
-put-number-requires c κs = search needs
+put-number-requires c κs = omega arith
 
 put-number-requires-2 : tie.Need-put-number-requires-2
-put-number-requires-2 c κs = search needs
+put-number-requires-2 c κs = omega arith
 
 slice-write-buffer : tie.Need-slice-write-buffer
-slice-write-buffer c = search needs
+slice-write-buffer c = omega arith
 
 slice-write-buffer-2 : tie.Need-slice-write-buffer-2
 slice-write-buffer-2 c = simp length-set (omega arith)

@@ -8,7 +8,6 @@ use Rattle.job_file.specs.Job.{Job, callFor, trailerLength, bytesOf}
 use Rattle.job_file.specs.Promise.{jobOf}
 use Rattle.job_file.proofs.JobLaws.{Passed, passed, length-file}
 use Rattle.job_file.proofs.WriterLaws.{table-small, cause-refuses, buffer-refuses, file-written}
-use borrow.Author.Needs.{needs}
 use Rattle.job_file.proofs.writer.write.Statement.{statement}
 use Rattle.job_file.proofs.writer.write.Tie as tie
 
@@ -35,7 +34,7 @@ long c =
     length-file (job s) (sizes c .square) ∙ rw (sizes c .square)
 
 job-cause-requires : tie.Need-job-cause-requires
-job-cause-requires c κs = search needs
+job-cause-requires c κs = omega arith
 
 returns : tie.Need-returns
 unfolding jobOf callFor
@@ -45,10 +44,10 @@ returns c =
     cause-refuses (job start) (start .args .buffer .now) _ (answered .job-cause .ensures) (c .if1 .taken)
 
 mul-length : tie.Need-mul-length
-mul-length c = search needs
+mul-length c = omega arith
 
 add-length : tie.Need-add-length
-add-length c = search needs
+add-length c = omega arith
 
 add-length-2 : tie.Need-add-length-2
 unfolding jobOf
@@ -76,7 +75,7 @@ put-file-requires c κs =
     }
 
 same-length : tie.Need-same-length
-same-length c = search needs
+same-length c = omega arith
 
 returns-3 : tie.Need-returns-3
 returns-3 c =
