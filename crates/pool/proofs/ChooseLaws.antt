@@ -2,15 +2,25 @@
 -- rank and, of those of its rank, it is the earliest or the latest. The node at the place that leads is the one that `pick`, and so
 -- document 01's selection, chooses; the others are the list without it. A loop finds that place by going on one place at a time.
 -- Assumes nothing.
-use mathlib.Core.Path.{_≡_, refl, ap, _∙_}
+use mathlib.Core.Path.{_≡_, refl, ap, sym, _∙_}
 use mathlib.Core.Bool.{Bool, true, false, not, cond}
 use mathlib.Core.List.{List, [], _∷_, _++_}
 use mathlib.Core.Logic.{_⊎_, inl, inr, _≢_}
 use Prim.Native.Nat.{ℕ, zero, suc, _+_, _*_, _-_, _≤_, _<_}
 use native.Mathlib.Omega.{arith}
-use borrow.Author.Count.{below-more}
-use borrow.Author.Tests.{lt-ltb, le-ltb, le-leb, lt-leb, eq-eqb, ne-eqb}
-use lib.Dec.{eqb}
+use borrow.Author.Tests.{
+  lt-ltb,
+  le-ltb,
+  le-leb,
+  lt-leb,
+  eq-eqb,
+  ne-eqb,
+  ltb-true,
+  ltb-false,
+  leb-true,
+  leb-false,
+}
+use lib.Dec.{leb, ltb, eqb}
 use lib.ListN.{length, getD, take, drop, length-append}
 use lib.Seq.{getD-append-seam, getD-take, length-take-le}
 use Rattle.lists.proofs.Tests.{compared, ordered}
@@ -22,13 +32,8 @@ use Rattle.search.proofs.PlainSelection.{select-is-pick, lateBy, rankBy}
 use Rattle.stops.specs.Record.{emptyRecord}
 use Rattle.stops.specs.declared.node.Node.{Node as Record}
 use Rattle.pool.specs.View.{records}
-use Rattle.pool.specs.Passes.{Chosen, dropAt}
+use Rattle.pool.specs.Passes.{Chosen, Ahead, NextAhead, boundAt, dropAt}
 use Rattle.pool.proofs.ViewLaws.{records-at}
-
--- when a place of rank a goes before an earlier one of rank b: at equal ranks too if the side is late (before a later one: if it is not)
-abbrev Ahead : Bool → ℕ → ℕ → Type 0
-Ahead true a b = a ≤ b
-Ahead false a b = a < b
 
 ahead-le : (late : Bool) (a b : ℕ) → Ahead late a b → a ≤ b
 ahead-le true a b h = h
@@ -37,6 +42,19 @@ ahead-le false a b h = omega arith
 ahead-trans : (late : Bool) (a b c : ℕ) → Ahead late a b → b ≤ c → Ahead late a c
 ahead-trans true a b c h k = omega arith
 ahead-trans false a b c h k = omega arith
+
+-- a record's bound is its fourth word
+pub bound-at : (w : List ℕ) (i : ℕ) → i < length (records w) → boundAt (records w) i ≡ getD w (6 * i + 3) 0
+bound-at w i h = ap (λ (x : Record). x .bound) (records-at w i h)
+
+-- what the test of a side says
+pub ahead-met : (late : Bool) (a b : ℕ) → true ≡ cond late (leb a b) (ltb a b) → Ahead late a b
+ahead-met true a b e = leb-true a b (sym e)
+ahead-met false a b e = ltb-true a b (sym e)
+
+pub ahead-missed : (late : Bool) (a b : ℕ) → false ≡ cond late (leb a b) (ltb a b) → Ahead (not late) b a
+ahead-missed true a b e = leb-false a b (sym e)
+ahead-missed false a b e = ltb-false a b (sym e)
 
 -- of n places, i is the one that a side picks
 pub record Leads (late : Bool) (rank : ℕ → ℕ) (n i : ℕ) : Type 0 where
@@ -87,12 +105,24 @@ module _ (late : Bool) (rank : ℕ → ℕ) where
   pub leads-first : Leads late rank 1 0
   leads-first = record { inside = omega arith; before = λ k h. absurd (omega arith); behind = λ k h j. absurd (omega arith) }
 
-  pub lead-stays : (n i : ℕ) → Leads late rank n i → Ahead (not late) (rank i) (rank n) → Leads late rank (n + 1) i
-  lead-stays n i l h = record {
+  -- the places from n to m do not go before the one that leads
+  lead-stays :
+      (n m i : ℕ) → Leads late rank n i → n ≤ m → ((k : ℕ) → n ≤ k → k < m → Ahead (not late) (rank i) (rank k)) → Leads late rank m i
+  lead-stays n m i l longer h = record {
     inside = omega (arith, l .inside);
     before = l .before;
-    behind = λ k j m. below-more (λ (k : ℕ). i < k → Ahead (not late) (rank i) (rank k)) n (λ k q p. l .behind k p q) (λ p. h) k m j;
+    behind = λ k j p. go k j p (ordered n k);
   }
+    where
+      go : (k : ℕ) → i < k → k < m → (n ≤ k) ⊎ (k < n) → Ahead (not late) (rank i) (rank k)
+      go k j p (inl o) = h k o p
+      go k j p (inr o) = l .behind k j o
+
+  -- so the one that leads still does at the next place that goes before it
+  pub lead-on :
+      (n a i r : ℕ) → Leads late rank n i → NextAhead late rank n a (rank i) r
+      → (r ≤ a) × (Leads late rank r i × (r < a → Ahead late (rank r) (rank i)))
+  lead-on n a i r l next = (next .up-to, (lead-stays n r i l (next .from-there) (next .passed), next .met))
 
   lead-least : (n i : ℕ) → Leads late rank n i → (k : ℕ) → k < n → rank i ≤ rank k
   lead-least n i l k h = go (compared k i) (ordered i k)
@@ -169,13 +199,11 @@ chosen-leads n xs a selection fits few i rank l ranks = record {
 
 -- Of the first a records of w:
 module _ (w : List ℕ) (a : ℕ) (fits : a ≤ length (records w)) where
-  -- 0 and 1: the place leads by the bounds, which are the records' fourth words
+  -- 0 and 1: the place leads by the bounds
   pub chosen-least :
-      (n selection : ℕ) → selection ≤ 1 → (i : ℕ) → Leads (lateBy selection) (λ k. getD w (6 * k + 3) 0) a i
-      → Chosen n (take a (records w)) selection i
-  chosen-least n zero h i l = chosen-leads n (records w) a 0 fits (omega arith) i _ l (λ P same k j. rw (records-at w k (omega arith)))
-  chosen-least n (suc zero) h i l = chosen-leads n (records w) a 1 fits (omega arith) i _ l (λ P same k j. rw (records-at w k (omega arith)))
-  chosen-least n (suc (suc selection)) h i l = absurd (omega arith)
+      (n : ℕ) (late : Bool) (i : ℕ) → Leads late (boundAt (records w)) a i → Chosen n (take a (records w)) (cond late 1 0) i
+  chosen-least n false i l = chosen-leads n (records w) a 0 fits (omega arith) i _ l (λ P same k j. refl)
+  chosen-least n true i l = chosen-leads n (records w) a 1 fits (omega arith) i _ l (λ P same k j. refl)
 
   -- 2: the first place
   pub chosen-first : (n : ℕ) → 0 < a → Chosen n (take a (records w)) 2 0

@@ -1,6 +1,7 @@
 pub mod ViewLaws
 pub mod SiftLaws
 pub mod StayLaws
+pub mod RivalLaws
 pub mod ChooseLaws
 pub mod SettleLaws
 pub mod OrderWords

@@ -1,12 +1,13 @@
 -- What choosing and the rules' passes do to lists of records. Assumes nothing.
 use mathlib.Core.Path.{_≡_}
-use mathlib.Core.Bool.{Bool, true, not, _&&_}
+use mathlib.Core.Bool.{Bool, true, false, not, _&&_}
 use mathlib.Core.List.{List, _++_}
-use Prim.Native.Nat.{ℕ, suc, _+_, _<_}
-use lib.Dec.{leb, eqb}
+use Prim.Native.Nat.{ℕ, suc, _+_, _≤_, _<_}
+use lib.Bits.{bitAnd}
+use lib.Dec.{T, leb, eqb}
 use lib.ListN.{length, getD, take, drop}
 use lib.Seq.{slice}
-use Rattle.lists.specs.Lists.{keep, any}
+use Rattle.lists.specs.Lists.{In, keep, any}
 use Rattle.search.specs.Problem.{Problem}
 use Rattle.search.specs.Selection.{chosen, selectBy}
 use Rattle.stops.specs.Record.{emptyRecord, recDominates}
@@ -24,6 +25,22 @@ pub record Chosen (n : ℕ) (xs : List Record) (selection i : ℕ) : Type 0 wher
   pub picks :
       (P : Problem Record) → ((x : Record) → P .complete x ≡ eqb (x .size) n)
       → selectBy P (λ x. x .bound) selection xs ≡ chosen (getD xs i emptyRecord) (dropAt i xs)
+
+-- when a rank goes before that of an earlier place: at equal ranks too if the side is late
+abbrev pub Ahead : Bool → ℕ → ℕ → Type 0
+Ahead true a b = a ≤ b
+Ahead false a b = a < b
+
+-- r is the first place from `from` to a whose rank goes before a least one, or a
+pub record NextAhead (late : Bool) (rank : ℕ → ℕ) (from a least r : ℕ) : Type 0 where
+  pub from-there : from ≤ r
+  pub up-to : r ≤ a
+  pub passed : (k : ℕ) → from ≤ k → k < r → Ahead (not late) least (rank k)
+  pub met : r < a → Ahead late (rank r) least
+
+-- the bound of the record at k
+abbrev pub boundAt : List Record → ℕ → ℕ
+boundAt xs k = getD xs k emptyRecord .bound
 
 -- a selection above 3 is refused with 4
 abbrev pub Chose : ℕ → List Record → ℕ → Place → Type 0
@@ -46,6 +63,19 @@ isFree limit ys x = not (any (λ y. leb (y .bound) limit && recDominates y x) ys
 
 unfoldable pub isStaying : ℕ → List Record → Record → Bool
 isStaying limit kids x = leb (x .bound) limit && not (any (λ y. recDominates y x) kids)
+
+-- The set of a record holds a set of stops. A record that dominates another has its set, so among records that all hold one set only
+-- those that hold it too are to be looked at.
+unfoldable pub holds : ℕ → Record → Bool
+holds base x = eqb (bitAnd (x .set) base) base
+
+abbrev pub AllHold : ℕ → List Record → Type 0
+AllHold base xs = (x : Record) → In x xs → T (holds base x)
+
+-- those of the elements of l from `from` to `to` that pass the test stand at the front of `near`, and are `count`
+pub record Gathering (test : Record → Bool) (l : List Record) (from to : ℕ) (near : List Record) (count : ℕ) : Type 0 where
+  pub front : take count near ≡ keep test (slice from to l)
+  pub room : count ≤ length near
 
 unfoldable pub always : Record → Bool
 always x = true

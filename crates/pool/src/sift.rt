@@ -9,32 +9,12 @@ ghost use lib.Seq.{slice};
 ghost use Rattle.lists.specs.Lists.{keep};
 ghost use Rattle.stops.specs.Record.{emptyRecord, recDominates};
 ghost use Rattle.pool.specs.View.{records};
-ghost use Rattle.pool.specs.Passes.{Sifted, isWithin, isFree, isStaying, always};
+ghost use Rattle.pool.specs.Passes.{Sifted, isWithin, isStaying, always, AllHold};
 use crate::record::load;
 use crate::record::store;
+use crate::rivals::beats;
+use crate::rivals::holds;
 use stops::node::Node;
-
-// Whether record i dominates x. Sets are compared before anything else is read.
-fn beats(w: &[u32], i: usize, x: Node) -> bool
-    requires { ⌜ i < length (records (now w)) ⌝ }
-    ensures { λ r. ⌜ r ≡ recDominates (getD (records (now (w .entry))) i emptyRecord) x ⌝ }
-{
-    if w[6 * i + 1] != x.set {
-        return false;
-    }
-    load(w, i).dominates(x)
-}
-
-// Whether record i has a bound up to limit and dominates x.
-fn rival(w: &[u32], i: usize, x: Node, limit: u32) -> bool
-    requires { ⌜ i < length (records (now w)) ⌝ }
-    ensures { λ r. ⌜ r ≡ (leb (getD (records (now (w .entry))) i emptyRecord .bound) limit && recDominates (getD (records (now (w .entry))) i emptyRecord) x) ⌝ }
-{
-    if beats(w, i, x) {
-        return w[6 * i + 3] <= limit;
-    }
-    false
-}
 
 // Rule 1 on children: keeps those of the first m whose bound is at most limit.
 pub fn within(kids: &mut [u32], m: usize, limit: u32) -> usize
@@ -54,43 +34,16 @@ pub fn within(kids: &mut [u32], m: usize, limit: u32) -> usize
     r
 }
 
-// Rules 2 and 4 on children: keeps those of the first m that no record of w, from `from` to `to`, with a bound up to limit dominates.
-pub fn undominated(
-    kids: &mut [u32],
-    m: usize,
-    w: &[u32],
-    from: usize,
-    to: usize,
-    limit: u32,
-) -> usize
-    requires { ⌜ (m ≤ length (records (now kids))) × ((from ≤ to) × (to ≤ length (records (now w)))) ⌝ }
-    ensures { λ r. ⌜ Sifted (isFree limit (slice from to (records (now (w .entry))))) (records (now (kids .entry))) 0 m 0 (records (now (kids .exit))) r ⌝ }
-{
-    let mut r = 0;
-    let mut k = 0;
-    'child: while k < m {
-        let x = load(kids, k);
-        k += 1;
-        let mut i = from;
-        while i < to {
-            if rival(w, i, x, limit) {
-                continue 'child;
-            }
-            i += 1;
-        }
-        store(kids, r, x);
-        r += 1;
-    }
-    r
-}
-
-// Whether x stays active: its bound is at most limit, and none of the first r kids dominates it.
-fn stays(x: Node, limit: u32, kids: &[u32], r: usize) -> bool
-    requires { ⌜ r ≤ length (records (now kids)) ⌝ }
+// Whether x stays active: its bound is at most limit, and none of the first r kids, whose sets all hold base, dominates it.
+fn stays(x: Node, limit: u32, base: u32, kids: &[u32], r: usize) -> bool
+    requires { ⌜ (r ≤ length (records (now kids))) × AllHold base (take r (records (now kids))) ⌝ }
     ensures { λ b. ⌜ b ≡ isStaying limit (take r (records (now (kids .entry)))) x ⌝ }
 {
     if limit < x.bound {
         return false;
+    }
+    if !holds(x.set, base) {
+        return true;
     }
     let mut k = 0;
     while k < r {
@@ -103,14 +56,22 @@ fn stays(x: Node, limit: u32, kids: &[u32], r: usize) -> bool
 }
 
 // How many records from `from` to `to` stay active.
-pub fn staying(w: &[u32], from: usize, to: usize, limit: u32, kids: &[u32], r: usize) -> usize
-    requires { ⌜ (from ≤ to) × ((to ≤ length (records (now w))) × (r ≤ length (records (now kids)))) ⌝ }
+pub fn staying(
+    w: &[u32],
+    from: usize,
+    to: usize,
+    limit: u32,
+    base: u32,
+    kids: &[u32],
+    r: usize,
+) -> usize
+    requires { ⌜ (from ≤ to) × ((to ≤ length (records (now w))) × ((r ≤ length (records (now kids))) × AllHold base (take r (records (now kids))))) ⌝ }
     ensures { λ k. ⌜ k ≡ length (keep (isStaying limit (take r (records (now (kids .entry))))) (slice from to (records (now (w .entry))))) ⌝ }
 {
     let mut count = 0;
     let mut i = from;
     while i < to {
-        if stays(load(w, i), limit, kids, r) {
+        if stays(load(w, i), limit, base, kids, r) {
             count += 1;
         }
         i += 1;
@@ -125,10 +86,11 @@ pub fn sift(
     to: usize,
     at: usize,
     limit: u32,
+    base: u32,
     kids: &[u32],
     r: usize,
 ) -> usize
-    requires { ⌜ (at ≤ from) × ((from ≤ to) × ((to ≤ length (records (now w))) × (r ≤ length (records (now kids))))) ⌝ }
+    requires { ⌜ (at ≤ from) × ((from ≤ to) × ((to ≤ length (records (now w))) × ((r ≤ length (records (now kids))) × AllHold base (take r (records (now kids)))))) ⌝ }
     ensures { λ e. ⌜ Sifted (isStaying limit (take r (records (now (kids .entry))))) (records (now (w .entry))) from to at (records (now (w .exit))) e ⌝ }
 {
     let mut next = at;
@@ -136,7 +98,7 @@ pub fn sift(
     while i < to {
         let x = load(w, i);
         i += 1;
-        if stays(x, limit, kids, r) {
+        if stays(x, limit, base, kids, r) {
             store(w, next, x);
             next += 1;
         }
@@ -158,26 +120,4 @@ pub fn slide(w: &mut [u32], from: usize, to: usize, at: usize) -> usize
         i += 1;
     }
     next
-}
-
-// Writes the first r kids to the front of a part of the pool.
-fn write(part: &mut [u32], kids: &[u32], r: usize)
-    requires { ⌜ (r ≤ length (records (now part))) × (r ≤ length (records (now kids))) ⌝ }
-    ensures { λ u. ⌜ records (now (part .exit)) ≡ take r (records (now (kids .entry))) ++ drop r (records (now (part .entry))) ⌝ }
-{
-    let mut k = 0;
-    while k < r {
-        let x = load(kids, k);
-        store(part, k, x);
-        k += 1;
-    }
-}
-
-// Writes the first r kids behind the first `at` records: the part of the pool that starts there is lent on.
-pub fn write_at(w: &mut [u32], at: usize, kids: &[u32], r: usize)
-    requires { ⌜ (at + r ≤ length (records (now w))) × (r ≤ length (records (now kids))) ⌝ }
-    ensures { λ u. ⌜ records (now (w .exit)) ≡ take at (records (now (w .entry))) ++ (take r (records (now (kids .entry))) ++ drop (at + r) (records (now (w .entry)))) ⌝ }
-{
-    let from = 6 * at;
-    write(&mut w[from..], kids, r);
 }

@@ -47,7 +47,7 @@ others : (recs : List Record) (a i : ℕ) → i < a → dropAt i (take a recs) �
 unfolding dropAt
 others recs a i inside = let h : i ≤ a = omega arith in rw (add-one, take-take i a recs h)
 
-module _ (recs : List Record) (a i limit : ℕ) (kids : List Record) (taking : ℕ) (active : Active recs a i kids taking) where
+module _ (recs : List Record) (a i limit : ℕ) (kids : List Record) (taking : ℕ) {base : ℕ} (active : Active recs a i base kids taking) where
   abbrev kept : List Record
   kept = stayingOf recs a i limit kids taking
 

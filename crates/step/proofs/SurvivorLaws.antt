@@ -12,14 +12,15 @@ use borrow.Author.Tests.{eq-eqb, ne-eqb}
 use lib.Dec.{leb}
 use lib.ListN.{length, take, drop, length-take}
 use lib.Seq.{slice, take-take, drop-drop, length-take-le}
-use Rattle.lists.specs.Lists.{keep, any}
-use Rattle.lists.proofs.Keep.{keep-all, keep-keep, any-append}
-use Rattle.lists.proofs.Numbers.{keep-parts}
+use Rattle.lists.specs.Lists.{In, keep}
+use Rattle.lists.proofs.Keep.{keep-all, keep-keep}
+use Rattle.lists.proofs.Members.{in-keep}
 use Rattle.search.specs.Step.{on}
 use Rattle.stops.specs.Record.{recDominates}
 use Rattle.stops.specs.Stops.{aboveEveryCost}
 use Rattle.stops.specs.declared.node.Node.{Node as Record}
-use Rattle.pool.specs.Passes.{Sifted, isWithin, isFree, dropAt}
+use Rattle.pool.specs.Passes.{Sifted, isWithin, isFree, dropAt, AllHold}
+use Rattle.pool.proofs.SiftLaws.{sifted-all, sifted-fewer, sifted-twice, free-append}
 use Rattle.step.specs.OnRecords.{passing, survivorsOf}
 
 -- the test of a rule's pass: all pass if the rule is off
@@ -35,42 +36,7 @@ module _ (rule rules : ℕ) where
   pub sifted-off :
       (test : Record → Bool) {l : List Record} {m : ℕ} → (rules / rule % 2 ≡ 1 → ⊥) → m ≤ length l
       → Sifted (ruled (on rule rules) test) l 0 m 0 l m
-  sifted-off test {l} {m} e inside =
-      let kept : keep (λ x. true) (take m l) ≡ take m l = keep-all (λ x. true) (take m l) (λ x i. tt) in
-      rw (ne-eqb (rules / rule % 2) 1 e)
-      (record { same-length = refl; front = sym kept; count = rw kept (omega (arith, length-take-le m l inside)); behind = refl })
-
-pub sifted-fewer : {test : Record → Bool} {l l′ : List Record} {m r : ℕ} → Sifted test l 0 m 0 l′ r → r ≤ m
-sifted-fewer {test} {l} {m = m} sifted = omega (arith, sifted .count, keep-parts test (take m l), length-take m l)
-
-drop-past : (e m : ℕ) (xs ys : List Record) → e ≤ m → drop e xs ≡ drop e ys → drop m xs ≡ drop m ys
-drop-past e m xs ys h same =
-    let past : e + (m - e) ≡ m = omega arith in
-    rw (← past, ← drop-drop (m - e) e xs, same, drop-drop)
-
-sifted-twice :
-    {f g : Record → Bool} {l l′ l″ : List Record} {m e r : ℕ} → Sifted f l 0 m 0 l′ e → Sifted g l′ 0 e 0 l″ r
-    → Sifted (λ x. f x && g x) l 0 m 0 l″ r
-sifted-twice {f} {g} {l} {l′} {l″} {m} {e} first second =
-    let kept : keep g (take e l′) ≡ keep (λ x. f x && g x) (take m l) = ap (keep g) (first .front) ∙ keep-keep g f (take m l) in
-    record {
-      same-length = second .same-length ∙ first .same-length;
-      front = second .front ∙ kept;
-      count = rw (← kept) (second .count);
-      behind = drop-past e m l″ l′ (sifted-fewer first) (second .behind) ∙ first .behind;
-    }
-
--- a record is free of two joined lists if it is free of each
-free-append : (limit : ℕ) (ys zs : List Record) (x : Record) → (isFree limit ys x && isFree limit zs x) ≡ isFree limit (ys ++ zs) x
-unfolding isFree
-free-append limit ys zs x = rw any-append (neither (any rival ys) (any rival zs))
-  where
-    rival : Record → Bool
-    rival y = leb (y .bound) limit && recDominates y x
-
-    neither : (a b : Bool) → (not a && not b) ≡ not (a || b)
-    neither true b = refl
-    neither false b = refl
+  sifted-off test {l} {m} e inside = rw (ne-eqb (rules / rule % 2) 1 e) (sifted-all (λ x. true) l m (λ x. tt) inside)
 
 module _ (limit : ℕ) (recs : List Record) (a i : ℕ) (inside : i < a) where
   free-around :
@@ -111,3 +77,8 @@ module _ (rules limit : ℕ) (rest far : List Record) where
   survivors-sifted {l} {m = m} first second third =
       let sifted = sifted-twice first (sifted-twice second third) in
       rw (survivors-kept (take m l)) (sifted .front, (sifted-fewer sifted, omega (arith, sifted .count)))
+
+  -- what holds a set holds it still
+  pub survivors-hold : (base : ℕ) (xs : List Record) → AllHold base xs → AllHold base (survivorsOf rules limit rest far xs)
+  survivors-hold base xs all x i =
+      all x (in-keep survives xs x (subst (λ (ys : List Record). In x ys) (survivors-kept xs) i) .0)

@@ -9,11 +9,11 @@ ghost use Rattle.search.specs.Step.{on};
 ghost use Rattle.pool.specs.View.{records};
 ghost use Rattle.pool.specs.Passes.{dropAt};
 ghost use Rattle.step.specs.OnRecords.{Active, stayingOf, heldWith};
+use pool::part::take_out;
+use pool::part::write_at;
 use pool::record::store;
 use pool::sift::sift;
-use pool::sift::slide;
 use pool::sift::staying;
-use pool::sift::write_at;
 use stops::node::Node;
 
 // How many children take part in rule 8.
@@ -45,12 +45,20 @@ pub fn all_stay(rules: u32, known: u32, upper: u32, taking: usize) -> bool
 }
 
 // How many of the first a records but that at i stay active.
-fn remaining(w: &[u32], a: usize, i: usize, limit: u32, kids: &[u32], taking: usize) -> usize
-    requires { ⌜ Active (records (now w)) a i (records (now kids)) taking ⌝ }
+fn remaining(
+    w: &[u32],
+    a: usize,
+    i: usize,
+    limit: u32,
+    base: u32,
+    kids: &[u32],
+    taking: usize,
+) -> usize
+    requires { ⌜ Active (records (now w)) a i base (records (now kids)) taking ⌝ }
     ensures { λ r. ⌜ r ≡ length (stayingOf (records (now (w .entry))) a i limit (records (now (kids .entry))) taking) ⌝ }
 {
-    let before = staying(w, 0, i, limit, kids, taking);
-    let behind = staying(w, i + 1, a, limit, kids, taking);
+    let before = staying(w, 0, i, limit, base, kids, taking);
+    let behind = staying(w, i + 1, a, limit, base, kids, taking);
     before + behind
 }
 
@@ -61,13 +69,14 @@ pub fn fits(
     a: usize,
     i: usize,
     limit: u32,
+    base: u32,
     kids: &[u32],
     left: usize,
     taking: usize,
     held: usize,
     all: bool,
 ) -> bool
-    requires { ⌜ Active (records (now w)) a i (records (now kids)) taking × ((T all → length (stayingOf (records (now w)) a i limit (records (now kids)) taking) ≡ a - 1) × ((left ≤ 16) × (held ≤ a + length (records (now w))))) ⌝ }
+    requires { ⌜ Active (records (now w)) a i base (records (now kids)) taking × ((T all → length (stayingOf (records (now w)) a i limit (records (now kids)) taking) ≡ a - 1) × ((left ≤ 16) × (held ≤ a + length (records (now w))))) ⌝ }
     ensures { λ r. ⌜ r ≡ leb (length (stayingOf (records (now (w .entry))) a i limit (records (now (kids .entry))) taking) + left + held) count ⌝ }
 {
     let most = a - 1 + left + held;
@@ -77,7 +86,7 @@ pub fn fits(
     if all {
         return false;
     }
-    let stay = remaining(w, a, i, limit, kids, taking);
+    let stay = remaining(w, a, i, limit, base, kids, taking);
     stay + left + held <= count
 }
 
@@ -87,40 +96,42 @@ fn sifted(
     a: usize,
     i: usize,
     limit: u32,
+    base: u32,
     kids: &[u32],
     left: usize,
     taking: usize,
 ) -> usize
-    requires { ⌜ Active (records (now w)) a i (records (now kids)) taking × ((left ≤ length (records (now kids))) × (length (stayingOf (records (now w)) a i limit (records (now kids)) taking) + left ≤ length (records (now w)))) ⌝ }
+    requires { ⌜ Active (records (now w)) a i base (records (now kids)) taking × ((left ≤ length (records (now kids))) × (length (stayingOf (records (now w)) a i limit (records (now kids)) taking) + left ≤ length (records (now w)))) ⌝ }
     ensures { λ r. ⌜ (take r (records (now (w .exit))) ≡ stayingOf (records (now (w .entry))) a i limit (records (now (kids .entry))) taking ++ take left (records (now (kids .entry)))) × ((r ≡ length (stayingOf (records (now (w .entry))) a i limit (records (now (kids .entry))) taking) + left) × ((j : ℕ) → a ≤ j → r ≤ j → drop j (records (now (w .exit))) ≡ drop j (records (now (w .entry))))) ⌝ }
 {
-    let before = sift(w, 0, i, 0, limit, kids, taking);
-    let end = sift(w, i + 1, a, before, limit, kids, taking);
+    let before = sift(w, 0, i, 0, limit, base, kids, taking);
+    let end = sift(w, i + 1, a, before, limit, base, kids, taking);
     write_at(w, end, kids, left);
     end + left
 }
 
-// Parts 6 and 7: the active records afterwards stand at the front, and their number is the result. Where all stay but that at i, those
-// behind it move up by one.
+// Parts 6 and 7: the active records afterwards stand at the front, and their number is the result. Where all stay but that at i, it is
+// taken out.
 pub fn replace(
     w: &mut [u32],
     a: usize,
     i: usize,
     limit: u32,
+    base: u32,
     kids: &[u32],
     left: usize,
     taking: usize,
     all: bool,
 ) -> usize
-    requires { ⌜ Active (records (now w)) a i (records (now kids)) taking × ((T all → stayingOf (records (now w)) a i limit (records (now kids)) taking ≡ dropAt i (take a (records (now w)))) × ((left ≤ length (records (now kids))) × (length (stayingOf (records (now w)) a i limit (records (now kids)) taking) + left ≤ length (records (now w))))) ⌝ }
+    requires { ⌜ Active (records (now w)) a i base (records (now kids)) taking × ((T all → stayingOf (records (now w)) a i limit (records (now kids)) taking ≡ dropAt i (take a (records (now w)))) × ((left ≤ length (records (now kids))) × (length (stayingOf (records (now w)) a i limit (records (now kids)) taking) + left ≤ length (records (now w))))) ⌝ }
     ensures { λ r. ⌜ (take r (records (now (w .exit))) ≡ stayingOf (records (now (w .entry))) a i limit (records (now (kids .entry))) taking ++ take left (records (now (kids .entry)))) × ((r ≡ length (stayingOf (records (now (w .entry))) a i limit (records (now (kids .entry))) taking) + left) × ((j : ℕ) → a ≤ j → r ≤ j → drop j (records (now (w .exit))) ≡ drop j (records (now (w .entry))))) ⌝ }
 {
     if all {
-        let end = slide(w, i + 1, a, i);
+        let end = take_out(w, a, i);
         write_at(w, end, kids, left);
         return end + left;
     }
-    sifted(w, a, i, limit, kids, left, taking)
+    sifted(w, a, i, limit, base, kids, left, taking)
 }
 
 // The branched node joins those at the far end, if the pool holds them.

@@ -5,17 +5,20 @@
 --   mask, stopsIn-mask, mask-stopsIn, mask-small    the number of a set of stops, and the way back
 --   mask-others, stopsIn-others   what is missing from the number of all n stops is the number of the other stops
 --   stopsIn-ones                  the digits that are set are as many as the stops
+--   stopsIn-added                 a stop that was lacking, added to a set, leaves the others
 -- Each is shown of `Digits`, by halving the number. Assumes nothing.
 use mathlib.Core.Path.{_≡_, refl, ap, _∙_, sym}
 use mathlib.Core.Bool.{Bool, true, false, not}
 use mathlib.Core.List.{List, [], _∷_, List·Memᴰ·tail, List·Memᴰ·cases-cons, List·Memᴰ·not-nil}
 use mathlib.Core.Logic.{_⊎_, inl, inr, _≢_}
-use Prim.Native.Nat.{ℕ, zero, suc, _+_, _-_, _^_, _/_, _%_, _≤_, _<_}
+use Prim.Native.Nat.{ℕ, zero, suc, _+_, _-_, _^_, _/_, _%_, _≤_, _<_, min}
 use native.Mathlib.Nat.{pow-suc}
 use native.Mathlib.Omega.{arith}
+use lib.Bits.{bitAnd, and-step, and-self}
 use lib.Count.{trailingZeros, ones, ones-step}
 use lib.Dec.{eqb, eqb-refl}
 use lib.ListN.{length}
+use lib.Pow.{pow-pos}
 use Rattle.lists.specs.Lists.{In, put, keep, sum, from, Distinct, none, more}
 use Rattle.lists.proofs.Tests.{compared, to-true, to-false, ne-neqb}
 use Rattle.lists.proofs.Members.{in-head, in-keep, in-from}
@@ -110,6 +113,19 @@ digits-next (is-set {k} {s} {m} {xs} h e d) (suc l) f p =
     let odd : m % 2 ≡ 1 = omega arith in
     (zero, xs, rw odd, omega arith, omega arith, ap (λ (r : ℕ). r ∷ xs) (omega arith), is-clear {m = m - 1} h (omega arith) d)
 
+-- a digit added where m has none leaves those of m as they are: at the lowest place, and one place above where it does so in the half
+added-lowest : (m : ℕ) → m % 2 ≡ 0 → bitAnd (m + 2 ^ 0) m ≡ m
+added-lowest m even =
+    let half : (m + 1) / 2 ≡ m / 2 = omega arith in
+    let low : min ((m + 1) % 2) (m % 2) ≡ 0 = rw even (omega arith) in
+    and-step (m + 1) m ∙ rw (half, low, and-self) (omega arith)
+
+added-half : (m j : ℕ) → bitAnd (m / 2 + 2 ^ j) (m / 2) ≡ m / 2 → bitAnd (m + 2 ^ suc j) m ≡ m
+added-half m j e =
+    let half : (m + 2 ^ suc j) / 2 ≡ m / 2 + 2 ^ j = omega (arith, pow-suc 2 j) in
+    let low : (m + 2 ^ suc j) % 2 ≡ m % 2 = omega (arith, pow-suc 2 j) in
+    and-step (m + 2 ^ suc j) m ∙ rw (half, low, e) (omega arith)
+
 -- taking the digit j places up off takes its stop, r, out
 digits-without :
     {k s m : ℕ} {xs : List ℕ} → Digits k s m xs → (j r : ℕ) → r ≡ s + j → In r xs → (2 ^ j ≤ m) × Digits k s (m - 2 ^ j) (without r xs)
@@ -131,6 +147,21 @@ digits-without (is-set {s = s} {m} {xs} h e d) (suc j) r q i =
     )
   where
     go : (r ≡ s) ⊎ In r xs → In r xs
+    go (inl p) = absurd (omega arith)
+    go (inr p) = p
+
+-- m is what r lacks of all the first n digits: a digit of r that is set, added to m, leaves those of m as they are
+digits-added :
+    {k s r : ℕ} {xs : List ℕ} → Digits k s r xs → (n m : ℕ) → m + r + 1 ≡ 2 ^ n → (j t : ℕ) → t ≡ s + j → In t xs → bitAnd (m + 2 ^ j) m ≡ m
+digits-added d zero m e j t q i = absurd (omega (arith, digits-without d j t q i .0, pow-pos j))
+digits-added (no-digit z) (suc n) m e j t q i = absurd (List·Memᴰ·not-nil i)
+digits-added (is-clear h z d) (suc n) m e zero t q i = absurd (omega (arith, digits-range d t i))
+digits-added (is-clear h z d) (suc n) m e (suc j) t q i = added-half m j (digits-added d n (m / 2) (omega (arith, pow-suc 2 n)) j t (omega arith) i)
+digits-added (is-set h z d) (suc n) m e zero t q i = added-lowest m (omega (arith, pow-suc 2 n))
+digits-added (is-set {s = s} {xs = xs} h z d) (suc n) m e (suc j) t q i =
+    added-half m j (digits-added d n (m / 2) (omega (arith, pow-suc 2 n)) j t (omega arith) (go (List·Memᴰ·cases-cons i)))
+  where
+    go : (t ≡ s) ⊎ In t xs → In t xs
     go (inl p) = absurd (omega arith)
     go (inr p) = p
 
@@ -245,6 +276,10 @@ module _ (m : ℕ) (small : m < 2 ^ 16) where
       let h : (1 ≤ s) × (s ≤ 16) = stopsIn-range s i in
       let (b, n) = digits-without stops-digits (s - 1) s (omega arith) i in
       (b, digits-bits n)
+
+-- a stop that a set of the first n lacks, added to it, leaves its stops as they are
+pub stopsIn-added : (n m r s : ℕ) → m + r + 1 ≡ 2 ^ n → r < 2 ^ 16 → In s (stopsIn r) → bitAnd (m + 2 ^ (s - 1)) m ≡ m
+stopsIn-added n m r s all small i = digits-added (stops-digits r small) n m all (s - 1) s (omega (arith, stopsIn-range r small s i)) i
 
 -- the number of a set of stops
 abbrev pub mask : List ℕ → ℕ

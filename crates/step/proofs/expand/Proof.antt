@@ -6,6 +6,7 @@ use borrow.Author.Needs.{needs}
 use lib.ListN.{length}
 use Rattle.pool.specs.View.{records}
 use Rattle.pool.proofs.ViewLaws.{length-records}
+use Rattle.step.proofs.FamilyLaws.{children-hold}
 use Rattle.step.proofs.ExpandLaws.{same-records, family-few, expansion-made}
 use Rattle.step.proofs.expand.Statement.{statement}
 use Rattle.step.proofs.expand.Tie as tie
@@ -37,12 +38,15 @@ survivors-requires c κs =
     let kids = made .family .last .1 .1 .1 .1 .0 in
     let ready = start .pre .0 in
     let whole : length (records (start .args .w .now)) ≡ length (start .args .w .now) / 6 = length-records (start .args .w .now) in (
-      omega (
-        arith,
-        family-few (ready .rows) (ready .encoded),
-        made .family .ensures .1,
-        start .pre .1,
-        same-records (start .args .kids .now) kids (made .family .kept .1 .1 .1 .1 .0),
+      (
+        omega (
+          arith,
+          family-few (ready .rows) (ready .encoded),
+          made .family .ensures .1,
+          start .pre .1,
+          same-records (start .args .kids .now) kids (made .family .kept .1 .1 .1 .1 .0),
+        ),
+        rw (made .family .ensures .0) (children-hold (ready .rows) (ready .encoded)),
       ),
       (sym whole, (ready .inside, (omega (arith, ready .fits, whole), omega (arith, ready .fits, whole)))),
     )

@@ -2,7 +2,7 @@
 -- active and what is shown afterwards (`StepShown`, `StepAfter`). Assumes nothing.
 use mathlib.Core.Path.{_≡_, refl, sym, _∙_, ap, subst}
 use mathlib.Core.Bool.{Bool, true, false, cond}
-use mathlib.Core.List.{List}
+use mathlib.Core.List.{List, List·Memᴰ·not-nil}
 use Prim.Native.Nat.{ℕ, suc, _+_, _-_, _/_, _^_, _≤_, _<_, min}
 use native.Mathlib.Omega.{arith}
 use borrow.Author.Needs.{needs}
@@ -13,12 +13,14 @@ use lib.Seq.{length-take-le}
 use Rattle.lists.proofs.Tests.{tests}
 use Rattle.search.specs.Step.{on}
 use Rattle.pool.specs.View.{records}
-use Rattle.pool.specs.Passes.{dropAt}
+use Rattle.pool.specs.Passes.{dropAt, AllHold}
 use Rattle.pool.proofs.ViewLaws.{length-records, records-small}
 use Rattle.stops.specs.declared.node.Node.{Node as Record}
 use Rattle.step.specs.OnRecords.{Active, stayingOf, heldWith, Shown, stepOf}
 use Rattle.step.specs.declared.Run.{Run}
 use Rattle.step.specs.declared.Expanded.{Expanded}
+use Rattle.step.proofs.FamilyLaws.{children-hold}
+use Rattle.step.proofs.SurvivorLaws.{survivors-hold}
 use Rattle.step.proofs.ExpandLaws.{same-records}
 use Rattle.step.proofs.StepLaws.{Bounded}
 use Rattle.step.proofs.StepShown.{Stage, stage-all, stage-kept}
@@ -80,15 +82,34 @@ others-number d =
     length-take-le (run d .active) (records (words d)) (omega (arith, r .fits)) in
     dropped-length (start d .args .i) (take (run d .active) (records (words d))) (omega (arith, r .inside)) ∙ ap (λ (j : ℕ). j - 1) all
 
-active : (d : tie.After-all-stay) → Active (records (words d)) (run d .active) (start d .args .i) (kids d) (taking d)
+-- the survivors hold b's set
+kids-near : (d : tie.After-all-stay) → AllHold (start d .args .b .set) (take (given d .left) (kids d))
+kids-near d =
+    let ready = start d .pre in
+    rw (staged d .expansion .survivors) (survivors-hold _ _ _ _ _ _ (children-hold (ready .rows) (ready .encoded)))
+
+-- those of some kids that take part in rule 8: all, or none
+taking-near :
+    (base : ℕ) (kids : List Record) (left taking : ℕ) (rule : Bool) → taking ≡ cond rule left 0 → AllHold base (take left kids)
+    → AllHold base (take taking kids)
+taking-near base kids left taking true q all = rw q all
+taking-near base kids left taking false q all = rw q (λ x i. absurd (List·Memᴰ·not-nil i))
+
+taking-few : (left taking most : ℕ) (rule : Bool) → taking ≡ cond rule left 0 → left ≤ most → taking ≤ most
+taking-few left taking most true q h = omega arith
+taking-few left taking most false q h = omega arith
+
+active : (d : tie.After-all-stay) → Active (records (words d)) (run d .active) (start d .args .i) (start d .args .b .set) (kids d) (taking d)
 active d =
     let r = start d .pre in
-    let e = staged d in
-    record { inside = r .inside; whole = omega (arith, r .fits); kids-few = go (on 8 (start d .args .rules)) (e .take-part) }
-  where
-    go : (rule : Bool) → taking d ≡ cond rule (given d .left) 0 → taking d ≤ length (kids d)
-    go true q = let e = staged d .expansion in omega (arith, e .fewer, e .few, e .room)
-    go false q = omega arith
+    let e = staged d .expansion in
+    let part = staged d .take-part in
+    record {
+      inside = r .inside;
+      whole = omega (arith, r .fits);
+      kids-few = taking-few (given d .left) (taking d) (length (kids d)) (on 8 (start d .args .rules)) part (omega (arith, e .fewer, e .few, e .room));
+      kids-hold = taking-near (start d .args .b .set) (kids d) (given d .left) (taking d) (on 8 (start d .args .rules)) part (kids-near d);
+    }
 
 held-few : (d : tie.After-all-stay) → now-held d ≤ run d .held + 1
 held-few d = go (on 4 (start d .args .rules)) (staged d .holds)

@@ -6,20 +6,20 @@ use Rattle.pool.proofs.ChooseLaws.{chosen-first}
 use Rattle.pool.proofs.choose.choose.Statement.{statement}
 use Rattle.pool.proofs.choose.choose.Tie as tie
 
-least-earliest-requires : tie.Need-least-earliest-requires
-least-earliest-requires c κs = search needs
+least-bound-requires : tie.Need-least-bound-requires
+least-bound-requires c κs = search needs
 
-least-latest-requires : tie.Need-least-latest-requires
-least-latest-requires c κs = search needs
+least-bound-requires-2 : tie.Need-least-bound-requires-2
+least-bound-requires-2 c κs = search needs
 
 latest-open-requires : tie.Need-latest-open-requires
 latest-open-requires c κs = search needs
 
 returns : tie.Need-returns
-returns c = rw (c .before .match .keys1) (c .least-earliest .ensures (c .before .before .before .args .n))
+returns c = rw (c .before .match .keys1) (c .least-bound .ensures (c .before .before .before .args .n))
 
 returns-2 : tie.Need-returns-2
-returns-2 c = rw (c .before .match .keys2) (c .least-latest .ensures (c .before .before .before .args .n))
+returns-2 c = rw (c .before .match .keys2) (c .least-bound2 .ensures (c .before .before .before .args .n))
 
 returns-3 : tie.Need-returns-3
 returns-3 c =
@@ -36,8 +36,8 @@ pub choose-spec : {M : Type 1} → statement M
 choose-spec =
     tie.close
     (tie.spec
-    least-earliest-requires
-    least-latest-requires
+    least-bound-requires
+    least-bound-requires-2
     latest-open-requires
     returns
     returns-2

@@ -11,12 +11,12 @@ use Rattle.pool.proofs.sift.sift.Statement.{statement}
 use Rattle.pool.proofs.sift.sift.Tie as tie
 
 abbrev Inv-loop : tie.InvT-loop
-Inv-loop w₀ from to at limit kids r next₀ i₀ w next i =
+Inv-loop w₀ from to at limit base kids r next₀ i₀ w next i =
     ((from ≤ i) × ((i ≤ to) × (next ≤ i)))
     × ((length w ≡ length w₀) × Sifted (isStaying limit (take r (records kids))) (records w₀) from i at (records w) next)
 
 abbrev μ-loop : tie.MeasureT-loop
-μ-loop w₀ from to at limit kids r next₀ i₀ w next i = to - i
+μ-loop w₀ from to at limit base kids r next₀ i₀ w next i = to - i
 
 loop-holds : tie.Need-loop-holds Inv-loop μ-loop
 loop-holds c = (omega arith, (refl, sifted-none _ _ _ _))
@@ -28,7 +28,7 @@ add-i : tie.Need-add-i Inv-loop μ-loop
 add-i c = omega arith
 
 stays-requires : tie.Need-stays-requires Inv-loop μ-loop
-stays-requires c κs = omega arith
+stays-requires c κs = c .before .before .before .before .before .before .pre .1 .1 .1
 
 store-requires : tie.Need-store-requires Inv-loop μ-loop
 store-requires c κs = omega arith

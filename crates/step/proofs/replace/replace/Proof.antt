@@ -1,4 +1,4 @@
--- `replace` meets its contract: where all stay, one slide gathers them; else `sifted` does it all. Assumes nothing.
+-- `replace` meets its contract: where all stay, taking b out gathers them; else `sifted` does it all. Assumes nothing.
 use native.Mathlib.Omega.{arith}
 use lib.Dec.{T}
 use borrow.Author.Needs.{needs}
@@ -10,20 +10,17 @@ use Rattle.step.proofs.replace.replace.Statement.{statement}
 use Rattle.step.proofs.replace.replace.Tie as tie
 
 gathered :
-    (c : tie.After-slide)
+    (c : tie.After-take-out)
     → (let a = c .before .before .before .before .before .args in
     Gathered (stayingOf (records (a .w .now)) (a .a) (a .i) (a .limit) (records (a .kids .now)) (a .taking)) (records (a .w .now)) (a .a)
-    (records (c .slide .last .0)) (c .slide .result))
+    (records (c .take-out .last .0)) (c .take-out .result))
 gathered c =
     let start = c .before .before .before .before .before in
     let all : T (start .args .all) = rw (c .before .before .if1 .taken) tt in
-    slide-gathers _ _ _ _ _ _ (start .pre .0) _ _ (start .pre .1 .0 all) (c .slide .ensures)
+    slide-gathers _ _ _ _ _ _ (start .pre .0) _ _ (start .pre .1 .0 all) (c .take-out .ensures)
 
-add-slide : tie.Need-add-slide
-add-slide c = omega arith
-
-slide-requires : tie.Need-slide-requires
-slide-requires c κs = omega arith
+take-out-requires : tie.Need-take-out-requires
+take-out-requires c κs = omega arith
 
 write-at-requires : tie.Need-write-at-requires
 write-at-requires c κs =
@@ -57,8 +54,7 @@ pub replace-spec : {M : Type 1} → statement M
 replace-spec =
     tie.close
     (tie.spec
-    add-slide
-    slide-requires
+    take-out-requires
     write-at-requires
     add-result
     same-length

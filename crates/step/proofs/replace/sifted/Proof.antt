@@ -21,7 +21,7 @@ gathered c =
     sifts-gather _ _ _ _ _ _ (s .before .before .before .before .pre .0) _ _ _ _ (s .sift .ensures) (c .sift2 .ensures)
 
 sift-requires : tie.Need-sift-requires
-sift-requires c κs = omega arith
+sift-requires c κs = (omega arith, (omega arith, (omega arith, (omega arith, c .before .before .before .pre .0 .kids-hold))))
 
 add-sift : tie.Need-add-sift
 add-sift c = omega arith
@@ -29,9 +29,12 @@ add-sift c = omega arith
 sift-requires-2 : tie.Need-sift-requires-2
 sift-requires-2 c κs =
     let s = c .before .before .before in
-    let a = s .before .before .before .before .args in
+    let start = s .before .before .before .before in
+    let a = start .args in
     let stays = isStaying (a .limit) (take (a .taking) (records (a .kids .now))) in
-    omega (arith, s .sift .ensures, count-within stays 0 (a .i) (records (a .w .now)) (omega arith))
+    let few = count-within stays 0 (a .i) (records (a .w .now)) (omega arith) in
+    let sifted = s .sift .ensures in
+    (omega (arith, sifted .count, few), (omega arith, (omega (arith, sifted .same-length), (omega arith, start .pre .0 .kids-hold))))
 
 write-at-requires : tie.Need-write-at-requires
 write-at-requires c κs =

@@ -4,20 +4,23 @@ use lib.ListN.{take}
 use borrow.Author.Needs.{needs}
 use Rattle.pool.specs.View.{records}
 use Rattle.pool.specs.Passes.{isFree, dropAt}
-use Rattle.step.proofs.SurvivorLaws.{sifted-on, sifted-off, sifted-fewer, sifted-around}
+use Rattle.pool.proofs.SiftLaws.{sifted-fewer}
+use Rattle.pool.proofs.RivalLaws.{sifted-hold}
+use Rattle.step.proofs.SurvivorLaws.{sifted-on, sifted-off, sifted-around}
 use Rattle.step.proofs.survivors.by_rule_2.Statement.{statement}
 use Rattle.step.proofs.survivors.by_rule_2.Tie as tie
 
-undominated-requires : tie.Need-undominated-requires
-undominated-requires c κs = search needs
+unrivalled-requires : tie.Need-unrivalled-requires
+unrivalled-requires c κs = search needs
 
-add-undominated : tie.Need-add-undominated
-add-undominated c = search needs
+add-unrivalled : tie.Need-add-unrivalled
+add-unrivalled c = search needs
 
-undominated-requires-2 : tie.Need-undominated-requires-2
-undominated-requires-2 c κs =
-    let before = c .before .before .before .undominated .ensures in
-    omega (arith, sifted-fewer before, before .same-length)
+unrivalled-requires-2 : tie.Need-unrivalled-requires-2
+unrivalled-requires-2 c κs =
+    let before = c .before .before .before .unrivalled .ensures in
+    let start = c .before .before .before .before .before .before .before .before in
+    ((omega (arith, sifted-fewer before, before .same-length), sifted-hold (start .args .base) before (start .pre .0 .1)), omega arith)
 
 same-length : tie.Need-same-length
 same-length c = search needs
@@ -25,8 +28,8 @@ same-length c = search needs
 returns : tie.Need-returns
 returns c =
     let args = c .before .before .before .before .before .before .before .before .before .before .before .args in
-    let before = c .before .before .before .before .before .before .undominated .ensures in
-    let behind = c .before .before .undominated2 .ensures in
+    let before = c .before .before .before .before .before .before .unrivalled .ensures in
+    let behind = c .before .before .unrivalled2 .ensures in
     sifted-on
     2
     (args .rules)
@@ -47,9 +50,9 @@ pub by-rule-2-spec : {M : Type 1} → statement M
 by-rule-2-spec =
     tie.close
     (tie.spec
-    undominated-requires
-    add-undominated
-    undominated-requires-2
+    unrivalled-requires
+    add-unrivalled
+    unrivalled-requires-2
     same-length
     returns
     returns-2)

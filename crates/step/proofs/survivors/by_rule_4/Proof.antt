@@ -11,11 +11,11 @@ use Rattle.step.proofs.SurvivorLaws.{sifted-on, sifted-off}
 use Rattle.step.proofs.survivors.by_rule_4.Statement.{statement}
 use Rattle.step.proofs.survivors.by_rule_4.Tie as tie
 
-sub-undominated : tie.Need-sub-undominated
-sub-undominated c = search needs
+sub-unrivalled : tie.Need-sub-unrivalled
+sub-unrivalled c = search needs
 
-undominated-requires : tie.Need-undominated-requires
-undominated-requires c κs = search needs
+unrivalled-requires : tie.Need-unrivalled-requires
+unrivalled-requires c κs = search needs
 
 same-length : tie.Need-same-length
 same-length c = search needs
@@ -24,7 +24,7 @@ returns : tie.Need-returns
 returns c =
     let args = c .before .before .before .before .before .before .before .args in
     let whole = take-all (args .count) (records (args .w .now)) (omega arith) in
-    sifted-on 4 (args .rules) (omega arith) (rw whole at (c .before .before .undominated .ensures))
+    sifted-on 4 (args .rules) (omega arith) (rw whole at (c .before .before .unrivalled .ensures))
 
 returns-2 : tie.Need-returns-2
 returns-2 c =
@@ -38,4 +38,4 @@ returns-2 c =
 
 pub by-rule-4-spec : {M : Type 1} → statement M
 by-rule-4-spec =
-    tie.close (tie.spec sub-undominated undominated-requires same-length returns returns-2)
+    tie.close (tie.spec sub-unrivalled unrivalled-requires same-length returns returns-2)

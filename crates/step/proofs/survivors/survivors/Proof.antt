@@ -5,7 +5,9 @@ use lib.ListN.{take, drop}
 use borrow.Author.Needs.{needs}
 use Rattle.pool.specs.View.{records}
 use Rattle.pool.specs.Passes.{dropAt}
-use Rattle.step.proofs.SurvivorLaws.{sifted-fewer, survivors-sifted}
+use Rattle.pool.proofs.SiftLaws.{sifted-fewer}
+use Rattle.pool.proofs.RivalLaws.{sifted-hold}
+use Rattle.step.proofs.SurvivorLaws.{survivors-sifted}
 use Rattle.step.proofs.survivors.survivors.Statement.{statement}
 use Rattle.step.proofs.survivors.survivors.Tie as tie
 
@@ -15,13 +17,23 @@ by-rule-1-requires c κs = search needs
 by-rule-2-requires : tie.Need-by-rule-2-requires
 by-rule-2-requires c κs =
     let first = c .before .before .before .by-rule-1 .ensures in
-    omega (arith, sifted-fewer first, first .same-length)
+    let start = c .before .before .before .before .before .before .before in (
+      (omega (arith, sifted-fewer first, first .same-length), sifted-hold (start .args .base) first (start .pre .0 .1)),
+      omega arith,
+    )
 
 by-rule-4-requires : tie.Need-by-rule-4-requires
 by-rule-4-requires c κs =
     let first = c .before .before .before .before .before .before .before .by-rule-1 .ensures in
     let second = c .before .before .before .by-rule-2 .ensures in
-    omega (arith, sifted-fewer first, first .same-length, sifted-fewer second, second .same-length)
+    let start = c .before .before .before .before .before .before .before .before .before .before .before in
+    let base = start .args .base in (
+      (
+        omega (arith, sifted-fewer first, first .same-length, sifted-fewer second, second .same-length),
+        sifted-hold base second (sifted-hold base first (start .pre .0 .1)),
+      ),
+      omega arith,
+    )
 
 same-length : tie.Need-same-length
 same-length c = search needs

@@ -5,10 +5,11 @@ use native.Mathlib.Nat.{zero-add}
 use native.Mathlib.Omega.{arith}
 use lib.ListN.{length}
 use lib.Seq.{paste, length-paste}
+use Rattle.stops.specs.Record.{emptyRecord}
 use Rattle.pool.specs.View.{records}
 use Rattle.pool.proofs.StayLaws.{write-more}
-use Rattle.pool.proofs.sift.write.Statement.{statement}
-use Rattle.pool.proofs.sift.write.Tie as tie
+use Rattle.pool.proofs.part.write.Statement.{statement}
+use Rattle.pool.proofs.part.write.Tie as tie
 
 abbrev Inv-loop : tie.InvT-loop
 Inv-loop part₀ kids r k₀ part k = (k ≤ r) × ((length part ≡ length part₀) × (records part ≡ paste (records part₀) 0 (records kids) k))
@@ -38,7 +39,7 @@ loop-again : tie.Need-loop-again Inv-loop μ-loop
 loop-again c =
     let a = c .before .before .before .before .before .before .before .before .before .args in
     let s = c .before .before .before .before .before .before .loop in
-    (omega arith, (cc, cc (write-more (records (a .part .now)) (records (a .kids .now)) (s .k) (omega arith) (omega arith))))
+    (omega arith, (cc, cc (write-more emptyRecord (records (a .part .now)) (records (a .kids .now)) (s .k) (omega arith) (omega arith))))
 
 same-length : tie.Need-same-length Inv-loop μ-loop
 same-length c = c .before .loop .inv .1 .0

@@ -5,8 +5,8 @@ use native.Mathlib.Omega.{arith}
 use lib.ListN.{length}
 use borrow.Author.Needs.{needs}
 use Rattle.pool.proofs.ViewLaws.{words-inside, records-at}
-use Rattle.pool.proofs.sift.rival.Statement.{statement}
-use Rattle.pool.proofs.sift.rival.Tie as tie
+use Rattle.pool.proofs.rivals.rival.Statement.{statement}
+use Rattle.pool.proofs.rivals.rival.Tie as tie
 
 inside : (c : tie.Start) → 6 * (c .args .i) + 5 < length (c .args .w .now)
 inside c = words-inside _ _ (c .pre)

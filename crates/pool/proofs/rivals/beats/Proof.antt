@@ -1,20 +1,12 @@
 -- `beats` meets its contract: records of other sets do not dominate, and else `dominates` decides. Assumes nothing.
-use mathlib.Core.Path.{_≡_}
-use mathlib.Core.Bool.{false, and-false}
 use Prim.Native.Nat.{_+_, _*_, _<_}
 use native.Mathlib.Omega.{arith}
 use lib.ListN.{length}
 use borrow.Author.Needs.{needs}
-use borrow.Author.Tests.{ne-eqb}
-use Rattle.stops.specs.Record.{recDominates}
-use Rattle.stops.specs.declared.node.Node.{Node as Record}
 use Rattle.pool.proofs.ViewLaws.{words-inside, records-at}
-use Rattle.pool.proofs.sift.beats.Statement.{statement}
-use Rattle.pool.proofs.sift.beats.Tie as tie
-
-sets-apart : (y z : Record) → (y .set ≡ z .set → ⊥) → false ≡ recDominates y z
-unfolding recDominates
-sets-apart y z h = simp (ne-eqb (y .set) (z .set) h, and-false)
+use Rattle.pool.proofs.RivalLaws.{sets-apart}
+use Rattle.pool.proofs.rivals.beats.Statement.{statement}
+use Rattle.pool.proofs.rivals.beats.Tie as tie
 
 inside : (c : tie.Start) → 6 * (c .args .i) + 5 < length (c .args .w .now)
 inside c = words-inside _ _ (c .pre)

@@ -6,8 +6,8 @@ use Rattle.pool.specs.View.{records}
 use Rattle.pool.proofs.ViewLaws.{length-records}
 use Rattle.pool.proofs.StayLaws.{lent-records, lent-back}
 use borrow.Author.Needs.{needs}
-use Rattle.pool.proofs.sift.write_at.Statement.{statement}
-use Rattle.pool.proofs.sift.write_at.Tie as tie
+use Rattle.pool.proofs.part.write_at.Statement.{statement}
+use Rattle.pool.proofs.part.write_at.Tie as tie
 
 mul-from : tie.Need-mul-from
 mul-from c = omega (arith, length-records (c .before .before .args .w .now))

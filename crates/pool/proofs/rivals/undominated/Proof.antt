@@ -15,8 +15,8 @@ use Rattle.stops.specs.declared.node.Node.{Node as Record}
 use Rattle.pool.specs.View.{records}
 use Rattle.pool.specs.Passes.{Sifted, isFree}
 use Rattle.pool.proofs.SiftLaws.{any-slice-none, any-slice-more, any-slice-found, sifted-none, sifted-passes, sifted-fails}
-use Rattle.pool.proofs.sift.undominated.Statement.{statement}
-use Rattle.pool.proofs.sift.undominated.Tie as tie
+use Rattle.pool.proofs.rivals.undominated.Statement.{statement}
+use Rattle.pool.proofs.rivals.undominated.Tie as tie
 
 -- y has a bound up to limit and dominates x
 abbrev isRival : ℕ → Record → Record → Bool

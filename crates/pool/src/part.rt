@@ -1,0 +1,54 @@
+// What is done in a part of the pool that is lent on.
+ghost use mathlib.Core.Path.{_≡_};
+ghost use mathlib.Core.List.{_++_};
+ghost use Prim.Native.Nat.{_+_, _-_, _≤_, _<_};
+ghost use lib.ListN.{length, take, drop};
+ghost use Rattle.pool.specs.View.{records};
+ghost use Rattle.pool.specs.Passes.{Sifted, always};
+use crate::record::load;
+use crate::record::store;
+
+// Moves the records behind the first of a part up by one, as many as count.
+fn move_up(part: &mut [u32], count: usize)
+    requires { ⌜ count < length (records (now part)) ⌝ }
+    ensures { λ u. ⌜ records (now (part .exit)) ≡ take count (drop 1 (records (now (part .entry)))) ++ drop count (records (now (part .entry))) ⌝ }
+{
+    let end = 6 * count;
+    let mut k = 0;
+    while k < end {
+        part[k] = part[k + 6];
+        k += 1;
+    }
+}
+
+// Takes record i out of the first a: those behind it move up by one. The part of the pool that starts there is lent on.
+pub fn take_out(w: &mut [u32], a: usize, i: usize) -> usize
+    requires { ⌜ (i < a) × (a ≤ length (records (now w))) ⌝ }
+    ensures { λ e. ⌜ Sifted always (records (now (w .entry))) (i + 1) a i (records (now (w .exit))) e ⌝ }
+{
+    let from = 6 * i;
+    move_up(&mut w[from..], a - 1 - i);
+    a - 1
+}
+
+// Writes the first r kids to the front of a part of the pool.
+fn write(part: &mut [u32], kids: &[u32], r: usize)
+    requires { ⌜ (r ≤ length (records (now part))) × (r ≤ length (records (now kids))) ⌝ }
+    ensures { λ u. ⌜ records (now (part .exit)) ≡ take r (records (now (kids .entry))) ++ drop r (records (now (part .entry))) ⌝ }
+{
+    let mut k = 0;
+    while k < r {
+        let x = load(kids, k);
+        store(part, k, x);
+        k += 1;
+    }
+}
+
+// Writes the first r kids behind the first `at` records: the part of the pool that starts there is lent on.
+pub fn write_at(w: &mut [u32], at: usize, kids: &[u32], r: usize)
+    requires { ⌜ (at + r ≤ length (records (now w))) × (r ≤ length (records (now kids))) ⌝ }
+    ensures { λ u. ⌜ records (now (w .exit)) ≡ take at (records (now (w .entry))) ++ (take r (records (now (kids .entry))) ++ drop (at + r) (records (now (w .entry)))) ⌝ }
+{
+    let from = 6 * at;
+    write(&mut w[from..], kids, r);
+}
