@@ -1,8 +1,8 @@
 //! The proved planner beside an unverified one of the same passes, job by job
 //! in one run: ns per branching, records needed, and the ratio of the times.
-//! `cargo run --release -p bench [tables] [seconds]`: tables a row (default 5)
-//! and how long the peer may take for one (default 10; those over it are left
-//! out and counted).
+//! `cargo run --release -p bench [tables] [seconds] [R, P or Q]`: tables a row
+//! (default 5), how long the peer may take for one (default 10; those over it
+//! are left out and counted), and the job to run alone (default all three).
 
 mod peer;
 mod tables;
@@ -11,43 +11,55 @@ use std::time::{Duration, Instant};
 
 use peer::{Found, Record, Rows};
 
-const JOBS: [(&str, u32, u32); 3] = [("R: selection 0, rules 1", 0, 1), ("P: selection 0, rules 15", 0, 15), ("Q: selection 3, rules 1", 3, 1)];
+struct Kind {
+    letter: &'static str,
+    selection: u32,
+    rules: u32,
+}
+
+const KINDS: [Kind; 3] = [
+    Kind { letter: "R", selection: 0, rules: 1 },
+    Kind { letter: "P", selection: 0, rules: 15 },
+    Kind { letter: "Q", selection: 3, rules: 1 },
+];
 
 fn main() {
     let mut words = std::env::args().skip(1);
     let tables: u64 = words.next().and_then(|w| w.parse().ok()).unwrap_or(5);
     let seconds: u64 = words.next().and_then(|w| w.parse().ok()).unwrap_or(10);
+    let letter = words.next();
+    let kinds: Vec<&Kind> = KINDS.iter().filter(|kind| letter.as_ref().is_none_or(|l| l == kind.letter)).collect();
+    assert!(!kinds.is_empty(), "the job is R, P or Q");
     let mut pool: Vec<Record> = vec![[0; 6]; 4_000_000];
-    println!("{:<8}{:>3}  {:<26}{:>7}{:>12}{:>10}{:>12}{:>12}{:>8}", "table", "n", "job", "tables", "branched", "records", "peer ns", "ours ns", "ratio");
-    for kind in ["uniform", "wind"] {
+    println!("{:<8}{:>3}  {:<26}{:>7}{:>10}{:>12}{:>10}{:>12}{:>12}{:>8}", "table", "n", "job", "tables", "left out", "branched", "records", "peer ns", "ours ns", "ratio");
+    for wind in ["uniform", "wind"] {
         for n in [12, 14, 16] {
-            for (name, selection, rules) in JOBS {
-                row(kind, n, name, selection, rules, tables, seconds, &mut pool);
+            for kind in &kinds {
+                row(wind, n, kind, tables, seconds, &mut pool);
             }
         }
     }
 }
 
-#[allow(clippy::too_many_arguments)]
-fn row(kind: &str, n: usize, name: &str, selection: u32, rules: u32, tables: u64, seconds: u64, pool: &mut Vec<Record>) {
+fn row(wind: &str, n: usize, kind: &Kind, tables: u64, seconds: u64, pool: &mut [Record]) {
     let (mut ended, mut branched, mut records) = (0, 0, 0);
     let (mut theirs, mut ours) = (Duration::ZERO, Duration::ZERO);
     for seed in 0..tables {
-        let table = tables::table(kind, n, seed);
-        let start = if selection == 3 { tables::nearest(n, &table) } else { Vec::new() };
-        let Some((found, time)) = time_peer(n, &table, selection, rules, &start, seconds, pool) else {
+        let table = tables::table(wind, n, seed);
+        let start = if kind.selection == 3 { tables::nearest(n, &table) } else { Vec::new() };
+        let Some((found, time)) = time_peer(n, &table, kind, &start, seconds, pool) else {
             continue;
         };
-        let time_ours = time_ours(n, &table, selection, rules, &start, &found, pool);
         ended += 1;
         branched += found.branched;
         records = records.max(found.records);
         theirs += time;
-        ours += time_ours;
+        ours += time_ours(n, &table, kind, &start, &found, pool);
     }
     let each = |time: Duration| time.as_nanos() as f64 / branched.max(1) as f64;
     let ratio = ours.as_secs_f64() / theirs.as_secs_f64().max(1e-9);
-    println!("{kind:<8}{n:>3}  {name:<26}{:>7}{branched:>12}{records:>10}{:>12.0}{:>12.0}{ratio:>8.2}", format!("{ended}/{tables}"), each(theirs), each(ours));
+    let name = format!("{}: selection {}, rules {}", kind.letter, kind.selection, kind.rules);
+    println!("{wind:<8}{n:>3}  {name:<26}{ended:>7}{:>10}{branched:>12}{records:>10}{:>12.0}{:>12.0}{ratio:>8.2}", tables - ended, each(theirs), each(ours));
 }
 
 fn rows_of(n: usize, table: &[u32]) -> Rows {
@@ -58,9 +70,9 @@ fn rows_of(n: usize, table: &[u32]) -> Rows {
     rows
 }
 
-fn time_peer(n: usize, table: &[u32], selection: u32, rules: u32, start: &[u8], seconds: u64, pool: &mut [Record]) -> Option<(Found, Duration)> {
+fn time_peer(n: usize, table: &[u32], kind: &Kind, start: &[u8], seconds: u64, pool: &mut [Record]) -> Option<(Found, Duration)> {
     let rows = rows_of(n, table);
-    let job = peer::Job { n: n as u32, rows: &rows, selection, rules, bound: 1 };
+    let job = peer::Job { n: n as u32, rows: &rows, selection: kind.selection, rules: kind.rules, bound: 1 };
     let best = if start.is_empty() { u32::MAX } else { tables::cost(n, table, start) };
     let begin = Instant::now();
     let found = peer::plan(&job, best, pool, begin + Duration::from_secs(seconds))?;
@@ -68,10 +80,10 @@ fn time_peer(n: usize, table: &[u32], selection: u32, rules: u32, start: &[u8], 
 }
 
 /// In a pool of as many records as the peer needed: what is cleared at the end is no more than was used.
-fn time_ours(n: usize, table: &[u32], selection: u32, rules: u32, start: &[u8], found: &Found, pool: &mut [Record]) -> Duration {
+fn time_ours(n: usize, table: &[u32], kind: &Kind, start: &[u8], found: &Found, pool: &mut [Record]) -> Duration {
     let words = pool[..found.records].as_flattened_mut();
     let begin = Instant::now();
-    let report = gondamuy::plan(n as u32, table, selection, rules, 1, start, words);
+    let report = gondamuy::plan(n as u32, table, kind.selection, kind.rules, 1, start, words);
     let time = begin.elapsed();
     assert_eq!((report.number, report.cost, report.branched, report.most), (0, found.cost, found.branched, found.most as u64));
     time

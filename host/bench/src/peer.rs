@@ -1,24 +1,17 @@
 //! An unverified planner written for speed, with the same passes as the proved
-//! one: one pass for selection, one for the eliminations among the active
-//! nodes, sets compared before anything else, everything in place. It checks
-//! nothing and is here to be timed.
+//! one: a pass for the least bound, one for the children's rivals, one for the
+//! active nodes that go. Everything is in place, the branched nodes at the far
+//! end of the pool. It checks nothing of a job and is here to be timed.
 
-pub type Rows = [[u32; 17]; 17];
-pub type Record = [u32; 6];
+mod node;
 
-const SIZE: usize = 0;
-const SET: usize = 1;
-const PATH: usize = 2;
-const BOUND: usize = 3;
-const NONE: u32 = u32::MAX;
+use std::time::Instant;
 
-pub struct Job<'a> {
-    pub n: u32,
-    pub rows: &'a Rows,
-    pub selection: u32,
-    pub rules: u32,
-    pub bound: u32,
-}
+use node::{ahead, beaten, family, Kin, BOUND, NONE, SIZE};
+pub use node::{Job, Record, Rows};
+
+/// How many of the children's rivals are gathered at a time.
+const RIVALS: usize = 64;
 
 pub struct Found {
     pub cost: u32,
@@ -27,164 +20,189 @@ pub struct Found {
     pub records: usize,
 }
 
+/// A record that stands there: i is below the number of records.
 #[inline(always)]
-fn last(x: &Record) -> usize {
-    match x[SIZE] {
-        0 => 0,
-        k if k <= 8 => ((x[4] >> (4 * (k - 1))) % 16 + 1) as usize,
-        k => ((x[5] >> (4 * (k - 9))) % 16 + 1) as usize,
-    }
+fn at(records: &[Record], i: usize) -> &Record {
+    unsafe { records.get_unchecked(i) }
 }
 
+/// The first place from `from` on whose record passes the test, or the number of records. Eight are looked at for one branch.
 #[inline(always)]
-fn dominates(y: &Record, z: &Record) -> bool {
-    y[SET] == z[SET] && y[PATH] <= z[PATH] && last(y) == last(z) && (y[4] != z[4] || y[5] != z[5])
-}
-
-struct Stops(u32);
-
-impl Iterator for Stops {
-    type Item = usize;
-    #[inline(always)]
-    fn next(&mut self) -> Option<usize> {
-        if self.0 == 0 {
-            return None;
+fn find(records: &[Record], from: usize, test: impl Fn(&Record) -> bool) -> usize {
+    let mut i = from;
+    while i + 8 <= records.len() {
+        let mut any = false;
+        for k in 0..8 {
+            any |= test(at(records, i + k));
         }
-        let s = self.0.trailing_zeros();
-        self.0 &= self.0 - 1;
-        Some(s as usize + 1)
+        if any {
+            break;
+        }
+        i += 8;
     }
+    while i < records.len() && !test(at(records, i)) {
+        i += 1;
+    }
+    i
 }
 
+/// Goes from one better bound to the next, of which there are few.
 #[inline(always)]
-fn ahead(rows: &Rows, bound: u32, place: usize, rest: u32) -> u32 {
-    let leg = |i: usize, j: usize| unsafe { *rows.get_unchecked(i).get_unchecked(j) };
-    if rest == 0 {
-        return leg(place, 0);
+fn least(active: &[Record], better: impl Fn(u32, u32) -> bool) -> usize {
+    let (mut best, mut i) = (0, 0);
+    while i < active.len() {
+        best = i;
+        let bound = at(active, best)[BOUND];
+        i = find(active, i + 1, |x| better(x[BOUND], bound));
     }
-    if bound == 0 {
-        return 0;
-    }
-    let mut sum = Stops(rest).map(|s| leg(s, 0)).min().unwrap();
-    for s in Stops(rest) {
-        let others = rest & !(1 << (s - 1));
-        sum += Stops(others).fold(leg(place, s), |least, r| least.min(leg(r, s)));
-    }
-    sum
+    best
 }
 
-fn family(job: &Job, b: &Record, kids: &mut [Record; 16]) -> usize {
-    let rest = (1u32 << job.n) - 1 - b[SET];
-    let place = last(b);
-    let mut m = 0;
-    for s in Stops(rest) {
-        let mut x = *b;
-        x[SET] |= 1 << (s - 1);
-        x[PATH] += job.rows[place][s];
-        x[4 + (b[SIZE] / 8) as usize] |= (s as u32 - 1) << (4 * (b[SIZE] % 8));
-        x[SIZE] += 1;
-        x[BOUND] = x[PATH] + ahead(job.rows, job.bound, s, rest & !(1 << (s - 1)));
-        kids[m] = x;
-        m += 1;
+fn latest_open(active: &[Record], n: u32) -> usize {
+    let mut i = active.len();
+    while i != 0 {
+        i -= 1;
+        if at(active, i)[SIZE] != n {
+            return i;
+        }
     }
-    m
+    active.len() - 1
 }
 
 fn select(job: &Job, active: &[Record]) -> usize {
     match job.selection {
-        0 | 1 => {
-            let mut best = 0;
-            let mut least = active[0][BOUND];
-            for (i, x) in active.iter().enumerate().skip(1) {
-                let better = if job.selection == 0 { x[BOUND] < least } else { x[BOUND] <= least };
-                if better {
-                    least = x[BOUND];
-                    best = i;
-                }
-            }
-            best
-        }
+        0 => least(active, |bound, least| bound < least),
+        1 => least(active, |bound, least| bound <= least),
         2 => 0,
-        _ => active.iter().rposition(|x| x[SIZE] != job.n).unwrap_or(active.len() - 1),
+        _ => latest_open(active, job.n),
     }
 }
 
-fn kept(kids: &mut [Record], m: usize, test: impl Fn(&Record) -> bool) -> usize {
-    let mut r = 0;
+/// Moves those of the first m children that pass the test to the front.
+#[inline(always)]
+fn kept(kids: &mut [Record; 16], m: usize, test: impl Fn(&Record) -> bool) -> usize {
+    let mut left = 0;
     for k in 0..m {
-        let x = kids[k];
+        let x = *at(kids, k);
         if test(&x) {
-            kids[r] = x;
-            r += 1;
+            unsafe { *kids.get_unchecked_mut(left) = x };
+            left += 1;
         }
     }
-    r
+    left
 }
 
-/// Runs to the finish; the pool is ample. `best` is the cost of the starting order, or the largest number.
-pub fn plan(job: &Job, best: u32, pool: &mut [Record], limit: std::time::Instant) -> Option<Found> {
-    let count = pool.len();
-    let mut upper = best;
-    let mut e = [0; 6];
-    e[BOUND] = ahead(job.rows, job.bound, 0, (1u32 << job.n) - 1);
-    pool[0] = e;
-    let (mut a, mut held, mut branched, mut most, mut records) = (1, 0, 0u64, 1, 1);
-    let mut kids = [[0; 6]; 16];
-    loop {
-        let i = select(job, &pool[..a]);
-        let b = pool[i];
-        if b[SIZE] == job.n || b[BOUND] >= upper && (job.selection < 2 || a == 1) {
-            return Some(Found { cost: upper, branched, most, records });
+/// Rules 2 and 4: keeps the children that none of the records with a bound up to `top` dominates. One walk gathers the few that
+/// can; whenever the place for them is full, and at the end, the children are tested against those.
+fn undominated(kids: &mut [Record; 16], m: usize, kin: Kin, records: &[Record], top: u32, rivals: &mut [Record; RIVALS]) -> usize {
+    let (mut left, mut i) = (m, 0);
+    while left != 0 && i < records.len() {
+        let mut gathered = 0;
+        while gathered < RIVALS {
+            i = find(records, i, |y| kin.has(y));
+            if i == records.len() {
+                break;
+            }
+            unsafe { *rivals.get_unchecked_mut(gathered) = *at(records, i) };
+            gathered += 1;
+            i += 1;
         }
-        if branched % 1024 == 0 && std::time::Instant::now() > limit {
+        left = kept(kids, left, |x| !beaten(&rivals[..gathered], x, top));
+    }
+    left
+}
+
+/// Rules 1 and 8: of the records from `from` to `to`, moves those that stay active to `end` and behind it, a run at a time.
+fn squeeze(pool: &mut [Record], from: usize, to: usize, end: usize, top: u32, kin: Kin, kids: &[Record]) -> usize {
+    let (mut from, mut i, mut end) = (from, from, end);
+    loop {
+        i = find(&pool[..to], i, |x| (x[BOUND] > top) | kin.has(x));
+        if i < to && at(pool, i)[BOUND] <= top && !beaten(kids, at(pool, i), NONE) {
+            i += 1;
+            continue;
+        }
+        if from != end {
+            pool.copy_within(from..i, end);
+        }
+        end += i - from;
+        if i == to {
+            return end;
+        }
+        i += 1;
+        from = i;
+    }
+}
+
+/// A run: its active records stand at the front of the pool, its branched ones at the far end.
+struct Run<'a> {
+    job: &'a Job<'a>,
+    pool: &'a mut [Record],
+    active: usize,
+    held: usize,
+    upper: u32,
+    kids: [Record; 16],
+    rivals: [Record; RIVALS],
+}
+
+impl Run<'_> {
+    /// Parts 1 to 5 of the step of b: the limit of rule 1, and how many children survive.
+    fn expand(&mut self, b: &Record, kin: Kin) -> (u32, usize) {
+        let mut m = family(self.job, b, &mut self.kids);
+        if b[SIZE] + 1 == self.job.n {
+            self.upper = self.upper.min(self.kids[0][BOUND]);
+        }
+        let top = if self.job.rule(1) { self.upper } else { NONE };
+        m = kept(&mut self.kids, m, |x| x[BOUND] <= top);
+        if self.job.rule(2) {
+            m = undominated(&mut self.kids, m, kin, &self.pool[..self.active], top, &mut self.rivals);
+        }
+        if self.job.rule(4) {
+            let far = self.pool.len() - self.held;
+            m = undominated(&mut self.kids, m, kin, &self.pool[far..], NONE, &mut self.rivals);
+        }
+        (top, m)
+    }
+
+    /// Parts 6 and 7 of the step of b, which stands at i. `fell` says that U did.
+    fn replace(&mut self, i: usize, b: &Record, kin: Kin, top: u32, m: usize, fell: bool) {
+        let taking = if self.job.rule(8) { m } else { 0 };
+        if taking == 0 && !(self.job.rule(1) && fell) {
+            self.pool.copy_within(i + 1..self.active, i);
+            self.active -= 1;
+        } else {
+            let before = squeeze(self.pool, 0, i, 0, top, kin, &self.kids[..taking]);
+            self.active = squeeze(self.pool, i + 1, self.active, before, top, kin, &self.kids[..taking]);
+        }
+        self.pool[self.active..self.active + m].copy_from_slice(&self.kids[..m]);
+        self.active += m;
+        if self.job.rule(4) {
+            self.held += 1;
+            let far = self.pool.len() - self.held;
+            self.pool[far] = *b;
+        }
+    }
+}
+
+/// Runs to the finish, or gives up at the time limit or where the pool might not do. `upper` is the cost of the starting order, or
+/// the largest number.
+pub fn plan(job: &Job, upper: u32, pool: &mut [Record], limit: Instant) -> Option<Found> {
+    pool[0] = [0, 0, 0, ahead(job, 0, (1u32 << job.n) - 1), 0, 0];
+    let mut run = Run { job, pool, active: 1, held: 0, upper, kids: [[0; 6]; 16], rivals: [[0; 6]; RIVALS] };
+    let (mut branched, mut most, mut records) = (0, 1, 1);
+    loop {
+        let i = select(job, &run.pool[..run.active]);
+        let b = run.pool[i];
+        if b[SIZE] == job.n || b[BOUND] >= run.upper && (job.selection < 2 || run.active == 1) {
+            return Some(Found { cost: run.upper, branched, most, records });
+        }
+        if run.active + run.held + 16 > run.pool.len() || branched % 1024 == 0 && Instant::now() > limit {
             return None;
         }
-        let mut m = family(job, &b, &mut kids);
-        let was = upper;
-        for x in &kids[..m] {
-            if x[SIZE] == job.n && x[BOUND] < upper {
-                upper = x[BOUND];
-            }
-        }
-        let top = if job.rules & 1 != 0 { upper } else { NONE };
-        if job.rules & 1 != 0 {
-            m = kept(&mut kids, m, |x| x[BOUND] <= top);
-        }
-        if job.rules & 2 != 0 {
-            let (front, back) = (&pool[..i], &pool[i + 1..a]);
-            m = kept(&mut kids, m, |x| {
-                !front.iter().chain(back).any(|y| y[SET] == x[SET] && y[BOUND] <= top && dominates(y, x))
-            });
-        }
-        if job.rules & 4 != 0 {
-            let far = &pool[count - held..];
-            m = kept(&mut kids, m, |x| !far.iter().any(|y| y[SET] == x[SET] && dominates(y, x)));
-        }
-        let taking = if job.rules & 8 != 0 { m } else { 0 };
-        let at;
-        if taking == 0 && (job.rules & 1 == 0 || upper == was) {
-            pool.copy_within(i + 1..a, i);
-            at = a - 1;
-        } else {
-            let stays = |x: &Record| x[BOUND] <= top && !kids[..taking].iter().any(|y| y[SET] == x[SET] && dominates(y, x));
-            let mut end = 0;
-            for j in (0..i).chain(i + 1..a) {
-                let x = pool[j];
-                if stays(&x) {
-                    pool[end] = x;
-                    end += 1;
-                }
-            }
-            at = end;
-        }
-        pool[at..at + m].copy_from_slice(&kids[..m]);
-        a = at + m;
-        if job.rules & 4 != 0 {
-            held += 1;
-            pool[count - held] = b;
-        }
+        let (kin, was) = (Kin::of(&b), run.upper);
+        let (top, m) = run.expand(&b, kin);
+        run.replace(i, &b, kin, top, m, run.upper < was);
         branched += 1;
-        most = most.max(a);
-        records = records.max(a + held);
+        most = most.max(run.active);
+        records = records.max(run.active + run.held);
     }
 }

@@ -1,0 +1,135 @@
+//! A node as the six numbers of its record, its bound and its children.
+
+pub type Rows = [[u32; 17]; 17];
+pub type Record = [u32; 6];
+
+pub const SIZE: usize = 0;
+pub const SET: usize = 1;
+pub const PATH: usize = 2;
+pub const BOUND: usize = 3;
+pub const NONE: u32 = u32::MAX;
+
+pub struct Job<'a> {
+    pub n: u32,
+    pub rows: &'a Rows,
+    pub selection: u32,
+    pub rules: u32,
+    pub bound: u32,
+}
+
+impl Job<'_> {
+    pub fn rule(&self, number: u32) -> bool {
+        self.rules & number != 0
+    }
+
+    /// No place is above 16.
+    #[inline(always)]
+    fn leg(&self, from: usize, to: usize) -> u32 {
+        unsafe { *self.rows.get_unchecked(from).get_unchecked(to) }
+    }
+}
+
+#[inline(always)]
+fn last(x: &Record) -> usize {
+    match x[SIZE] {
+        0 => 0,
+        k if k <= 8 => ((x[4] >> (4 * (k - 1))) % 16 + 1) as usize,
+        k => ((x[5] >> (4 * (k - 9))) % 16 + 1) as usize,
+    }
+}
+
+#[inline(always)]
+fn dominates(y: &Record, z: &Record) -> bool {
+    y[SET] == z[SET] && y[PATH] <= z[PATH] && last(y) == last(z) && (y[4] != z[4] || y[5] != z[5])
+}
+
+/// Whether one of the records with a bound up to `top` dominates x.
+#[inline(always)]
+pub fn beaten(by: &[Record], x: &Record, top: u32) -> bool {
+    for y in by {
+        if dominates(y, x) && y[BOUND] <= top {
+            return true;
+        }
+    }
+    false
+}
+
+/// Which records can have the set of one of b's children: they are one larger, and their sets hold b's. Size and set are
+/// tested as one number.
+#[derive(Clone, Copy)]
+pub struct Kin {
+    mask: u64,
+    is: u64,
+}
+
+impl Kin {
+    pub fn of(b: &Record) -> Kin {
+        let set = (b[SET] as u64) << 32;
+        Kin { mask: set | NONE as u64, is: set | (b[SIZE] + 1) as u64 }
+    }
+
+    #[inline(always)]
+    pub fn has(self, x: &Record) -> bool {
+        ((x[SET] as u64) << 32 | x[SIZE] as u64) & self.mask == self.is
+    }
+}
+
+/// The stops of a set, lowest first.
+struct Stops(u32);
+
+impl Iterator for Stops {
+    type Item = usize;
+    #[inline(always)]
+    fn next(&mut self) -> Option<usize> {
+        if self.0 == 0 {
+            return None;
+        }
+        let s = self.0.trailing_zeros();
+        self.0 &= self.0 - 1;
+        Some(s as usize + 1)
+    }
+}
+
+/// What the bound adds to the path cost.
+#[inline(always)]
+pub fn ahead(job: &Job, place: usize, rest: u32) -> u32 {
+    if rest == 0 {
+        return job.leg(place, 0);
+    }
+    if job.bound == 0 {
+        return 0;
+    }
+    let (mut sum, mut home) = (0, NONE);
+    for s in Stops(rest) {
+        let mut into = job.leg(place, s);
+        for r in Stops(rest & !(1 << (s - 1))) {
+            into = into.min(job.leg(r, s));
+        }
+        sum += into;
+        home = home.min(job.leg(s, 0));
+    }
+    sum + home
+}
+
+/// Writes b's children and says how many there are.
+pub fn family(job: &Job, b: &Record, kids: &mut [Record; 16]) -> usize {
+    let rest = (1u32 << job.n) - 1 - b[SET];
+    let place = last(b);
+    let mut m = 0;
+    for s in Stops(rest) {
+        let mut x = *b;
+        x[SET] |= 1 << (s - 1);
+        x[PATH] += job.leg(place, s);
+        let digit = (s as u32 - 1) << (4 * (b[SIZE] % 8));
+        if b[SIZE] < 8 {
+            x[4] |= digit;
+        } else {
+            x[5] |= digit;
+        }
+        x[SIZE] += 1;
+        x[BOUND] = x[PATH] + ahead(job, s, rest & !(1 << (s - 1)));
+        unsafe { *kids.get_unchecked_mut(m) = x };
+        m += 1;
+    }
+    m
+}
