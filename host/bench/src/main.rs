@@ -46,7 +46,7 @@ fn row(wind: &str, n: usize, kind: &Kind, tables: u64, seconds: u64, pool: &mut 
     let (mut theirs, mut ours) = (Duration::ZERO, Duration::ZERO);
     for seed in 0..tables {
         let table = tables::table(wind, n, seed);
-        let start = if kind.selection == 3 { tables::nearest(n, &table) } else { Vec::new() };
+        let start = if kind.selection == 3 { samples::nearest(n, &table) } else { Vec::new() };
         let Some((found, time)) = time_peer(n, &table, kind, &start, seconds, pool) else {
             continue;
         };

@@ -1,21 +1,7 @@
 //! Tables to time on, by seed: uniform legs, and points in the plane with a
 //! wind that differs by place.
 
-struct Random(u64);
-
-impl Random {
-    fn next(&mut self) -> u64 {
-        self.0 = self.0.wrapping_add(0x9E37_79B9_7F4A_7C15);
-        let mut z = self.0;
-        z = (z ^ (z >> 30)).wrapping_mul(0xBF58_476D_1CE4_E5B9);
-        z = (z ^ (z >> 27)).wrapping_mul(0x94D0_49BB_1331_11EB);
-        z ^ (z >> 31)
-    }
-
-    fn unit(&mut self) -> f64 {
-        (self.next() >> 11) as f64 / (1u64 << 53) as f64
-    }
-}
+use samples::Random;
 
 pub fn table(kind: &str, n: usize, seed: u64) -> Vec<u32> {
     let mut random = Random(seed * 1000 + n as u64);
@@ -48,16 +34,4 @@ pub fn cost(n: usize, table: &[u32], order: &[u8]) -> u32 {
         place = s as usize;
     }
     cost + table[place * (n + 1)]
-}
-
-pub fn nearest(n: usize, table: &[u32]) -> Vec<u8> {
-    let mut left: Vec<u8> = (1..=n as u8).collect();
-    let mut place = 0;
-    let mut order = Vec::new();
-    while !left.is_empty() {
-        let at = (0..left.len()).min_by_key(|&k| table[place * (n + 1) + left[k] as usize]).unwrap();
-        order.push(left.remove(at));
-        place = order[order.len() - 1] as usize;
-    }
-    order
 }

@@ -2,46 +2,8 @@
 //! of the pool, over random jobs of many kinds.
 
 use gondamuy::{plan, Report, RECORD_WORDS};
+use samples::{level, nearest, Random};
 use witness::{plan_watched, Request};
-
-/// splitmix64
-struct Random(u64);
-
-impl Random {
-    fn next(&mut self) -> u64 {
-        self.0 = self.0.wrapping_add(0x9E37_79B9_7F4A_7C15);
-        let mut z = self.0;
-        z = (z ^ (z >> 30)).wrapping_mul(0xBF58_476D_1CE4_E5B9);
-        z = (z ^ (z >> 27)).wrapping_mul(0x94D0_49BB_1331_11EB);
-        z ^ (z >> 31)
-    }
-
-    fn below(&mut self, k: u64) -> u64 {
-        self.next() % k
-    }
-
-    fn pick(&mut self, from: &[u64]) -> u64 {
-        from[self.below(from.len() as u64) as usize]
-    }
-
-    /// Legs up to `most`, the diagonal 0.
-    fn table(&mut self, n: usize, most: u64) -> Vec<u32> {
-        let side = n + 1;
-        (0..side * side).map(|k| if k / side == k % side { 0 } else { self.below(most + 1) as u32 }).collect()
-    }
-
-    fn order(&mut self, n: usize) -> Vec<u8> {
-        let mut order: Vec<u8> = (1..=n as u8).collect();
-        for i in (1..n).rev() {
-            order.swap(i, self.below(i as u64 + 1) as usize);
-        }
-        order
-    }
-
-    fn words(&mut self, count: usize) -> Vec<u32> {
-        (0..count).map(|_| self.next() as u32).collect()
-    }
-}
 
 #[derive(Clone, Debug)]
 struct Job {
@@ -83,11 +45,11 @@ fn compare(job: &Job, pool: &[u32]) -> (Report, usize) {
     (report, most)
 }
 
-fn small_job(random: &mut Random, n: usize, most: u64) -> Job {
+fn small_job(random: &mut Random, n: usize, most: u32) -> Job {
     let start = if random.below(2) == 0 { Vec::new() } else { random.order(n) };
     Job {
         n: n as u32,
-        table: random.table(n, most),
+        table: random.table(n, 0, most),
         selection: random.below(4) as u32,
         rules: random.below(16) as u32,
         bound: random.below(2) as u32,
@@ -136,7 +98,7 @@ fn up_to_sixteen_stops() {
             let records = [1, 17, 40, 90, 200, 400][round];
             compare(&job, &random.words(records * RECORD_WORDS));
             // All legs equal, the latest of ties: straight down to an order.
-            job.table = random.table(n, 0).iter().enumerate().map(|(k, _)| u32::from(k % (n + 2) != 0) * 7).collect();
+            job.table = level(n, 7);
             job.selection = 1;
             job.rules = random.below(16) as u32;
             let (report, _) = compare(&job, &random.words(400 * RECORD_WORDS));
@@ -157,18 +119,6 @@ fn pilots_of_twelve_stops() {
     }
 }
 
-fn nearest(n: usize, table: &[u32]) -> Vec<u8> {
-    let mut left: Vec<usize> = (1..=n).collect();
-    let mut place = 0;
-    let mut order = Vec::new();
-    while !left.is_empty() {
-        let at = (0..left.len()).min_by_key(|&k| table[place * (n + 1) + left[k]]).unwrap();
-        place = left.remove(at);
-        order.push(place as u8);
-    }
-    order
-}
-
 /// Each cause by itself and several at once: the lowest number, the pool untouched.
 #[test]
 fn every_refusal() {
@@ -180,29 +130,28 @@ fn every_refusal() {
         let mut words = 60;
         let faults = random.below(64);
         if faults & 1 != 0 {
-            job.n = random.pick(&[0, 17, 18, u32::MAX.into()]) as u32;
+            job.n = random.pick(&[0, 17, 18, u32::MAX]);
         }
         if faults & 2 != 0 {
             let len = job.table.len();
-            let other = random.pick(&[0, 1, len as u64 - 1, len as u64 + 1]) as usize;
-            job.table.resize(other, 0);
+            job.table.resize(random.pick(&[0, 1, len - 1, len + 1]), 0);
         }
         if faults & 4 != 0 && !job.table.is_empty() {
             let at = random.below(job.table.len() as u64) as usize;
-            job.table[at] = random.pick(&[1_000_001, u32::MAX.into()]) as u32;
+            job.table[at] = random.pick(&[1_000_001, u32::MAX]);
         }
         if faults & 8 != 0 {
             match random.below(3) {
-                0 => job.selection = random.pick(&[4, u32::MAX.into()]) as u32,
-                1 => job.rules = random.pick(&[16, u32::MAX.into()]) as u32,
-                _ => job.bound = random.pick(&[2, u32::MAX.into()]) as u32,
+                0 => job.selection = random.pick(&[4, u32::MAX]),
+                1 => job.rules = random.pick(&[16, u32::MAX]),
+                _ => job.bound = random.pick(&[2, u32::MAX]),
             }
         }
         if faults & 16 != 0 {
             job.start = (0..random.below(7)).map(|_| random.below(7) as u8).collect();
         }
         if faults & 32 != 0 {
-            words = random.pick(&[0, 1, 5, 7, 61]) as usize;
+            words = random.pick(&[0, 1, 5, 7, 61]);
         }
         let (report, _) = compare(&job, &random.words(words));
         seen[report.number as usize] += 1;

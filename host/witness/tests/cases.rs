@@ -3,6 +3,7 @@
 mod common;
 
 use common::{check_finished, Job, T};
+use samples::level;
 use witness::enumerate::{all_orders, cheapest_orders, least_cost};
 use witness::legs::Legs;
 use witness::node::{Bound, Node};
@@ -143,11 +144,10 @@ fn pool_with_branched_nodes() {
 /// With both on, rule 2 is first, and what it eliminates eliminates nothing.
 #[test]
 fn rule_2_before_rule_8() {
-    let table = [0, 1, 1, 1, 1, 0, 1, 1, 1, 1, 0, 1, 1, 1, 1, 0];
     let earlier = [0x210, 0x120, 0x021];
     let later = [0x201, 0x102, 0x012];
     for (rules, orders) in [(2, earlier), (8, later), (10, earlier)] {
-        let job = Job::new(3, &table, [2, rules, 0], &[]);
+        let job = Job::new(3, &level(3, 1), [2, rules, 0], &[]);
         expect(&job, 6, 4, &[1, 2, 3], [10, 16, 3, 3, 6]);
         let told: Vec<u32> = orders.iter().flat_map(|&o| [3, 7, 3, 4, o, 0]).collect();
         assert_eq!(job.run(6).1[..18], told);
@@ -158,9 +158,7 @@ fn rule_2_before_rule_8() {
 /// stop, and the later of each pair meets a branched node.
 #[test]
 fn rule_4_against_branched_nodes() {
-    let mut table = [1; 25];
-    (0..5).for_each(|i| table[i * 6] = 0);
-    let job = Job::new(4, &table, [3, 4, 0], &[]);
+    let job = Job::new(4, &level(4, 1), [3, 4, 0], &[]);
     expect(&job, 41, 5, &[4, 3, 2, 1], [29, 53, 12, 12, 15]);
     assert_eq!(job.run(40).0.number, 7);
 }
@@ -169,11 +167,8 @@ fn rule_4_against_branched_nodes() {
 /// order are in use.
 #[test]
 fn sixteen_stops_in_a_chain() {
-    let mut table = [1_000_000; 17 * 17];
-    for i in 0..17 {
-        table[i * 17 + i] = 0;
-        table[i * 17 + (i + 1) % 17] = 0;
-    }
+    let mut table = level(16, 1_000_000);
+    (0..17).for_each(|i| table[i * 17 + (i + 1) % 17] = 0);
     let order: Vec<u32> = (1..=16).collect();
     let job = Job::new(16, &table, [0, 1, 1], &[]);
     expect(&job, 121, 0, &order, [16, 137, 120, 1, 121]);
@@ -184,10 +179,8 @@ fn sixteen_stops_in_a_chain() {
 /// Every leg the dearest: seventeen of them, found by the first dive.
 #[test]
 fn dearest_legs() {
-    let mut table = [1_000_000; 17 * 17];
-    (0..17).for_each(|i| table[i * 17 + i] = 0);
     let order: Vec<u32> = (1..=16).rev().collect();
-    let job = Job::new(16, &table, [1, 15, 1], &[]);
+    let job = Job::new(16, &level(16, 1_000_000), [1, 15, 1], &[]);
     expect(&job, 137, 17_000_000, &order, [16, 137, 0, 121, 121]);
 }
 

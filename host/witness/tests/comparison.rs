@@ -3,8 +3,10 @@
 
 mod common;
 
-use common::{Job, Random, KINDS};
+use common::{for_each_table, Job};
+use samples::Random;
 use witness::enumerate::least_cost;
+use witness::legs::Legs;
 
 /// Two orders, the cheaper one first.
 fn two_orders(random: &mut Random, job: &Job) -> (Vec<u32>, Vec<u32>) {
@@ -19,7 +21,7 @@ fn pair(random: &mut Random, n: usize, table: &[u32]) -> (Job, Job) {
     let bound = random.below(2);
     let mut b = Job::new(n, table, [selection, dominance, bound], &[]);
     let mut a = b.clone();
-    let (upper_a, upper_b) = [(0, 0), (1, 0), (1, 1)][random.below(3) as usize];
+    let (upper_a, upper_b) = random.pick(&[(0, 0), (1, 0), (1, 1)]);
     a.rules += upper_a;
     b.rules += upper_b;
     let (cheaper, dearer) = two_orders(random, &b);
@@ -51,17 +53,13 @@ fn check_pair(a: &Job, b: &Job, least: u32) {
 }
 
 fn check_pairs(seed: u64, n: usize, tables: usize, pairs: usize) {
-    let mut random = Random(seed);
-    for kind in 0..KINDS.len() {
-        for _ in 0..tables {
-            let table = random.table_of_kind(n, kind);
-            let least = least_cost(&Job::new(n, &table, [0, 0, 0], &[]).legs());
-            for _ in 0..pairs {
-                let (a, b) = pair(&mut random, n, &table);
-                check_pair(&a, &b, least);
-            }
+    for_each_table(&mut Random(seed), n, tables, |random, table| {
+        let least = least_cost(&Legs::new(n, table));
+        for _ in 0..pairs {
+            let (a, b) = pair(random, n, table);
+            check_pair(&a, &b, least);
         }
-    }
+    });
 }
 
 #[test]

@@ -2,15 +2,15 @@
 
 mod common;
 
-use common::{ample, check_finished, choices, Job, Random, KINDS};
+use common::{ample, check_finished, choices, for_each_table, Job};
+use samples::Random;
 use witness::enumerate::{cheapest_orders, least_cost};
 
 /// No starting order, 1 to n, a random one, and one of least cost.
 fn starts(random: &mut Random, job: &Job) -> Vec<Vec<u32>> {
     let identity = (1..=job.n as u32).collect();
     let cheapest = cheapest_orders(&job.legs());
-    let optimal = &cheapest[random.below(cheapest.len() as u64) as usize];
-    let optimal = optimal.iter().map(|&s| s as u32).collect();
+    let optimal = random.pick(&cheapest).iter().map(|&s| s as u32).collect();
     vec![Vec::new(), identity, random.order(job.n), optimal]
 }
 
@@ -38,24 +38,13 @@ fn run_one(n: usize, table: &[u32], choice: [u64; 3], start: &[u32], least: u32)
 fn up_to_four_stops() {
     let mut random = Random(1);
     for n in 1..=4 {
-        for kind in 0..KINDS.len() {
-            for _ in 0..12 {
-                let table = random.table_of_kind(n, kind);
-                all_choices(&mut random, n, &table);
-            }
-        }
+        for_each_table(&mut random, n, 12, |random, table| all_choices(random, n, table));
     }
 }
 
 #[test]
 fn five_stops() {
-    let mut random = Random(2);
-    for kind in 0..KINDS.len() {
-        for _ in 0..4 {
-            let table = random.table_of_kind(5, kind);
-            all_choices(&mut random, 5, &table);
-        }
-    }
+    for_each_table(&mut Random(2), 5, 4, |random, table| all_choices(random, 5, table));
 }
 
 #[test]
@@ -77,8 +66,7 @@ fn seven_stops() {
         let least = least_cost(&blank.legs());
         let starts = starts(&mut random, &blank);
         for choice in choices() {
-            let start = &starts[random.below(4) as usize];
-            run_one(7, &table, choice, start, least);
+            run_one(7, &table, choice, &random.pick(&starts), least);
         }
     }
 }

@@ -4,12 +4,9 @@
 mod common;
 
 use common::{Job, T};
+use samples::level;
 
 const NINE: [u32; 9] = [0; 9];
-
-fn ones(n: usize) -> Vec<u32> {
-    (0..(n + 1) * (n + 1)).map(|k| (k % (n + 2) != 0) as u32).collect()
-}
 
 /// Number, cost, order, counts, and the records of the pool, zeros behind.
 fn expect(job: Job, records: usize, told: (u32, u32, &[u32], [u64; 5]), nodes: &[[u32; 6]]) {
@@ -37,20 +34,20 @@ fn rule_4_fills() {
         [1, 4, 1, 1, 2, 0], [2, 3, 2, 2, 16, 0], [2, 5, 2, 2, 32, 0], [2, 3, 2, 2, 1, 0],
         [2, 6, 2, 2, 33, 0], [0; 6], [1, 1, 1, 1, 0, 0], [1, 2, 1, 1, 1, 0],
     ];
-    expect(Job::new(3, &ones(3), [2, 4, 0], &[]), 8, (7, 0, &[], [3, 8, 0, 5, 5]), &nodes);
+    expect(Job::new(3, &level(3, 1), [2, 4, 0], &[]), 8, (7, 0, &[], [3, 8, 0, 5, 5]), &nodes);
 }
 
 #[test]
 fn rule_8_keeps_later() {
     let nodes = [[3, 7, 3, 4, 33, 0], [3, 7, 3, 4, 288, 0], [3, 7, 3, 4, 528, 0]];
-    let job = Job::new(3, &ones(3), [3, 8, 1], &[]);
+    let job = Job::new(3, &level(3, 1), [3, 8, 1], &[]);
     expect(job, 5, (0, 4, &[3, 2, 1], [10, 16, 3, 3, 5]), &nodes);
 }
 
 #[test]
 fn rules_2_and_8() {
     let nodes = [[3, 7, 3, 4, 288, 0], [3, 7, 3, 4, 528, 0], [3, 7, 3, 4, 33, 0]];
-    let job = Job::new(3, &ones(3), [1, 10, 0], &[]);
+    let job = Job::new(3, &level(3, 1), [1, 10, 0], &[]);
     expect(job, 6, (0, 4, &[1, 3, 2], [10, 16, 3, 3, 6]), &nodes);
 }
 
@@ -61,7 +58,7 @@ fn all_rules_tied() {
         [2, 6, 2, 4, 18, 0], [3, 7, 3, 4, 528, 0], [0, 0, 0, 4, 0, 0], [1, 1, 1, 4, 0, 0],
         [1, 2, 1, 4, 1, 0], [1, 4, 1, 4, 2, 0], [2, 3, 2, 4, 16, 0],
     ];
-    let job = Job::new(3, &ones(3), [0, 15, 1], &[]);
+    let job = Job::new(3, &level(3, 1), [0, 15, 1], &[]);
     expect(job, 13, (0, 4, &[1, 2, 3], [5, 11, 0, 6, 6]), &nodes);
 }
 

@@ -2,7 +2,8 @@
 
 mod common;
 
-use common::{ample, choices, for_each_job, read_pool, Job, Random, KINDS};
+use common::{ample, choices, counts_of, for_each_job, read_pool, Job};
+use samples::{Random, KINDS};
 use witness::words::record;
 use witness::{plan_watched, State, WORDS};
 
@@ -17,12 +18,6 @@ fn told_words(job: &Job, state: &State, records: usize) -> Vec<u32> {
     words
 }
 
-fn told_counts(state: &State) -> [u64; 5] {
-    let branched = state.branched.len() as u64;
-    let active = state.active.len() as u64;
-    [branched, state.generated, state.eliminated, active, state.most]
-}
-
 fn check_size(job: &Job, states: &[State], keeps: &[usize], records: usize) {
     let refused = keeps.iter().position(|&k| k > records);
     let stands = refused.unwrap_or(states.len()) - 1;
@@ -34,7 +29,7 @@ fn check_size(job: &Job, states: &[State], keeps: &[usize], records: usize) {
     });
     assert_eq!(seen, stands + 1, "{job:?}");
     assert_eq!(report.number, if refused.is_some() { 7 } else { 0 }, "{job:?}");
-    assert_eq!(report.counts(), told_counts(&states[stands]), "{job:?}");
+    assert_eq!(report.counts(), counts_of(&states[stands]), "{job:?}");
     assert_eq!(pool, told_words(job, &states[stands], records), "{job:?}");
     let parts = report.branched + report.eliminated + report.active;
     assert_eq!(report.generated, parts, "{job:?}");
@@ -103,8 +98,7 @@ fn earlier_contents_play_no_part() {
         let table = random.table_of_kind(4, 0);
         let job = Job::new(4, &table, choice, &[]);
         for records in [1, 4, 9, 30, 65] {
-            let mut dirty: Vec<u32> =
-                (0..records * WORDS).map(|_| random.next() as u32).collect();
+            let mut dirty = random.words(records * WORDS);
             let report = job.run_in(&mut dirty);
             assert_eq!((report, dirty), job.run(records));
         }

@@ -3,7 +3,8 @@
 
 mod common;
 
-use common::{Random, T};
+use common::T;
+use samples::Random;
 use witness::{plan, Report};
 
 /// A call on table T that passes every check, to be spoiled in places.

@@ -3,7 +3,7 @@
 
 mod common;
 
-use common::{ample, for_each_job, Job};
+use common::{ample, counts_of, for_each_job, Job};
 use witness::node::Node;
 use witness::State;
 
@@ -119,10 +119,7 @@ fn check_report(job: &Job, last: &State) {
     let (upper, best) = upper_of(last);
     assert_eq!((report.number, report.cost), (0, upper));
     assert_eq!(&report.order[..job.n], best);
-    let counts = [last.generated, last.eliminated, last.most];
-    assert_eq!([report.generated, report.eliminated, report.most], counts);
-    assert_eq!(report.branched, last.branched.len() as u64);
-    assert_eq!(report.active, last.active.len() as u64);
+    assert_eq!(report.counts(), counts_of(last));
     let (active, branched) = common::read_pool(job, &report, &pool);
     assert_eq!(active, bare(&last.active));
     let kept = if job.rule(4) { bare(&last.branched) } else { Vec::new() };

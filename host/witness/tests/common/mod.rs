@@ -1,55 +1,12 @@
-//! What the tests share: a fixed generator, tables, jobs, and the definitions
-//! of document 01 worked out once more from an order alone.
+//! What the tests share: jobs, and the definitions of document 01 worked out
+//! once more from an order alone.
 #![allow(dead_code)]
 
+use samples::{Random, KINDS};
 use witness::legs::Legs;
-use witness::{plan, plan_watched, Report, Request, State, WORDS};
+use witness::{plan_watched, Report, Request, State, WORDS};
 
 pub const T: [u32; 16] = [0, 4, 7, 9, 5, 0, 2, 6, 3, 8, 0, 1, 6, 5, 4, 0];
-
-/// splitmix64.
-pub struct Random(pub u64);
-
-impl Random {
-    pub fn next(&mut self) -> u64 {
-        self.0 = self.0.wrapping_add(0x9E37_79B9_7F4A_7C15);
-        let mut z = self.0;
-        z = (z ^ (z >> 30)).wrapping_mul(0xBF58_476D_1CE4_E5B9);
-        z = (z ^ (z >> 27)).wrapping_mul(0x94D0_49BB_1331_11EB);
-        z ^ (z >> 31)
-    }
-
-    pub fn below(&mut self, limit: u64) -> u64 {
-        self.next() % limit
-    }
-
-    /// Legs from `low` to `high`, both directions by themselves.
-    pub fn table(&mut self, n: usize, low: u32, high: u32) -> Vec<u32> {
-        let mut table = vec![0; (n + 1) * (n + 1)];
-        for i in 0..=n {
-            for j in (0..=n).filter(|&j| j != i) {
-                table[i * (n + 1) + j] = low + self.below((high - low + 1) as u64) as u32;
-            }
-        }
-        table
-    }
-
-    /// Tie-heavy kinds first, the wide ones last.
-    pub fn table_of_kind(&mut self, n: usize, kind: usize) -> Vec<u32> {
-        let (low, high) = KINDS[kind];
-        self.table(n, low, high)
-    }
-
-    pub fn order(&mut self, n: usize) -> Vec<u32> {
-        let mut order: Vec<u32> = (1..=n as u32).collect();
-        for i in (1..n).rev() {
-            order.swap(i, self.below(i as u64 + 1) as usize);
-        }
-        order
-    }
-}
-
-pub const KINDS: [(u32, u32); 6] = [(0, 2), (1, 1), (0, 0), (0, 1), (1, 12), (0, 1_000_000)];
 
 /// A job without its pool.
 #[derive(Clone, Debug)]
@@ -80,8 +37,7 @@ impl Job {
     }
 
     pub fn run_in(&self, pool: &mut [u32]) -> Report {
-        let Job { n, table, selection, rules, bound, start } = self;
-        plan(*n as u64, table, *selection, *rules, *bound, start, pool)
+        plan_watched(&self.request(), pool, &mut |_| {})
     }
 
     pub fn run(&self, records: usize) -> (Report, Vec<u32>) {
@@ -170,20 +126,33 @@ pub fn choices() -> Vec<[u64; 3]> {
     all
 }
 
-/// Holds `check` to jobs over `tables` tables of each kind: every choice, with
-/// and without a starting order.
-pub fn for_each_job(seed: u64, n: usize, tables: usize, check: impl Fn(&Job)) {
-    let mut random = Random(seed);
+/// Holds `check` to `tables` tables of each kind.
+pub fn for_each_table(random: &mut Random, n: usize, tables: usize, check: impl Fn(&mut Random, &[u32])) {
     for kind in 0..KINDS.len() {
         for _ in 0..tables {
             let table = random.table_of_kind(n, kind);
-            let start = random.order(n);
-            for choice in choices() {
-                check(&Job::new(n, &table, choice, &[]));
-                check(&Job::new(n, &table, choice, &start));
-            }
+            check(random, &table);
         }
     }
+}
+
+/// Holds `check` to jobs over `tables` tables of each kind: every choice, with
+/// and without a starting order.
+pub fn for_each_job(seed: u64, n: usize, tables: usize, check: impl Fn(&Job)) {
+    for_each_table(&mut Random(seed), n, tables, |random, table| {
+        let start = random.order(n);
+        for choice in choices() {
+            check(&Job::new(n, table, choice, &[]));
+            check(&Job::new(n, table, choice, &start));
+        }
+    });
+}
+
+/// The counts of a report on the state.
+pub fn counts_of(state: &State) -> [u64; 5] {
+    let branched = state.branched.len() as u64;
+    let active = state.active.len() as u64;
+    [branched, state.generated, state.eliminated, active, state.most]
 }
 
 /// The order that a record writes down; the record must be well formed.
