@@ -1,4 +1,5 @@
 pub mod ViewLaws
+pub mod SliceLaws
 pub mod SiftLaws
 pub mod StayLaws
 pub mod RivalLaws

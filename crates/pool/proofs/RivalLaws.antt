@@ -1,5 +1,5 @@
--- Records that can dominate a child. Of records that all hold a set, each is dominated only by records that hold it (`apart`), so it is
--- free of some records if it is free of those of them that hold the set (`free-near`). Gathering these goes one record at a time
+-- Records that can dominate a child. Of records that are all near a set, each is dominated only by records that are near it (`apart`), so it
+-- is free of some records if it is free of those of them that are near (`free-near`). Gathering these goes one record at a time
 -- (`gathered-none`, `gathered-fails`, `gathered-passes`), and passes over children by what was gathered of one slice after another are
 -- one pass by the whole slice (`sifted-near`). Assumes nothing.
 use mathlib.Core.Path.{_≡_, refl, ap, sym, subst, _∙_}
@@ -18,25 +18,30 @@ use Rattle.lists.proofs.Tests.{same-tests, to-false, and-right, compared}
 use Rattle.lists.proofs.Members.{in-keep, keep-in, any-in, in-any}
 use Rattle.stops.specs.Record.{emptyRecord, recDominates}
 use Rattle.stops.specs.declared.node.Node.{Node as Record}
-use Rattle.pool.specs.Passes.{Sifted, isFree, holds, AllHold, Gathering}
-use Rattle.pool.proofs.SiftLaws.{keep-slice-more, sifted-all, sifted-twice, sifted-same, free-append}
+use Rattle.pool.specs.Passes.{Sifted, isFree, near, AllNear, Gathering}
+use Rattle.pool.proofs.SliceLaws.{keep-append, keep-slice-more, slice-join, AllSo}
+use Rattle.pool.proofs.SiftLaws.{sifted-all, sifted-twice, sifted-same, free-append}
 
--- records of other sets do not dominate
+-- records of other sizes or sets do not dominate
+sizes-apart : (y z : Record) → (y .size ≡ z .size → ⊥) → false ≡ recDominates y z
+unfolding recDominates
+sizes-apart y z h = simp (ne-eqb (y .size) (z .size) h)
+
 pub sets-apart : (y z : Record) → (y .set ≡ z .set → ⊥) → false ≡ recDominates y z
 unfolding recDominates
 sets-apart y z h = simp (ne-eqb (y .set) (z .set) h, and-false)
 
-dominates-set : (y z : Record) → T (recDominates y z) → y .set ≡ z .set
-dominates-set y z h = go (compared (y .set) (z .set))
+dominates-same : (y z : Record) → T (recDominates y z) → (y .size ≡ z .size) × (y .set ≡ z .set)
+dominates-same y z h = (go (sizes-apart y z) (compared (y .size) (z .size)), go (sets-apart y z) (compared (y .set) (z .set)))
   where
-    go : (y .set ≡ z .set) ⊎ (y .set ≢ z .set) → y .set ≡ z .set
-    go (inl e) = e
-    go (inr n) = absurd (rw (← sets-apart y z n) at h)
+    go : {a b : ℕ} → ((a ≡ b → ⊥) → false ≡ recDominates y z) → (a ≡ b) ⊎ (a ≢ b) → a ≡ b
+    go apart (inl e) = e
+    go apart (inr n) = absurd (rw (← apart n) at h)
 
--- what dominates a record that holds a set holds it
-dominating-holds : (base : ℕ) (y x : Record) → T (holds base x) → T (recDominates y x) → T (holds base y)
-unfolding holds
-dominating-holds base y x h d = rw (dominates-set y x d) h
+-- what dominates is near where what it dominates is
+same-near : (size base : ℕ) (y x : Record) → T (recDominates y x) → near size base y ≡ near size base x
+unfolding near
+same-near size base y x d = let same = dominates-same y x d in rw (same .0, same .1)
 
 any-near :
     {A : Type 0} (f g : A → Bool) (ys : List A) → ((y : A) → T (f y) → T (g y)) → any f (keep g ys) ≡ any f ys
@@ -48,57 +53,53 @@ any-near f g ys both = same-tests (any f (keep g ys)) (any f ys) less more
     more : T (any f ys) → T (any f (keep g ys))
     more h = let (y, m, t) = any-in f ys h in in-any f (keep g ys) y (keep-in g ys y m (both y t)) t
 
-free-near : (limit base : ℕ) (ys : List Record) (x : Record) → T (holds base x) → isFree limit (keep (holds base) ys) x ≡ isFree limit ys x
+free-near :
+    (limit size base : ℕ) (ys : List Record) (x : Record) → T (near size base x)
+    → isFree limit (keep (near size base) ys) x ≡ isFree limit ys x
 unfolding isFree
-free-near limit base ys x h =
+free-near limit size base ys x h =
     ap not
-    (any-near (λ y. leb (y .bound) limit && recDominates y x) (holds base) ys
-    (λ y t. dominating-holds base y x h (and-right (leb (y .bound) limit) (recDominates y x) t)))
+    (any-near (λ y. leb (y .bound) limit && recDominates y x) (near size base) ys
+    (λ y t. rw (same-near size base y x (and-right (leb (y .bound) limit) (recDominates y x) t)) h))
 
 free-none : (limit from : ℕ) (l : List Record) (x : Record) → T (isFree limit (slice from from l) x)
 unfolding isFree
 free-none limit from l x = rw (slice-empty from l) tt
 
--- a record that does not hold the set is dominated by none that does
-pub apart : (base : ℕ) (kids : List Record) (x : Record) → AllHold base kids → holds base x ≡ false → any (λ y. recDominates y x) kids ≡ false
-unfolding holds
-apart base kids x all h = to-false (any (λ y. recDominates y x) kids) (not-T (any (λ y. recDominates y x) kids) none)
+-- a record that is not near is dominated by none that is
+pub apart :
+    (size base : ℕ) (kids : List Record) (x : Record) → AllNear size base kids → near size base x ≡ false
+    → any (λ y. recDominates y x) kids ≡ false
+apart size base kids x all h = to-false (any (λ y. recDominates y x) kids) (not-T (any (λ y. recDominates y x) kids) none)
   where
     none : T (any (λ y. recDominates y x) kids) → ⊥
     none t =
         let (y, m, d) = any-in (λ y. recDominates y x) kids t in
-        rw (dominates-set y x d, h) at (all y m)
+        rw (same-near size base y x d, h) at (all y m)
 
--- gathering, one record at a time
+-- gathering, one record at a time; a run of records that fail leaves what was gathered
 module _ (test : Record → Bool) (l : List Record) (from : ℕ) where
-  pub gathered-none : (near : List Record) → Gathering test l from from near 0
-  gathered-none near = record { front = rw (slice-empty from l); room = omega arith }
+  pub gathered-none : (buffer : List Record) → Gathering test l from from buffer 0
+  gathered-none buffer = record { front = rw (slice-empty from l); room = omega arith }
 
-  module _ (to : ℕ) (near : List Record) (count : ℕ) (gathered : Gathering test l from to near count) (ordered : from ≤ to) where
+  module _ (to : ℕ) (buffer : List Record) (count : ℕ) (gathered : Gathering test l from to buffer count) (ordered : from ≤ to) where
+    pub gathered-run : (end : ℕ) → to ≤ end → end ≤ length l → AllSo test emptyRecord l to false end → Gathering test l from end buffer count
+    gathered-run end behind inside none = record {
+      front = rw (← slice-join l from to end ordered behind inside, keep-append, none, append-nil) (gathered .front);
+      room = gathered .room;
+    }
+
     -- x was read at `to`
     module _ (inside : to < length l) (x : Record) (read : x ≡ getD l to emptyRecord) where
       keeps : keep test (slice from (to + 1) l) ≡ keep test (slice from to l) ++ put (test x) x []
       keeps = rw read (keep-slice-more test emptyRecord from to l ordered inside)
 
-      pub gathered-fails : test x ≡ false → Gathering test l from (to + 1) near count
-      gathered-fails fails = record { front = rw (keeps, fails, append-nil) (gathered .front); room = gathered .room }
-
       pub gathered-passes :
-          test x ≡ true → count < length near → (near′ : List Record) → near′ ≡ set near count x → Gathering test l from (to + 1) near′ (count + 1)
-      gathered-passes passes free near′ stored = record {
-        front = rw (stored, keeps, passes, add-one, take-suc-set near count x free, gathered .front);
+          test x ≡ true → count < length buffer → (buffer′ : List Record) → buffer′ ≡ set buffer count x → Gathering test l from (to + 1) buffer′ (count + 1)
+      gathered-passes passes free buffer′ stored = record {
+        front = rw (stored, keeps, passes, add-one, take-suc-set buffer count x free, gathered .front);
         room = rw (stored, length-set) (omega arith);
       }
-
-slice-join :
-    (l : List Record) (from mid to : ℕ) → from ≤ mid → mid ≤ to → to ≤ length l → slice from mid l ++ slice mid to l ≡ slice from to l
-slice-join l from mid to h k inside =
-    let past : mid + (to - mid) ≡ to = omega arith in
-    let long : length (take mid l) ≡ mid = length-take-le mid l (omega arith) in
-    let whole : take to l ≡ take mid l ++ take (to - mid) (drop mid l) =
-    ap (λ (t : ℕ). take t l) (sym past) ∙ take-add mid (to - mid) l in
-    let second : drop mid (take to l) ≡ take (to - mid) (drop mid l) = ap (drop mid) whole ∙ drop-at (take mid l) _ mid long in
-    rw (second, whole, drop-append-le from (take mid l) (take (to - mid) (drop mid l)) (omega arith))
 
 -- no record yet: nothing is sifted out
 pub sifted-unsearched :
@@ -106,24 +107,24 @@ pub sifted-unsearched :
 sifted-unsearched limit from l k m inside = sifted-all (isFree limit (slice from from l)) k m (free-none limit from l) inside
 
 -- a pass by the records from `from` to `mid`, and one by those gathered from there to `to`
-module _ (limit base : ℕ) (l : List Record) (from mid to : ℕ) (before : from ≤ mid) (behind : mid ≤ to) (inside : to ≤ length l) where
+module _ (limit size base : ℕ) (l : List Record) (from mid to : ℕ) (before : from ≤ mid) (behind : mid ≤ to) (inside : to ≤ length l) where
   pub sifted-near :
-      (near : List Record) (count : ℕ) → Gathering (holds base) l mid to near count → {k k′ k″ : List Record} {m e r : ℕ}
-      → AllHold base (take m k) → Sifted (isFree limit (slice from mid l)) k 0 m 0 k′ e
-      → Sifted (isFree limit (slice 0 count near)) k′ 0 e 0 k″ r → Sifted (isFree limit (slice from to l)) k 0 m 0 k″ r
-  sifted-near near count gathered all first second =
+      (buffer : List Record) (count : ℕ) → Gathering (near size base) l mid to buffer count → {k k′ k″ : List Record} {m e r : ℕ}
+      → AllNear size base (take m k) → Sifted (isFree limit (slice from mid l)) k 0 m 0 k′ e
+      → Sifted (isFree limit (slice 0 count buffer)) k′ 0 e 0 k″ r → Sifted (isFree limit (slice from to l)) k 0 m 0 k″ r
+  sifted-near buffer count gathered all first second =
       sifted-same
-      (λ x. isFree limit (slice from mid l) x && isFree limit (slice 0 count near) x)
+      (λ x. isFree limit (slice from mid l) x && isFree limit (slice 0 count buffer) x)
       (isFree limit (slice from to l))
       (λ x i.
       ap (λ (b : Bool). isFree limit (slice from mid l) x && b)
-      (ap (λ (ys : List Record). isFree limit ys x) (gathered .front) ∙ free-near limit base (slice mid to l) x (all x i))
+      (ap (λ (ys : List Record). isFree limit ys x) (gathered .front) ∙ free-near limit size base (slice mid to l) x (all x i))
       ∙ free-append limit (slice from mid l) (slice mid to l) x
       ∙ ap (λ (ys : List Record). isFree limit ys x) (slice-join l from mid to before behind inside))
       (sifted-twice first second)
 
--- what a pass keeps holds the set still
-pub sifted-hold :
-    {test : Record → Bool} {l l′ : List Record} {m r : ℕ} (base : ℕ) → Sifted test l 0 m 0 l′ r → AllHold base (take m l)
-    → AllHold base (take r l′)
-sifted-hold {test} {l} {m = m} base sifted all x i = all x (in-keep test (take m l) x (subst (λ (xs : List Record). In x xs) (sifted .front) i) .0)
+-- what a pass keeps is near still
+pub sifted-near-still :
+    {test : Record → Bool} {l l′ : List Record} {m r : ℕ} (size base : ℕ) → Sifted test l 0 m 0 l′ r → AllNear size base (take m l)
+    → AllNear size base (take r l′)
+sifted-near-still {test} {l} {m = m} size base sifted all x i = all x (in-keep test (take m l) x (subst (λ (xs : List Record). In x xs) (sifted .front) i) .0)

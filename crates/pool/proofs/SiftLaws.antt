@@ -1,63 +1,27 @@
 -- Laws of `Sifted` at a partial index, for a loop that reads the record at `to`, goes one on, and stores the record at e if it passes
 -- the test: at the start nothing is moved (`sifted-none`); a record that passes is stored at e (`sifted-passes`); one that fails is left
--- out (`sifted-fails`). Before them, `keep` and `any` of a slice that grows by one, and `any` where one element decides.
--- Assumes nothing.
+-- out (`sifted-fails`). A run that passes is moved as one (`sifted-run`), and the records behind one that is taken out move up
+-- (`taken-out`). Then laws of passes over the first records, one over what the other left (`sifted-twice`). Assumes nothing.
 use mathlib.Core.Path.{_≡_, refl, ap, sym, _∙_}
-use mathlib.Core.Bool.{Bool, true, false, not, _&&_, _||_, or-true, or-false}
+use mathlib.Core.Bool.{Bool, true, false, not, cond, _&&_, _||_, or-true, or-false}
 use mathlib.Core.List.{List, [], _∷_, _++_, append-assoc, append-nil}
+use mathlib.Core.Logic.{⊎-elim}
 use Prim.Native.Nat.{ℕ, zero, suc, _+_, _-_, _≤_, _<_}
 use native.Mathlib.Numerals.{add-one}
 use native.Mathlib.Nat.{add-zero}
 use native.Mathlib.Omega.{arith}
-use lib.Dec.{T, leb}
+use borrow.Author.Tests.{lt-ltb, le-ltb}
+use lib.Dec.{T, leb, ltb}
 use lib.ListN.{length, getD, take, drop, set, length-append, length-take, length-drop, length-set}
 use lib.Seq.{slice, slice-empty, length-slice, length-take-le, take-suc, take-suc-set, take-add, take-at, drop-at, drop-append-le, drop-set-lt, drop-drop, getD-drop}
 use Rattle.lists.specs.Lists.{In, put, keep, any}
 use Rattle.lists.proofs.Keep.{keep-same, keep-all, keep-keep, any-append}
 use Rattle.lists.proofs.Numbers.{keep-parts}
+use Rattle.lists.proofs.Tests.{ordered}
 use Rattle.stops.specs.Record.{emptyRecord, recDominates}
 use Rattle.stops.specs.declared.node.Node.{Node as Record}
+use Rattle.pool.proofs.SliceLaws.{keep-append, keep-slice-more, slice-join, drop-further, slice-further, AllSo}
 use Rattle.pool.specs.Passes.{Sifted, isFree, always}
-
-module _ {A : Type 0} where
-  pub keep-append : (test : A → Bool) (xs ys : List A) → keep test (xs ++ ys) ≡ keep test xs ++ keep test ys
-  keep-append test [] ys = refl
-  keep-append test (x ∷ xs) ys = go (test x) (keep-append test xs ys)
-    where
-      go :
-          (b : Bool) → keep test (xs ++ ys) ≡ keep test xs ++ keep test ys
-          → put b x (keep test (xs ++ ys)) ≡ put b x (keep test xs) ++ keep test ys
-      go true e = ap (λ (l : List A). x ∷ l) e
-      go false e = e
-
-  slice-more :
-      (d : A) (from to : ℕ) (l : List A) → from ≤ to → to < length l → slice from (to + 1) l ≡ slice from to l ++ (getD l to d ∷ [])
-  slice-more d from to l h k =
-      let e : length (take to l) ≡ to = length-take-le to l (omega arith) in
-      let h′ : from ≤ length (take to l) = omega arith in
-      rw (add-one, take-suc l to d, drop-append-le)
-
-  module _ (test : A → Bool) (d : A) (from to : ℕ) (l : List A) (ordered : from ≤ to) (inside : to < length l) where
-    pub keep-slice-more : keep test (slice from (to + 1) l) ≡ keep test (slice from to l) ++ put (test (getD l to d)) (getD l to d) []
-    keep-slice-more = rw (slice-more d from to l ordered inside, keep-append)
-
-    pub any-slice-more : any test (slice from (to + 1) l) ≡ (any test (slice from to l) || test (getD l to d))
-    any-slice-more = rw (slice-more d from to l ordered inside, any-append, or-false)
-
-  pub any-slice-none : (test : A → Bool) (from : ℕ) (l : List A) → any test (slice from from l) ≡ false
-  any-slice-none test from l = rw (slice-empty from l)
-
-  pub any-slice-found :
-      (test : A → Bool) (d : A) (from to i : ℕ) (l : List A) → from ≤ i → i < to → to ≤ length l → test (getD l i d) ≡ true
-      → any test (slice from to l) ≡ true
-  any-slice-found test d from to i [] h k inside p = absurd (omega arith)
-  any-slice-found test d from zero i (x ∷ xs) h k inside p = absurd (omega arith)
-  any-slice-found test d zero (suc to) zero (x ∷ xs) h k inside p = rw p
-  any-slice-found test d zero (suc to) (suc i) (x ∷ xs) h k inside p =
-      rw (any-slice-found test d zero to i xs (omega arith) (omega arith) (omega arith) p, or-true)
-  any-slice-found test d (suc from) (suc to) zero (x ∷ xs) h k inside p = absurd (omega arith)
-  any-slice-found test d (suc from) (suc to) (suc i) (x ∷ xs) h k inside p =
-      any-slice-found test d from to i xs (omega arith) (omega arith) (omega arith) p
 
 -- At most as many records are stored as are read, and the first is stored at or before the first read, so e is at most `to`
 -- (`sifted-within`). So a store at e changes no record that is still to be read, and those before e stay the ones kept so far.
@@ -71,7 +35,7 @@ module _ (test : Record → Bool) (l : List Record) (from at : ℕ) where
   }
 
   module _ (to : ℕ) (l′ : List Record) (e : ℕ) (sifted : Sifted test l from to at l′ e) (ahead : at ≤ from) (ordered : from ≤ to) where
-    sifted-within : to ≤ length l → e ≤ to
+    pub sifted-within : to ≤ length l → e ≤ to
     sifted-within inside = omega (arith, sifted .count, keep-parts test (slice from to l), length-slice from to l inside)
 
     next-stays : getD l′ to emptyRecord ≡ getD l to emptyRecord
@@ -201,3 +165,51 @@ free-append limit ys zs x = rw any-append (neither (any rival ys) (any rival zs)
     neither : (a b : Bool) → (not a && not b) ≡ not (a || b)
     neither true b = refl
     neither false b = refl
+
+-- a slide to where the records stand
+pub sifted-still : (l : List Record) (from to : ℕ) → from ≤ to → to ≤ length l → Sifted always l from to from l to
+unfolding always
+sifted-still l from to ordered inside =
+    let passing : keep (λ x. true) (slice from to l) ≡ slice from to l = keep-all (λ x. true) (slice from to l) (λ x m. tt) in
+    record {
+      same-length = refl;
+      front = rw (passing, slice-join l 0 from to (omega arith) ordered inside);
+      count = rw passing (omega (arith, length-slice from to l inside));
+      behind = refl;
+    }
+
+pub past-on : (i end to next : ℕ) → i ≤ end → end ≤ to → i < to → next ≡ cond (ltb end to) (end + 1) end → (i < next) × (next ≤ to)
+past-on i end to next h k l e =
+    ⊎-elim
+    (λ o. let same : next ≡ end = rw (e, le-ltb end to o) in omega arith)
+    (λ o. let same : next ≡ end + 1 = rw (e, lt-ltb end to o) in omega arith)
+    (ordered to end)
+
+-- A run of records that all pass is moved to where the others stand, by one slide; then comes one that fails, or the end.
+module _ (test : Record → Bool) (l : List Record) (from i at : ℕ) (ahead : at ≤ from) (before : from ≤ i) (l′ : List Record) (e : ℕ) where
+  pub sifted-run :
+      Sifted test l from i at l′ e → (end : ℕ) → i ≤ end → end ≤ length l → AllSo test emptyRecord l′ i true end → (l″ : List Record) (e″ : ℕ)
+      → Sifted always l′ i end e l″ e″ → Sifted test l from end at l″ e″
+  unfolding always
+  sifted-run first end behind inside all l″ e″ slid =
+      let same : slice i end l′ ≡ slice i end l = slice-further i l′ l (first .behind) i end (omega arith) in
+      let passing : keep (λ x. true) (slice i end l′) ≡ slice i end l = keep-all (λ x. true) (slice i end l′) (λ x m. tt) ∙ same in
+      let kept : keep test (slice from end l) ≡ keep test (slice from i l) ++ slice i end l =
+      rw (← slice-join l from i end before behind inside, keep-append, ← same, all) in
+      record {
+        same-length = slid .same-length ∙ first .same-length;
+        front = rw (slid .front, passing, first .front, kept, append-assoc);
+        count = rw (kept, length-append) (omega (arith, slid .count, first .count, ap length passing));
+        behind = slid .behind ∙ drop-further i l′ l (first .behind) end behind;
+      }
+
+  pub sifted-past :
+      Sifted test l from i at l′ e → (to next : ℕ) → i ≤ to → to ≤ length l → (l₀ : List Record) → drop i l′ ≡ drop i l₀
+      → (i < to → test (getD l₀ i emptyRecord) ≡ false) → next ≡ cond (ltb i to) (i + 1) i → Sifted test l from next at l′ e
+  sifted-past sifted to next below inside l₀ same met e =
+      let first : i + 0 ≡ i = omega arith in
+      let here : getD l₀ i emptyRecord ≡ getD l′ i emptyRecord =
+      rw (← first, ← getD-drop i l₀ 0 emptyRecord, ← getD-drop i l′ 0 emptyRecord, same) in
+      ⊎-elim (λ h. rw (e, le-ltb i to h) sifted)
+      (λ h. rw (e, lt-ltb i to h) (sifted-fails test l from at i l′ _ sifted ahead before (omega arith) (getD l₀ i emptyRecord) here (met h)))
+      (ordered to i)

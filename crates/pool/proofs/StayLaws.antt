@@ -21,14 +21,15 @@ use Rattle.stops.specs.declared.node.Node.{Node as Record}
 use Rattle.pool.specs.View.{records}
 use Rattle.pool.specs.Passes.{Sifted, isStaying, always}
 use Rattle.pool.proofs.ViewLaws.{length-records, records-drop, records-join}
-use Rattle.pool.proofs.SiftLaws.{keep-slice-more, any-slice-more, taken-out}
+use Rattle.pool.proofs.SliceLaws.{keep-slice-more, any-slice-more}
+use Rattle.pool.proofs.SiftLaws.{taken-out}
 
 or-right-true : (b c : Bool) → c ≡ true → (b || c) ≡ true
 or-right-true true c e = refl
 or-right-true false c e = e
 
 -- an element before r passes: some of the first r does
-any-found :
+pub any-found :
     {A : Type 0} (test : A → Bool) (d : A) (l : List A) (k r : ℕ) → k < r → r ≤ length l → test (getD l k d) ≡ true
     → any test (take r l) ≡ true
 any-found test d [] k r h inside p = absurd (omega arith)

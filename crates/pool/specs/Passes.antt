@@ -1,7 +1,7 @@
 -- What choosing and the rules' passes do to lists of records. Assumes nothing.
 use mathlib.Core.Path.{_≡_}
-use mathlib.Core.Bool.{Bool, true, false, not, _&&_}
-use mathlib.Core.List.{List, _++_}
+use mathlib.Core.Bool.{Bool, true, false, not, cond, _&&_}
+use mathlib.Core.List.{List, [], _++_}
 use Prim.Native.Nat.{ℕ, suc, _+_, _≤_, _<_}
 use lib.Bits.{bitAnd}
 use lib.Dec.{T, leb, eqb}
@@ -64,13 +64,20 @@ isFree limit ys x = not (any (λ y. leb (y .bound) limit && recDominates y x) ys
 unfoldable pub isStaying : ℕ → List Record → Record → Bool
 isStaying limit kids x = leb (x .bound) limit && not (any (λ y. recDominates y x) kids)
 
--- The set of a record holds a set of stops. A record that dominates another has its set, so among records that all hold one set only
--- those that hold it too are to be looked at.
-unfoldable pub holds : ℕ → Record → Bool
-holds base x = eqb (bitAnd (x .set) base) base
+-- A record is near a set of stops if its set holds them and it has some size. A record that dominates another has its size and its set,
+-- so of records that are all near one set only those that are near it too are to be looked at.
+unfoldable pub near : ℕ → ℕ → Record → Bool
+near size base x = eqb (bitAnd (x .set) base) base && eqb (x .size) size
 
-abbrev pub AllHold : ℕ → List Record → Type 0
-AllHold base xs = (x : Record) → In x xs → T (holds base x)
+abbrev pub AllNear : ℕ → ℕ → List Record → Type 0
+AllNear size base xs = (x : Record) → In x xs → T (near size base x)
+
+-- r is the first place from `from` to `to` at which the test is not what it should be, or `to`
+pub record RunsTo (test : Record → Bool) (should : Bool) (l : List Record) (from to r : ℕ) : Type 0 where
+  pub from-there : from ≤ r
+  pub up-to : r ≤ to
+  pub all-so : keep test (slice from r l) ≡ cond should (slice from r l) []
+  pub met : r < to → test (getD l r emptyRecord) ≡ not should
 
 -- those of the elements of l from `from` to `to` that pass the test stand at the front of `near`, and are `count`
 pub record Gathering (test : Record → Bool) (l : List Record) (from to : ℕ) (near : List Record) (count : ℕ) : Type 0 where

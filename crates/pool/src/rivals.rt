@@ -1,14 +1,13 @@
 // Which children a record of the pool dominates: rules 2 and 4.
 ghost use mathlib.Core.Path.{_≡_};
-ghost use mathlib.Core.Bool.{_&&_};
+ghost use mathlib.Core.Bool.{false, _&&_};
 ghost use Prim.Native.Nat.{_+_, _≤_, _<_};
-ghost use lib.Bits.{bitAnd};
-ghost use lib.Dec.{leb, eqb};
+ghost use lib.Dec.{leb};
 ghost use lib.ListN.{length, getD, take};
 ghost use lib.Seq.{slice};
 ghost use Rattle.stops.specs.Record.{emptyRecord, recDominates};
 ghost use Rattle.pool.specs.View.{records};
-ghost use Rattle.pool.specs.Passes.{Sifted, isFree, holds, AllHold, Gathering};
+ghost use Rattle.pool.specs.Passes.{Sifted, isFree, near, AllNear, Gathering, RunsTo};
 use crate::record::load;
 use crate::record::store;
 use stops::node::Node;
@@ -58,39 +57,62 @@ fn undominated(kids: &mut [u32], m: usize, w: &[u32], from: usize, to: usize, li
     r
 }
 
+// Whether a record has some size and its set holds every stop of base.
+pub fn near(x: Node, size: u32, base: u32) -> bool
+    ensures { λ r. ⌜ r ≡ near size base x ⌝ }
+{
+    if x.set & base != base {
+        return false;
+    }
+    x.size == size
+}
+
+// The first of the records from `from` to `to` that is near base, or `to`.
+fn next_near(w: &[u32], from: usize, to: usize, size: u32, base: u32) -> usize
+    requires { ⌜ (from ≤ to) × (to ≤ length (records (now w))) ⌝ }
+    ensures { λ r. ⌜ RunsTo (near size base) false (records (now (w .entry))) from to r ⌝ }
+{
+    let mut i = from;
+    while i < to {
+        if near(load(w, i), size, base) {
+            return i;
+        }
+        i += 1;
+    }
+    to
+}
+
 // What came of gathering some records: how many, and where to go on.
 struct Gathered {
     count: usize,
     next: usize,
 }
 
-// Whether a set holds every stop of another.
-pub fn holds(set: u32, base: u32) -> bool
-    ensures { λ r. ⌜ r ≡ eqb (bitAnd set base) base ⌝ }
-{
-    set & base == base
-}
-
-// Copies the records of w from `from` on whose set holds base to the front of near, up to `to` or until there are as many as room.
-fn gather(w: &[u32], from: usize, to: usize, base: u32, near: &mut [u32], room: usize) -> Gathered
-    requires { ⌜ ((from ≤ to) × (to ≤ length (records (now w)))) × ((0 < room) × (room ≤ length (records (now near)))) ⌝ }
-    ensures { λ g. ⌜ Gathering (holds base) (records (now (w .entry))) from (g .next) (records (now (near .exit))) (g .count) × ((from ≤ g .next) × ((g .next ≤ to) × (from < to → from < g .next))) ⌝ }
+// Copies the records of w from `from` on that are near base to the front of buffer, up to `to` or until there are as many as room.
+fn gather(
+    w: &[u32],
+    from: usize,
+    to: usize,
+    size: u32,
+    base: u32,
+    buffer: &mut [u32],
+    room: usize,
+) -> Gathered
+    requires { ⌜ ((from ≤ to) × (to ≤ length (records (now w)))) × ((0 < room) × (room ≤ length (records (now buffer)))) ⌝ }
+    ensures { λ g. ⌜ Gathering (near size base) (records (now (w .entry))) from (g .next) (records (now (buffer .exit))) (g .count) × ((from ≤ g .next) × ((g .next ≤ to) × (from < to → from < g .next))) ⌝ }
 {
     let mut count = 0;
-    let mut i = from;
+    let mut i = next_near(w, from, to, size, base);
     while i < to {
-        let x = load(w, i);
-        i += 1;
-        if holds(x.set, base) {
-            store(near, count, x);
-            count += 1;
-            if count == room {
-                return Gathered {
-                    count: count,
-                    next: i,
-                };
-            }
+        store(buffer, count, load(w, i));
+        count += 1;
+        if count == room {
+            return Gathered {
+                count: count,
+                next: i + 1,
+            };
         }
+        i = next_near(w, i + 1, to, size, base);
     }
     Gathered {
         count: count,
@@ -105,24 +127,25 @@ fn unrivalled_with(
     w: &[u32],
     from: usize,
     to: usize,
+    size: u32,
     base: u32,
     limit: u32,
-    near: &mut [u32],
+    buffer: &mut [u32],
 ) -> usize
-    requires { ⌜ ((m ≤ length (records (now kids))) × AllHold base (take m (records (now kids)))) × (((from ≤ to) × (to ≤ length (records (now w)))) × (32 ≤ length (records (now near)))) ⌝ }
+    requires { ⌜ ((m ≤ length (records (now kids))) × AllNear size base (take m (records (now kids)))) × (((from ≤ to) × (to ≤ length (records (now w)))) × (32 ≤ length (records (now buffer)))) ⌝ }
     ensures { λ r. ⌜ Sifted (isFree limit (slice from to (records (now (w .entry))))) (records (now (kids .entry))) 0 m 0 (records (now (kids .exit))) r ⌝ }
 {
     let mut left = m;
     let mut at = from;
     while at < to {
-        let g = gather(w, at, to, base, near, 32);
-        left = undominated(kids, left, near, 0, g.count, limit);
+        let g = gather(w, at, to, size, base, buffer, 32);
+        left = undominated(kids, left, buffer, 0, g.count, limit);
         at = g.next;
     }
     left
 }
 
-// Rules 2 and 4 on children whose sets all hold base: keeps those of the first m that no record of w, from `from` to `to`, with a bound up
+// Rules 2 and 4 on children that are all near base: keeps those of the first m that no record of w, from `from` to `to`, with a bound up
 // to limit dominates. One walk of w gathers the records that can dominate a child, some at a time, for the walk over the children.
 pub fn unrivalled(
     kids: &mut [u32],
@@ -130,12 +153,13 @@ pub fn unrivalled(
     w: &[u32],
     from: usize,
     to: usize,
+    size: u32,
     base: u32,
     limit: u32,
 ) -> usize
-    requires { ⌜ ((m ≤ length (records (now kids))) × AllHold base (take m (records (now kids)))) × ((from ≤ to) × (to ≤ length (records (now w)))) ⌝ }
+    requires { ⌜ ((m ≤ length (records (now kids))) × AllNear size base (take m (records (now kids)))) × ((from ≤ to) × (to ≤ length (records (now w)))) ⌝ }
     ensures { λ r. ⌜ Sifted (isFree limit (slice from to (records (now (w .entry))))) (records (now (kids .entry))) 0 m 0 (records (now (kids .exit))) r ⌝ }
 {
-    let mut near = [0u32; 192];
-    unrivalled_with(kids, m, w, from, to, base, limit, &mut near)
+    let mut buffer = [0u32; 192];
+    unrivalled_with(kids, m, w, from, to, size, base, limit, &mut buffer)
 }

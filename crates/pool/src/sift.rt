@@ -1,19 +1,18 @@
 // The passes of the rules. Each keeps, of some records, those that pass a test, in their order.
 ghost use mathlib.Core.Path.{_≡_};
-ghost use mathlib.Core.Bool.{_&&_};
-ghost use mathlib.Core.List.{_++_};
+ghost use mathlib.Core.Bool.{true, not, cond};
 ghost use Prim.Native.Nat.{_+_, _≤_, _<_};
-ghost use lib.Dec.{leb};
-ghost use lib.ListN.{length, getD, take, drop};
+ghost use lib.Dec.{ltb};
+ghost use lib.ListN.{length, take};
 ghost use lib.Seq.{slice};
-ghost use Rattle.lists.specs.Lists.{keep};
-ghost use Rattle.stops.specs.Record.{emptyRecord, recDominates};
+ghost use Rattle.lists.specs.Lists.{keep, any};
+ghost use Rattle.stops.specs.Record.{recDominates};
 ghost use Rattle.pool.specs.View.{records};
-ghost use Rattle.pool.specs.Passes.{Sifted, isWithin, isStaying, always, AllHold};
+ghost use Rattle.pool.specs.Passes.{Sifted, RunsTo, isWithin, isStaying, always, AllNear};
 use crate::record::load;
 use crate::record::store;
 use crate::rivals::beats;
-use crate::rivals::holds;
+use crate::rivals::near;
 use stops::node::Node;
 
 // Rule 1 on children: keeps those of the first m whose bound is at most limit.
@@ -34,17 +33,11 @@ pub fn within(kids: &mut [u32], m: usize, limit: u32) -> usize
     r
 }
 
-// Whether x stays active: its bound is at most limit, and none of the first r kids, whose sets all hold base, dominates it.
-fn stays(x: Node, limit: u32, base: u32, kids: &[u32], r: usize) -> bool
-    requires { ⌜ (r ≤ length (records (now kids))) × AllHold base (take r (records (now kids))) ⌝ }
-    ensures { λ b. ⌜ b ≡ isStaying limit (take r (records (now (kids .entry)))) x ⌝ }
+// Whether none of the first r kids dominates x.
+fn unbeaten(x: Node, kids: &[u32], r: usize) -> bool
+    requires { ⌜ r ≤ length (records (now kids)) ⌝ }
+    ensures { λ b. ⌜ b ≡ not (any (λ y. recDominates y x) (take r (records (now (kids .entry))))) ⌝ }
 {
-    if limit < x.bound {
-        return false;
-    }
-    if !holds(x.set, base) {
-        return true;
-    }
     let mut k = 0;
     while k < r {
         if beats(kids, k, x) {
@@ -55,23 +48,38 @@ fn stays(x: Node, limit: u32, base: u32, kids: &[u32], r: usize) -> bool
     true
 }
 
+// Whether x stays active: its bound is at most limit, and none of the first r kids, which are all near base, dominates it.
+fn stays(x: Node, limit: u32, size: u32, base: u32, kids: &[u32], r: usize) -> bool
+    requires { ⌜ (r ≤ length (records (now kids))) × AllNear size base (take r (records (now kids))) ⌝ }
+    ensures { λ b. ⌜ b ≡ isStaying limit (take r (records (now (kids .entry)))) x ⌝ }
+{
+    if limit < x.bound {
+        return false;
+    }
+    if !near(x, size, base) {
+        return true;
+    }
+    unbeaten(x, kids, r)
+}
+
 // How many records from `from` to `to` stay active.
 pub fn staying(
     w: &[u32],
     from: usize,
     to: usize,
     limit: u32,
+    size: u32,
     base: u32,
     kids: &[u32],
     r: usize,
 ) -> usize
-    requires { ⌜ (from ≤ to) × ((to ≤ length (records (now w))) × ((r ≤ length (records (now kids))) × AllHold base (take r (records (now kids))))) ⌝ }
+    requires { ⌜ (from ≤ to) × ((to ≤ length (records (now w))) × ((r ≤ length (records (now kids))) × AllNear size base (take r (records (now kids))))) ⌝ }
     ensures { λ k. ⌜ k ≡ length (keep (isStaying limit (take r (records (now (kids .entry))))) (slice from to (records (now (w .entry))))) ⌝ }
 {
     let mut count = 0;
     let mut i = from;
     while i < to {
-        if stays(load(w, i), limit, base, kids, r) {
+        if stays(load(w, i), limit, size, base, kids, r) {
             count += 1;
         }
         i += 1;
@@ -79,31 +87,28 @@ pub fn staying(
     count
 }
 
-// Moves those of the records from `from` to `to` that stay active to `at` and behind it.
-pub fn sift(
-    w: &mut [u32],
+// The first of the records from `from` to `to` that does not stay active, or `to`.
+fn next_gone(
+    w: &[u32],
     from: usize,
     to: usize,
-    at: usize,
     limit: u32,
+    size: u32,
     base: u32,
     kids: &[u32],
     r: usize,
 ) -> usize
-    requires { ⌜ (at ≤ from) × ((from ≤ to) × ((to ≤ length (records (now w))) × ((r ≤ length (records (now kids))) × AllHold base (take r (records (now kids)))))) ⌝ }
-    ensures { λ e. ⌜ Sifted (isStaying limit (take r (records (now (kids .entry))))) (records (now (w .entry))) from to at (records (now (w .exit))) e ⌝ }
+    requires { ⌜ (from ≤ to) × ((to ≤ length (records (now w))) × ((r ≤ length (records (now kids))) × AllNear size base (take r (records (now kids))))) ⌝ }
+    ensures { λ e. ⌜ RunsTo (isStaying limit (take r (records (now (kids .entry))))) true (records (now (w .entry))) from to e ⌝ }
 {
-    let mut next = at;
     let mut i = from;
     while i < to {
-        let x = load(w, i);
-        i += 1;
-        if stays(x, limit, base, kids, r) {
-            store(w, next, x);
-            next += 1;
+        if !stays(load(w, i), limit, size, base, kids, r) {
+            return i;
         }
+        i += 1;
     }
-    next
+    to
 }
 
 // Moves the records from `from` to `to` to `at` and behind it.
@@ -111,6 +116,9 @@ pub fn slide(w: &mut [u32], from: usize, to: usize, at: usize) -> usize
     requires { ⌜ (at ≤ from) × ((from ≤ to) × (to ≤ length (records (now w)))) ⌝ }
     ensures { λ e. ⌜ Sifted always (records (now (w .entry))) from to at (records (now (w .exit))) e ⌝ }
 {
+    if at == from {
+        return to;
+    }
     let mut next = at;
     let mut i = from;
     while i < to {
@@ -118,6 +126,41 @@ pub fn slide(w: &mut [u32], from: usize, to: usize, at: usize) -> usize
         store(w, next, x);
         next += 1;
         i += 1;
+    }
+    next
+}
+
+// One past a place that is before `to`.
+fn past(place: usize, to: usize) -> usize
+    ensures { λ r. ⌜ r ≡ cond (ltb place to) (place + 1) place ⌝ }
+{
+    if place < to {
+        return place + 1;
+    }
+    place
+}
+
+// Moves those of the records from `from` to `to` that stay active to `at` and behind it, a run of them at a time.
+pub fn sift(
+    w: &mut [u32],
+    from: usize,
+    to: usize,
+    at: usize,
+    limit: u32,
+    size: u32,
+    base: u32,
+    kids: &[u32],
+    r: usize,
+) -> usize
+    requires { ⌜ (at ≤ from) × ((from ≤ to) × ((to ≤ length (records (now w))) × ((r ≤ length (records (now kids))) × AllNear size base (take r (records (now kids)))))) ⌝ }
+    ensures { λ e. ⌜ Sifted (isStaying limit (take r (records (now (kids .entry))))) (records (now (w .entry))) from to at (records (now (w .exit))) e ⌝ }
+{
+    let mut next = at;
+    let mut i = from;
+    while i < to {
+        let end = next_gone(w, i, to, limit, size, base, kids, r);
+        next = slide(w, i, end, next);
+        i = past(end, to);
     }
     next
 }

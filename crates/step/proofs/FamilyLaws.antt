@@ -1,6 +1,6 @@
 -- What the code of `family` needs of a node's record, and of the loop that writes the children's records one after the other.
 --   rest-sum, rest-small    the stops that it leaves, as a set that fits 16 bits
---   children-hold           each child's set holds its own
+--   children-near           each child has one stop more, and its set holds its own
 --   kid-places              its last stop and those that it leaves are places of the table
 --   kid-wide, kid-small     its numbers have room for one of those stops, and 32 bits hold the child's bound
 --   kid-made                the record extended, with what the bound adds, is the child
@@ -14,15 +14,17 @@ use native.Mathlib.Nat.{mul-le-mul-right}
 use native.Mathlib.Numerals.{add-one}
 use native.Mathlib.Omega.{arith}
 use lib.Bits.{bitAnd}
-use lib.Dec.{leb, eqb, eqb-refl}
+use lib.Count.{ones}
+use lib.Dec.{T, leb, eqb, eqb-refl}
 use lib.ListN.{length, take, set, length-set, length-map}
 use lib.Pow.{pow-pos, pow-mono}
 use lib.Seq.{take-suc-set}
 use Rattle.lists.specs.Lists.{In}
 use Rattle.lists.proofs.Members.{in-map}
-use Rattle.orders.specs.Orders.{left}
+use Rattle.lists.proofs.Tests.{and-both}
+use Rattle.orders.specs.Orders.{left, extend}
 use Rattle.orders.proofs.Partial.{partial-size}
-use Rattle.orders.proofs.Sets.{size-left}
+use Rattle.orders.proofs.Sets.{size-left, size-extend}
 use Rattle.stops.specs.Legs.{rowLeg, legs, path}
 use Rattle.stops.specs.Record.{Wide, extended, lastStop, stopsIn, ahead}
 use Rattle.stops.specs.declared.node.Node.{Node as Record}
@@ -30,8 +32,8 @@ use Rattle.stops.proofs.Paths.{path-small}
 use Rattle.stops.proofs.SetBits.{stopsIn-zero, stopsIn-range, stopsIn-few, stopsIn-added}
 use Rattle.stops.proofs.SetLoops.{First, ahead-small}
 use Rattle.pool.specs.View.{encode}
-use Rattle.pool.specs.Passes.{holds, AllHold}
-use Rattle.pool.proofs.Mask.{mask-stops, stops-left}
+use Rattle.pool.specs.Passes.{near, AllNear}
+use Rattle.pool.proofs.Mask.{mask-stops, stops-left, ones-set, mask-extend}
 use Rattle.pool.proofs.Encode.{encode-wide}
 use Rattle.step.specs.OnRecords.{Rows, Encoded, restOf, bounded, childOf, childrenOf}
 
@@ -69,13 +71,25 @@ module _ {n : ℕ} {t : List (List ℕ)} {k : ℕ} {b : Record} (rows : Rows n t
       let short : length x ≤ 16 = omega (arith, partial-size n x (e .partial), size-left n x, rows .few) in
       (same, omega (arith, path-small 1_000_000 (legs t) (rows .cheap) x, mul-le-mul-right 1_000_000 short))
 
-  -- each child's set holds b's
-  pub children-hold : AllHold (b .set) (childrenOf n t k b)
-  unfolding childrenOf childOf bounded extended holds
-  children-hold x i =
-      let (s, m, same) = in-map (childOf n t k b) (stopsIn (restOf n b)) x i in
+  -- each child has one stop more than b, and its set holds b's
+  one-more : (s : ℕ) → In s (stopsIn (restOf n b)) → ones (b .set + 2 ^ (s - 1)) ≡ b .size + 1
+  unfolding encode
+  one-more s m =
+      let y = e .node in
+      let there : In s (left n y) = subst (λ (xs : List ℕ). In s xs) rest-left m in
+      rw (e .same, ← mask-extend n y s there, ones-set n (rows .few) (extend y s)) (omega (arith, size-extend n y s there))
+
+  child-near : (s : ℕ) → In s (stopsIn (restOf n b)) → T (near (b .size + 1) (b .set) (childOf n t k b s))
+  unfolding childOf bounded extended near
+  child-near s m =
       let kept : bitAnd (b .set + 2 ^ (s - 1)) (b .set) ≡ b .set = stopsIn-added n (b .set) (restOf n b) s (rest-sum .0) rest-small m in
-      rw (same, kept) (eqb-refl (b .set))
+      rw (kept, one-more s m) (and-both (eqb (b .set) (b .set)) (eqb (b .size + 1) (b .size + 1)) (eqb-refl (b .set)) (eqb-refl (b .size + 1)))
+
+  pub children-near : AllNear (b .size + 1) (b .set) (childrenOf n t k b)
+  unfolding childrenOf
+  children-near x i =
+      let (s, m, same) = in-map (childOf n t k b) (stopsIn (restOf n b)) x i in
+      subst (λ (y : Record). T (near (b .size + 1) (b .set) y)) (sym same) (child-near s m)
 
 -- what `child` asks: b is a node's record, place its last stop, rest the stops that it leaves, and s one of them
 abbrev Kid : ℕ → List (List ℕ) → ℕ → Record → ℕ → ℕ → ℕ → Type 0

@@ -15,25 +15,8 @@ use Rattle.lists.proofs.Keep.{keep-all}
 use Rattle.lists.proofs.Numbers.{keep-parts}
 use Rattle.stops.specs.declared.node.Node.{Node as Record}
 use Rattle.pool.specs.Passes.{Sifted, dropAt, isStaying, always}
-use Rattle.pool.proofs.SiftLaws.{keep-append}
+use Rattle.pool.proofs.SliceLaws.{keep-append, drop-further, slice-further}
 use Rattle.step.specs.OnRecords.{Active, stayingOf}
-
--- lists that are the same from i on
-module _ {A : Type 0} where
-  drop-take : (f t : ℕ) (l : List A) → drop f (take t l) ≡ take (t - f) (drop f l)
-  drop-take zero t l = simp unary-clauses
-  drop-take (suc f) zero l = let none : 0 - suc f ≡ 0 = omega arith in rw none
-  drop-take (suc f) (suc t) [] = simp take-nil
-  drop-take (suc f) (suc t) (x ∷ l) = simp unary-clauses (drop-take f t l)
-
-  module _ (i : ℕ) (l′ l : List A) (same : drop i l′ ≡ drop i l) where
-    drop-further : (j : ℕ) → i ≤ j → drop j l′ ≡ drop j l
-    drop-further j h =
-        let n : j ≡ i + (j - i) = omega arith in
-        rw (n, ← drop-drop (j - i) i l′, ← drop-drop (j - i) i l, same)
-
-    slice-further : (f t : ℕ) → i ≤ f → slice f t l′ ≡ slice f t l
-    slice-further f t h = rw (drop-take f t l′, drop-take f t l, drop-further f h)
 
 -- those to keep, in place of the first a of recs, stand at the front of recs′, e in number; the records from a on are as before
 pub record Gathered (kept recs : List Record) (a : ℕ) (recs′ : List Record) (e : ℕ) : Type 0 where
@@ -47,7 +30,7 @@ others : (recs : List Record) (a i : ℕ) → i < a → dropAt i (take a recs) �
 unfolding dropAt
 others recs a i inside = let h : i ≤ a = omega arith in rw (add-one, take-take i a recs h)
 
-module _ (recs : List Record) (a i limit : ℕ) (kids : List Record) (taking : ℕ) {base : ℕ} (active : Active recs a i base kids taking) where
+module _ (recs : List Record) (a i limit : ℕ) (kids : List Record) (taking : ℕ) {size base : ℕ} (active : Active recs a i size base kids taking) where
   abbrev kept : List Record
   kept = stayingOf recs a i limit kids taking
 

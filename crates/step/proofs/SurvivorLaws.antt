@@ -19,7 +19,7 @@ use Rattle.search.specs.Step.{on}
 use Rattle.stops.specs.Record.{recDominates}
 use Rattle.stops.specs.Stops.{aboveEveryCost}
 use Rattle.stops.specs.declared.node.Node.{Node as Record}
-use Rattle.pool.specs.Passes.{Sifted, isWithin, isFree, dropAt, AllHold}
+use Rattle.pool.specs.Passes.{Sifted, isWithin, isFree, dropAt, AllNear}
 use Rattle.pool.proofs.SiftLaws.{sifted-all, sifted-fewer, sifted-twice, free-append}
 use Rattle.step.specs.OnRecords.{passing, survivorsOf}
 
@@ -78,7 +78,7 @@ module _ (rules limit : ℕ) (rest far : List Record) where
       let sifted = sifted-twice first (sifted-twice second third) in
       rw (survivors-kept (take m l)) (sifted .front, (sifted-fewer sifted, omega (arith, sifted .count)))
 
-  -- what holds a set holds it still
-  pub survivors-hold : (base : ℕ) (xs : List Record) → AllHold base xs → AllHold base (survivorsOf rules limit rest far xs)
-  survivors-hold base xs all x i =
+  -- what is near a set is near it still
+  pub survivors-near : (size base : ℕ) (xs : List Record) → AllNear size base xs → AllNear size base (survivorsOf rules limit rest far xs)
+  survivors-near size base xs all x i =
       all x (in-keep survives xs x (subst (λ (ys : List Record). In x ys) (survivors-kept xs) i) .0)

@@ -25,7 +25,7 @@ use Rattle.stops.specs.Record.{emptyRecord, extended, lastStop, recDominates, s
 use Rattle.stops.specs.Stops.{aboveEveryCost}
 use Rattle.stops.specs.declared.node.Node.{Node as Record}
 use Rattle.pool.specs.View.{records, encode}
-use Rattle.pool.specs.Passes.{isWithin, isFree, isStaying, dropAt, AllHold}
+use Rattle.pool.specs.Passes.{isWithin, isFree, isStaying, dropAt, AllNear}
 use Rattle.step.specs.declared.best.Best.{Best}
 use Rattle.step.specs.declared.Run.{Run}
 use Rattle.step.specs.declared.After.{After}
@@ -89,13 +89,13 @@ survivorsOf rules limit rest far kids =
     passing (on 4 rules) (isFree aboveEveryCost far)
     (passing (on 2 rules) (isFree limit rest) (passing (on 1 rules) (isWithin limit) kids))
 
--- the active records are the first a of some, b stands at i among them, and the first `taking` kids, which hold b's set, take part in
--- rule 8
-pub record Active (recs : List Record) (a i base : ℕ) (kids : List Record) (taking : ℕ) : Type 0 where
+-- the active records are the first a of some, b stands at i among them, and the first `taking` kids, which are near b's set, take part
+-- in rule 8
+pub record Active (recs : List Record) (a i size base : ℕ) (kids : List Record) (taking : ℕ) : Type 0 where
   pub inside : i < a
   pub whole : a ≤ length recs
   pub kids-few : taking ≤ length kids
-  pub kids-hold : AllHold base (take taking kids)
+  pub kids-near : AllNear size base (take taking kids)
 
 -- what rules 1 and 8 leave of them, without b
 unfoldable pub stayingOf : List Record → ℕ → ℕ → ℕ → List Record → ℕ → List Record

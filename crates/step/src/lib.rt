@@ -95,7 +95,19 @@ fn expand(
     let m = family(t, n, number, b, kids);
     let best = learn(kids, m, n, known);
     let limit = limit_of(rules, best.upper);
-    let left = survivors(kids, m, w, records, a, i, far, b.set, rules, limit);
+    let left = survivors(
+        kids,
+        m,
+        w,
+        records,
+        a,
+        i,
+        far,
+        b.size + 1,
+        b.set,
+        rules,
+        limit,
+    );
     Expanded {
         count: m,
         left: left,
@@ -130,10 +142,24 @@ pub fn step(
     let taking = taking_of(rules, left);
     let held = holding(rules, far);
     let all = all_stay(rules, known.upper, best.upper, taking);
-    if !fits(w, count, a, i, limit, b.set, &kids, left, taking, held, all) {
+    let size = b.size + 1;
+    if !fits(
+        w,
+        count,
+        a,
+        i,
+        limit,
+        size,
+        b.set,
+        &kids,
+        left,
+        taking,
+        held,
+        all,
+    ) {
         return After::Full;
     }
-    let active = replace(w, a, i, limit, b.set, &kids, left, taking, all);
+    let active = replace(w, a, i, limit, size, b.set, &kids, left, taking, all);
     hold(w, count, held, b);
     After::Go(counted(r, best, e.count, active, held))
 }

@@ -50,15 +50,16 @@ fn remaining(
     a: usize,
     i: usize,
     limit: u32,
+    size: u32,
     base: u32,
     kids: &[u32],
     taking: usize,
 ) -> usize
-    requires { ⌜ Active (records (now w)) a i base (records (now kids)) taking ⌝ }
+    requires { ⌜ Active (records (now w)) a i size base (records (now kids)) taking ⌝ }
     ensures { λ r. ⌜ r ≡ length (stayingOf (records (now (w .entry))) a i limit (records (now (kids .entry))) taking) ⌝ }
 {
-    let before = staying(w, 0, i, limit, base, kids, taking);
-    let behind = staying(w, i + 1, a, limit, base, kids, taking);
+    let before = staying(w, 0, i, limit, size, base, kids, taking);
+    let behind = staying(w, i + 1, a, limit, size, base, kids, taking);
     before + behind
 }
 
@@ -69,6 +70,7 @@ pub fn fits(
     a: usize,
     i: usize,
     limit: u32,
+    size: u32,
     base: u32,
     kids: &[u32],
     left: usize,
@@ -76,7 +78,7 @@ pub fn fits(
     held: usize,
     all: bool,
 ) -> bool
-    requires { ⌜ Active (records (now w)) a i base (records (now kids)) taking × ((T all → length (stayingOf (records (now w)) a i limit (records (now kids)) taking) ≡ a - 1) × ((left ≤ 16) × (held ≤ a + length (records (now w))))) ⌝ }
+    requires { ⌜ Active (records (now w)) a i size base (records (now kids)) taking × ((T all → length (stayingOf (records (now w)) a i limit (records (now kids)) taking) ≡ a - 1) × ((left ≤ 16) × (held ≤ a + length (records (now w))))) ⌝ }
     ensures { λ r. ⌜ r ≡ leb (length (stayingOf (records (now (w .entry))) a i limit (records (now (kids .entry))) taking) + left + held) count ⌝ }
 {
     let most = a - 1 + left + held;
@@ -86,7 +88,7 @@ pub fn fits(
     if all {
         return false;
     }
-    let stay = remaining(w, a, i, limit, base, kids, taking);
+    let stay = remaining(w, a, i, limit, size, base, kids, taking);
     stay + left + held <= count
 }
 
@@ -96,16 +98,17 @@ fn sifted(
     a: usize,
     i: usize,
     limit: u32,
+    size: u32,
     base: u32,
     kids: &[u32],
     left: usize,
     taking: usize,
 ) -> usize
-    requires { ⌜ Active (records (now w)) a i base (records (now kids)) taking × ((left ≤ length (records (now kids))) × (length (stayingOf (records (now w)) a i limit (records (now kids)) taking) + left ≤ length (records (now w)))) ⌝ }
+    requires { ⌜ Active (records (now w)) a i size base (records (now kids)) taking × ((left ≤ length (records (now kids))) × (length (stayingOf (records (now w)) a i limit (records (now kids)) taking) + left ≤ length (records (now w)))) ⌝ }
     ensures { λ r. ⌜ (take r (records (now (w .exit))) ≡ stayingOf (records (now (w .entry))) a i limit (records (now (kids .entry))) taking ++ take left (records (now (kids .entry)))) × ((r ≡ length (stayingOf (records (now (w .entry))) a i limit (records (now (kids .entry))) taking) + left) × ((j : ℕ) → a ≤ j → r ≤ j → drop j (records (now (w .exit))) ≡ drop j (records (now (w .entry))))) ⌝ }
 {
-    let before = sift(w, 0, i, 0, limit, base, kids, taking);
-    let end = sift(w, i + 1, a, before, limit, base, kids, taking);
+    let before = sift(w, 0, i, 0, limit, size, base, kids, taking);
+    let end = sift(w, i + 1, a, before, limit, size, base, kids, taking);
     write_at(w, end, kids, left);
     end + left
 }
@@ -117,13 +120,14 @@ pub fn replace(
     a: usize,
     i: usize,
     limit: u32,
+    size: u32,
     base: u32,
     kids: &[u32],
     left: usize,
     taking: usize,
     all: bool,
 ) -> usize
-    requires { ⌜ Active (records (now w)) a i base (records (now kids)) taking × ((T all → stayingOf (records (now w)) a i limit (records (now kids)) taking ≡ dropAt i (take a (records (now w)))) × ((left ≤ length (records (now kids))) × (length (stayingOf (records (now w)) a i limit (records (now kids)) taking) + left ≤ length (records (now w))))) ⌝ }
+    requires { ⌜ Active (records (now w)) a i size base (records (now kids)) taking × ((T all → stayingOf (records (now w)) a i limit (records (now kids)) taking ≡ dropAt i (take a (records (now w)))) × ((left ≤ length (records (now kids))) × (length (stayingOf (records (now w)) a i limit (records (now kids)) taking) + left ≤ length (records (now w))))) ⌝ }
     ensures { λ r. ⌜ (take r (records (now (w .exit))) ≡ stayingOf (records (now (w .entry))) a i limit (records (now (kids .entry))) taking ++ take left (records (now (kids .entry)))) × ((r ≡ length (stayingOf (records (now (w .entry))) a i limit (records (now (kids .entry))) taking) + left) × ((j : ℕ) → a ≤ j → r ≤ j → drop j (records (now (w .exit))) ≡ drop j (records (now (w .entry))))) ⌝ }
 {
     if all {
@@ -131,7 +135,7 @@ pub fn replace(
         write_at(w, end, kids, left);
         return end + left;
     }
-    sifted(w, a, i, limit, base, kids, left, taking)
+    sifted(w, a, i, limit, size, base, kids, left, taking)
 }
 
 // The branched node joins those at the far end, if the pool holds them.

@@ -6,7 +6,7 @@ ghost use lib.ListN.{length, take, drop};
 ghost use Rattle.search.specs.Step.{on};
 ghost use Rattle.stops.specs.Stops.{aboveEveryCost};
 ghost use Rattle.pool.specs.View.{records};
-ghost use Rattle.pool.specs.Passes.{Sifted, AllHold, dropAt, isWithin, isFree};
+ghost use Rattle.pool.specs.Passes.{Sifted, AllNear, dropAt, isWithin, isFree};
 ghost use Rattle.step.specs.OnRecords.{survivorsOf};
 use pool::rivals::unrivalled;
 use pool::sift::within;
@@ -29,23 +29,24 @@ fn by_rule_1(kids: &mut [u32], m: usize, rules: u32, limit: u32) -> usize
     m
 }
 
-// Part 4 on the first m children, whose sets all hold base. The active records are the first a, without that at i.
+// Part 4 on the first m children, which are all near base. The active records are the first a, without that at i.
 fn by_rule_2(
     kids: &mut [u32],
     m: usize,
     w: &[u32],
     a: usize,
     i: usize,
+    size: u32,
     base: u32,
     rules: u32,
     limit: u32,
 ) -> usize
-    requires { ⌜ ((m ≤ length (records (now kids))) × AllHold base (take m (records (now kids)))) × ((i < a) × (a ≤ length (records (now w)))) ⌝ }
+    requires { ⌜ ((m ≤ length (records (now kids))) × AllNear size base (take m (records (now kids)))) × ((i < a) × (a ≤ length (records (now w)))) ⌝ }
     ensures { λ r. ⌜ Sifted (λ x. not (on 2 rules) || isFree limit (dropAt i (take a (records (now (w .entry))))) x) (records (now (kids .entry))) 0 m 0 (records (now (kids .exit))) r ⌝ }
 {
     if rules / 2 % 2 == 1 {
-        let left = unrivalled(kids, m, w, 0, i, base, limit);
-        return unrivalled(kids, left, w, i + 1, a, base, limit);
+        let left = unrivalled(kids, m, w, 0, i, size, base, limit);
+        return unrivalled(kids, left, w, i + 1, a, size, base, limit);
     }
     m
 }
@@ -57,14 +58,15 @@ fn by_rule_4(
     w: &[u32],
     count: usize,
     held: usize,
+    size: u32,
     base: u32,
     rules: u32,
 ) -> usize
-    requires { ⌜ ((m ≤ length (records (now kids))) × AllHold base (take m (records (now kids)))) × ((count ≡ length (records (now w))) × (held ≤ count)) ⌝ }
+    requires { ⌜ ((m ≤ length (records (now kids))) × AllNear size base (take m (records (now kids)))) × ((count ≡ length (records (now w))) × (held ≤ count)) ⌝ }
     ensures { λ r. ⌜ Sifted (λ x. not (on 4 rules) || isFree aboveEveryCost (drop (count - held) (records (now (w .entry)))) x) (records (now (kids .entry))) 0 m 0 (records (now (kids .exit))) r ⌝ }
 {
     if rules / 4 % 2 == 1 {
-        return unrivalled(kids, m, w, count - held, count, base, 4_294_967_295);
+        return unrivalled(kids, m, w, count - held, count, size, base, 4_294_967_295);
     }
     m
 }
@@ -78,14 +80,15 @@ pub fn survivors(
     a: usize,
     i: usize,
     held: usize,
+    size: u32,
     base: u32,
     rules: u32,
     limit: u32,
 ) -> usize
-    requires { ⌜ ((m ≤ length (records (now kids))) × AllHold base (take m (records (now kids)))) × ((count ≡ length (records (now w))) × ((i < a) × ((a ≤ count) × (held ≤ count)))) ⌝ }
+    requires { ⌜ ((m ≤ length (records (now kids))) × AllNear size base (take m (records (now kids)))) × ((count ≡ length (records (now w))) × ((i < a) × ((a ≤ count) × (held ≤ count)))) ⌝ }
     ensures { λ r. ⌜ (take r (records (now (kids .exit))) ≡ survivorsOf rules limit (dropAt i (take a (records (now (w .entry))))) (drop (count - held) (records (now (w .entry)))) (take m (records (now (kids .entry))))) × ((r ≤ m) × (r ≡ length (survivorsOf rules limit (dropAt i (take a (records (now (w .entry))))) (drop (count - held) (records (now (w .entry)))) (take m (records (now (kids .entry))))))) ⌝ }
 {
     let within_limit = by_rule_1(kids, m, rules, limit);
-    let free = by_rule_2(kids, within_limit, w, a, i, base, rules, limit);
-    by_rule_4(kids, free, w, count, held, base, rules)
+    let free = by_rule_2(kids, within_limit, w, a, i, size, base, rules, limit);
+    by_rule_4(kids, free, w, count, held, size, base, rules)
 }

@@ -6,7 +6,7 @@ use borrow.Author.Needs.{needs}
 use lib.ListN.{length}
 use Rattle.pool.specs.View.{records}
 use Rattle.pool.proofs.ViewLaws.{length-records}
-use Rattle.step.proofs.FamilyLaws.{children-hold}
+use Rattle.step.proofs.FamilyLaws.{children-near}
 use Rattle.step.proofs.ExpandLaws.{same-records, family-few, expansion-made}
 use Rattle.step.proofs.expand.Statement.{statement}
 use Rattle.step.proofs.expand.Tie as tie
@@ -31,9 +31,15 @@ learn-requires c κs =
 limit-of-requires : tie.Need-limit-of-requires
 limit-of-requires c κs = search needs
 
+-- b's size has room for one more
+add-survivors : tie.Need-add-survivors
+add-survivors c =
+    let ready = c .before .before .before .before .before .before .before .before .before .before .before .before .pre .0 in
+    omega (arith, ready .partial, ready .rows .few)
+
 survivors-requires : tie.Need-survivors-requires
 survivors-requires c κs =
-    let made = c .before .before .before .before .before .before in
+    let made = c .before .before .before .before .before .before .before in
     let start = made .before .before .before .before .before in
     let kids = made .family .last .1 .1 .1 .1 .0 in
     let ready = start .pre .0 in
@@ -46,7 +52,7 @@ survivors-requires c κs =
           start .pre .1,
           same-records (start .args .kids .now) kids (made .family .kept .1 .1 .1 .1 .0),
         ),
-        rw (made .family .ensures .0) (children-hold (ready .rows) (ready .encoded)),
+        rw (made .family .ensures .0) (children-near (ready .rows) (ready .encoded)),
       ),
       (sym whole, (ready .inside, (omega (arith, ready .fits, whole), omega (arith, ready .fits, whole)))),
     )
@@ -57,7 +63,7 @@ same-length c = search needs
 returns : tie.Need-returns
 returns c =
     let chose = c .before .before in
-    let made = chose .before .before .before .before .before .before .before in
+    let made = chose .before .before .before .before .before .before .before .before in
     let start = made .before .before .before .before .before in
     let kids = made .family .last .1 .1 .1 .1 .0 in
     expansion-made (records kids) (length (start .args .w .now) / 6) (start .pre .0) (sym (length-records (start .args .w .now)))
@@ -67,7 +73,7 @@ returns c =
       same-records (start .args .kids .now) kids (made .family .kept .1 .1 .1 .1 .0),
       same-records kids (chose .survivors .last .0) (chose .survivors .kept .0),
     ))
-    (made .family .ensures) (chose .before .before .before .learn .ensures) (chose .before .before .limit-of .ensures) (chose .survivors .ensures)
+    (made .family .ensures) (chose .before .before .before .before .learn .ensures) (chose .before .before .before .limit-of .ensures) (chose .survivors .ensures)
 
 pub expand-spec : {M : Type 1} → statement M
-expand-spec = tie.close (tie.spec family-requires learn-requires limit-of-requires survivors-requires same-length returns)
+expand-spec = tie.close (tie.spec family-requires learn-requires limit-of-requires add-survivors survivors-requires same-length returns)

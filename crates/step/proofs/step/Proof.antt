@@ -13,14 +13,14 @@ use lib.Seq.{length-take-le}
 use Rattle.lists.proofs.Tests.{tests}
 use Rattle.search.specs.Step.{on}
 use Rattle.pool.specs.View.{records}
-use Rattle.pool.specs.Passes.{dropAt, AllHold}
+use Rattle.pool.specs.Passes.{dropAt, AllNear}
 use Rattle.pool.proofs.ViewLaws.{length-records, records-small}
 use Rattle.stops.specs.declared.node.Node.{Node as Record}
 use Rattle.step.specs.OnRecords.{Active, stayingOf, heldWith, Shown, stepOf}
 use Rattle.step.specs.declared.Run.{Run}
 use Rattle.step.specs.declared.Expanded.{Expanded}
-use Rattle.step.proofs.FamilyLaws.{children-hold}
-use Rattle.step.proofs.SurvivorLaws.{survivors-hold}
+use Rattle.step.proofs.FamilyLaws.{children-near}
+use Rattle.step.proofs.SurvivorLaws.{survivors-near}
 use Rattle.step.proofs.ExpandLaws.{same-records}
 use Rattle.step.proofs.StepLaws.{Bounded}
 use Rattle.step.proofs.StepShown.{Stage, stage-all, stage-kept}
@@ -82,24 +82,24 @@ others-number d =
     length-take-le (run d .active) (records (words d)) (omega (arith, r .fits)) in
     dropped-length (start d .args .i) (take (run d .active) (records (words d))) (omega (arith, r .inside)) ∙ ap (λ (j : ℕ). j - 1) all
 
--- the survivors hold b's set
-kids-near : (d : tie.After-all-stay) → AllHold (start d .args .b .set) (take (given d .left) (kids d))
-kids-near d =
+-- the survivors are near b's set
+survivors-close : (d : tie.After-all-stay) → AllNear (start d .args .b .size + 1) (start d .args .b .set) (take (given d .left) (kids d))
+survivors-close d =
     let ready = start d .pre in
-    rw (staged d .expansion .survivors) (survivors-hold _ _ _ _ _ _ (children-hold (ready .rows) (ready .encoded)))
+    rw (staged d .expansion .survivors) (survivors-near _ _ _ _ _ _ _ (children-near (ready .rows) (ready .encoded)))
 
 -- those of some kids that take part in rule 8: all, or none
 taking-near :
-    (base : ℕ) (kids : List Record) (left taking : ℕ) (rule : Bool) → taking ≡ cond rule left 0 → AllHold base (take left kids)
-    → AllHold base (take taking kids)
-taking-near base kids left taking true q all = rw q all
-taking-near base kids left taking false q all = rw q (λ x i. absurd (List·Memᴰ·not-nil i))
+    (size base : ℕ) (kids : List Record) (left taking : ℕ) (rule : Bool) → taking ≡ cond rule left 0 → AllNear size base (take left kids)
+    → AllNear size base (take taking kids)
+taking-near size base kids left taking true q all = rw q all
+taking-near size base kids left taking false q all = rw q (λ x i. absurd (List·Memᴰ·not-nil i))
 
 taking-few : (left taking most : ℕ) (rule : Bool) → taking ≡ cond rule left 0 → left ≤ most → taking ≤ most
 taking-few left taking most true q h = omega arith
 taking-few left taking most false q h = omega arith
 
-active : (d : tie.After-all-stay) → Active (records (words d)) (run d .active) (start d .args .i) (start d .args .b .set) (kids d) (taking d)
+active : (d : tie.After-all-stay) → Active (records (words d)) (run d .active) (start d .args .i) (start d .args .b .size + 1) (start d .args .b .set) (kids d) (taking d)
 active d =
     let r = start d .pre in
     let e = staged d .expansion in
@@ -108,7 +108,7 @@ active d =
       inside = r .inside;
       whole = omega (arith, r .fits);
       kids-few = taking-few (given d .left) (taking d) (length (kids d)) (on 8 (start d .args .rules)) part (omega (arith, e .fewer, e .few, e .room));
-      kids-hold = taking-near (start d .args .b .set) (kids d) (given d .left) (taking d) (on 8 (start d .args .rules)) part (kids-near d);
+      kids-near = taking-near (start d .args .b .size + 1) (start d .args .b .set) (kids d) (given d .left) (taking d) (on 8 (start d .args .rules)) part (survivors-close d);
     }
 
 held-few : (d : tie.After-all-stay) → now-held d ≤ run d .held + 1
@@ -137,12 +137,17 @@ holding-requires c κs =
 all-stay-requires : tie.Need-all-stay-requires
 all-stay-requires c κs = search needs
 
+add-size : tie.Need-add-size
+add-size c =
+    let ready = start (c .before) .pre in
+    omega (arith, ready .partial, ready .rows .few)
+
 slice-aggregate-fits : tie.Need-slice-aggregate-fits
 slice-aggregate-fits c = search needs
 
 fits-requires : tie.Need-fits-requires
 fits-requires c κs =
-    let d = c .before .before in
+    let d = c .before .before .before in
     let e = staged d .expansion in (
       active d,
       (
@@ -156,16 +161,16 @@ same-length c = search needs
 
 returns : tie.Need-returns
 returns c s shown =
-    let d = c .before .before .before .before in
+    let d = c .before .before .before .before .before in
     let over : length (words d) / 6 < length (staying d) + given d .left + now-held d =
     leb-false (length (staying d) + given d .left + now-held d) (length (words d) / 6)
     (sym (c .before .fits2 .ensures) ∙ not-true (c .before .fits2 .result) (c .if1 .taken)) in
     (omega (arith, stage-kept (staged d) (bounded d) (start d .pre) s shown, length-records (words d)), refl)
 
 -- the nodes to keep are at most the records
-fitting : (e : tie.Else1) → length (staying (e .before .before .before .before)) + given (e .before .before .before .before) .left + now-held (e .before .before .before .before) ≤ length (records (words (e .before .before .before .before)))
+fitting : (e : tie.Else1) → length (staying (e .before .before .before .before .before)) + given (e .before .before .before .before .before) .left + now-held (e .before .before .before .before .before) ≤ length (records (words (e .before .before .before .before .before)))
 fitting e =
-    let d = e .before .before .before .before in
+    let d = e .before .before .before .before .before in
     let few : length (staying d) + given d .left + now-held d ≤ length (words d) / 6 =
     leb-true (length (staying d) + given d .left + now-held d) (length (words d) / 6)
     (sym (e .before .fits2 .ensures) ∙ not-false (e .before .fits2 .result) (e .if1 .left)) in
@@ -176,21 +181,21 @@ slice-aggregate-replace c = search needs
 
 replace-requires : tie.Need-replace-requires
 replace-requires c κs =
-    let d = c .before .before .before .before .before .before in
+    let d = c .before .before .before .before .before .before .before in
     let e = staged d .expansion in
     (active d, ((λ h. all-stays d h), (omega (arith, e .fewer, e .few, e .room), omega (arith, fitting (c .before .before)))))
 
 hold-requires : tie.Need-hold-requires
 hold-requires c κs =
     let e = c .before .before .before .before .before .before in
-    let d = e .before .before .before .before in
+    let d = e .before .before .before .before .before in
     let put = c .before .before .before .replace in
     (sym (length-records (words d)) ∙ sym (same-records (words d) (put .last .0) (put .kept .0)), omega (arith, fitting e, length-records (words d)))
 
 counted-requires : tie.Need-counted-requires
 counted-requires c κs =
     let e = c .before .before .before .before .before .before .before .before .before in
-    let d = e .before .before .before .before in
+    let d = e .before .before .before .before .before in
     let ready = start d .pre in
     let x = staged d .expansion in
     let put = c .before .before .before .before .before .before .replace in
@@ -208,7 +213,7 @@ returns-2 : tie.Need-returns-2
 returns-2 c s shown =
     let held-by = c .before .before .before .hold in
     let e = c .before .before .before .before .before .before .before .before .before .before in
-    let d = e .before .before .before .before in
+    let d = e .before .before .before .before .before in
     let put = c .before .before .before .before .before .before .before .replace in
     let count : length (words d) / 6 ≡ length (records (words d)) = sym (length-records (words d)) in
     let after : List ℕ = held-by .last .0 in
@@ -229,6 +234,7 @@ step-spec =
     taking-of-requires
     holding-requires
     all-stay-requires
+    add-size
     slice-aggregate-fits
     fits-requires
     same-length

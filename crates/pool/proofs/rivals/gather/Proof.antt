@@ -1,60 +1,72 @@
--- `gather` meets its contract. The loop's invariant is `Gathering` up to i, with room for one more. Assumes nothing.
+-- `gather` meets its contract. The loop's invariant is `Gathering` up to i, with room for one more, and the record at i is near. Assumes
+-- nothing.
 use mathlib.Core.Path.{_≡_, refl, sym, ap, _∙_}
 use mathlib.Core.Bool.{true, false}
 use Prim.Native.Nat.{_+_, _-_, _≤_, _<_}
 use native.Mathlib.Omega.{arith}
 use borrow.Author.Needs.{needs}
-use lib.ListN.{length}
+use lib.ListN.{length, getD}
+use Rattle.stops.specs.Record.{emptyRecord}
 use Rattle.pool.specs.View.{records}
-use Rattle.pool.specs.Passes.{Gathering, holds}
+use Rattle.pool.specs.Passes.{Gathering, RunsTo, near}
 use Rattle.pool.proofs.ViewLaws.{length-records}
-use Rattle.pool.proofs.RivalLaws.{gathered-none, gathered-fails, gathered-passes}
+use Rattle.pool.proofs.RivalLaws.{gathered-none, gathered-run, gathered-passes}
 use Rattle.pool.proofs.rivals.gather.Statement.{statement}
 use Rattle.pool.proofs.rivals.gather.Tie as tie
 
 abbrev Inv-loop : tie.InvT-loop
-Inv-loop w from to base near₀ room count₀ i₀ near count i =
+Inv-loop w from to size base buffer₀ room count₀ i₀ buffer count i =
     ((from ≤ i) × ((i ≤ to) × (count < room)))
-    × ((length near ≡ length near₀) × Gathering (holds base) (records w) from i (records near) count)
+    × ((length buffer ≡ length buffer₀)
+    × (Gathering (near size base) (records w) from i (records buffer) count
+    × (i < to → near size base (getD (records w) i emptyRecord) ≡ true)))
 
 abbrev μ-loop : tie.MeasureT-loop
-μ-loop w from to base near₀ room count₀ i₀ near count i = to - i
+μ-loop w from to size base buffer₀ room count₀ i₀ buffer count i = to - i
+
+next-near-requires : tie.Need-next-near-requires Inv-loop μ-loop
+next-near-requires c κs = search needs
 
 loop-holds : tie.Need-loop-holds Inv-loop μ-loop
-loop-holds c = (omega arith, (refl, gathered-none _ _ _ _))
+loop-holds c =
+    let a = c .before .before .before .args in
+    let run = c .next-near .ensures in
+    let none = gathered-none (near (a .size) (a .base)) (records (a .w .now)) (a .from) (records (a .buffer .now)) in (
+      omega (arith, run .from-there, run .up-to),
+      (
+        refl,
+        (gathered-run _ _ _ _ _ _ none (omega arith) _ (run .from-there) (omega (arith, run .up-to)) (run .all-so), run .met),
+      ),
+    )
 
 load-requires : tie.Need-load-requires Inv-loop μ-loop
 load-requires c κs = omega arith
 
-add-i : tie.Need-add-i Inv-loop μ-loop
-add-i c = omega arith
-
-holds-requires : tie.Need-holds-requires Inv-loop μ-loop
-holds-requires c κs = search needs
-
 store-requires : tie.Need-store-requires Inv-loop μ-loop
 store-requires c κs =
-    let near = c .before .before .before .before .before .loop .near in
-    omega (arith, length-records near, length-records (c .before .before .before .before .before .before .before .before .args .near .now))
+    let buffer = c .before .before .before .loop .buffer in
+    omega (arith, length-records buffer, length-records (c .before .before .before .before .before .before .before .args .buffer .now))
 
 add-count : tie.Need-add-count Inv-loop μ-loop
 add-count c = omega arith
 
+add-t15 : tie.Need-add-t15 Inv-loop μ-loop
+add-t15 c = omega arith
+
 -- one record more, which was stored
 more :
     (c : tie.After-store Inv-loop μ-loop) →
-    let a = c .before .before .before .before .before .before .before .before .before .args in
-    let loop = c .before .before .before .before .before .before .loop in
-    Gathering (holds (a .base)) (records (a .w .now)) (a .from) (loop .i + 1) (records (c .store .last .0)) (loop .count + 1)
-unfolding holds
+    let a = c .before .before .before .before .before .before .before .before .args in
+    let loop = c .before .before .before .before .loop in
+    Gathering (near (a .size) (a .base)) (records (a .w .now)) (a .from) (loop .i + 1) (records (c .store .last .0)) (loop .count + 1)
 more c =
-    let a = c .before .before .before .before .before .before .before .before .before .args in
-    let loop = c .before .before .before .before .before .before .loop in
-    let x = c .before .before .before .before .load .result in
-    let passes : holds (a .base) x ≡ true = sym (c .before .before .before .holds .ensures) ∙ c .before .before .if1 .taken in
-    let free : loop .count < length (records (loop .near)) =
-    omega (arith, length-records (loop .near), length-records (a .near .now)) in
-    gathered-passes _ _ _ _ _ _ (loop .inv .1 .1) (omega arith) (omega arith) x (cc) passes free _ (cc)
+    let a = c .before .before .before .before .before .before .before .before .args in
+    let loop = c .before .before .before .before .loop in
+    let x = c .before .load .result in
+    let passes : near (a .size) (a .base) x ≡ true = rw (c .before .load .ensures) (loop .inv .1 .1 .1 (omega arith)) in
+    let free : loop .count < length (records (loop .buffer)) =
+    omega (arith, length-records (loop .buffer), length-records (a .buffer .now)) in
+    gathered-passes _ _ _ _ _ _ (loop .inv .1 .1 .0) (omega arith) (omega arith) x (cc) passes free _ (cc)
 
 same-length : tie.Need-same-length Inv-loop μ-loop
 same-length c = cc
@@ -62,32 +74,30 @@ same-length c = cc
 returns : tie.Need-returns Inv-loop μ-loop
 returns c = (more (c .before .before .before), (omega arith, (omega arith, λ h. omega arith)))
 
+add-next-near : tie.Need-add-next-near Inv-loop μ-loop
+add-next-near c = omega arith
+
+next-near-requires-2 : tie.Need-next-near-requires-2 Inv-loop μ-loop
+next-near-requires-2 c κs = omega arith
+
 loop-less : tie.Need-loop-less Inv-loop μ-loop
-loop-less c = omega arith
+loop-less c = omega (arith, c .next-near2 .ensures .from-there)
 
 loop-again : tie.Need-loop-again Inv-loop μ-loop
-loop-again c = (omega arith, (cc, more (c .before .before .before)))
-
-loop-less-2 : tie.Need-loop-less-2 Inv-loop μ-loop
-loop-less-2 c = omega arith
-
-loop-again-2 : tie.Need-loop-again-2 Inv-loop μ-loop
-unfolding holds
-loop-again-2 c =
-    let a = c .before .before .before .before .before .before .before .args in
-    let loop = c .before .before .before .before .loop in
-    let x = c .before .before .load .result in
-    let fails : holds (a .base) x ≡ false = sym (c .before .holds .ensures) ∙ c .if1 .left in
-    (omega arith, (loop .inv .1 .0, gathered-fails _ _ _ _ _ _ (loop .inv .1 .1) (omega arith) (omega arith) x (cc) fails))
+loop-again c =
+    let run = c .next-near2 .ensures in
+    let one = more (c .before .before .before .before) in (
+      omega (arith, run .from-there, run .up-to),
+      (cc, (gathered-run _ _ _ _ _ _ one (omega arith) _ (run .from-there) (omega (arith, run .up-to)) (run .all-so), run .met)),
+    )
 
 same-length-2 : tie.Need-same-length-2 Inv-loop μ-loop
 same-length-2 c = c .before .loop .inv .1 .0
 
 returns-2 : tie.Need-returns-2 Inv-loop μ-loop
 returns-2 c =
-    let a = c .before .before .before .before .args in
-    let all : c .before .loop .i ≡ a .to = omega arith in
-    (rw all at (c .before .loop .inv .1 .1), (omega arith, (omega arith, λ h. h)))
+    let all : c .before .loop .i ≡ c .before .before .before .before .before .args .to = omega arith in
+    (rw all at (c .before .loop .inv .1 .1 .0), (omega arith, (omega arith, λ h. h)))
 
 pub gather-spec : {M : Type 1} → statement M
 gather-spec =
@@ -95,17 +105,17 @@ gather-spec =
     (tie.spec
     Inv-loop
     μ-loop
+    next-near-requires
     loop-holds
     load-requires
-    add-i
-    holds-requires
     store-requires
     add-count
+    add-t15
     same-length
     returns
+    add-next-near
+    next-near-requires-2
     loop-less
     loop-again
-    loop-less-2
-    loop-again-2
     same-length-2
     returns-2)

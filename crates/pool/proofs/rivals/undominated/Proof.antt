@@ -14,7 +14,8 @@ use Rattle.stops.specs.Record.{emptyRecord, recDominates}
 use Rattle.stops.specs.declared.node.Node.{Node as Record}
 use Rattle.pool.specs.View.{records}
 use Rattle.pool.specs.Passes.{Sifted, isFree}
-use Rattle.pool.proofs.SiftLaws.{any-slice-none, any-slice-more, any-slice-found, sifted-none, sifted-passes, sifted-fails}
+use Rattle.pool.proofs.SliceLaws.{any-slice-none, any-slice-more, any-slice-found}
+use Rattle.pool.proofs.SiftLaws.{sifted-none, sifted-passes, sifted-fails}
 use Rattle.pool.proofs.rivals.undominated.Statement.{statement}
 use Rattle.pool.proofs.rivals.undominated.Tie as tie
 

@@ -14,13 +14,13 @@ use Rattle.pool.proofs.rivals.unrivalled_with.Statement.{statement}
 use Rattle.pool.proofs.rivals.unrivalled_with.Tie as tie
 
 abbrev Inv-loop : tie.InvT-loop
-Inv-loop kids₀ m w from to base limit near₀ left₀ at₀ kids near left at =
+Inv-loop kids₀ m w from to size base limit buffer₀ left₀ at₀ kids buffer left at =
     ((from ≤ at) × ((at ≤ to) × (left ≤ m)))
-    × (((length near ≡ length near₀) × (length kids ≡ length kids₀))
+    × (((length buffer ≡ length buffer₀) × (length kids ≡ length kids₀))
     × Sifted (isFree limit (slice from at (records w))) (records kids₀) 0 m 0 (records kids) left)
 
 abbrev μ-loop : tie.MeasureT-loop
-μ-loop kids₀ m w from to base limit near₀ left₀ at₀ kids near left at = to - at
+μ-loop kids₀ m w from to size base limit buffer₀ left₀ at₀ kids buffer left at = to - at
 
 loop-holds : tie.Need-loop-holds Inv-loop μ-loop
 loop-holds c =
@@ -29,8 +29,8 @@ loop-holds c =
 
 gather-requires : tie.Need-gather-requires Inv-loop μ-loop
 gather-requires c κs =
-    let near = c .before .before .loop .near in
-    omega (arith, length-records near, length-records (c .before .before .before .before .before .before .args .near .now))
+    let buffer = c .before .before .loop .buffer in
+    omega (arith, length-records buffer, length-records (c .before .before .before .before .before .before .args .buffer .now))
 
 undominated-requires : tie.Need-undominated-requires Inv-loop μ-loop
 undominated-requires c κs =
@@ -52,7 +52,7 @@ loop-again c =
       omega (arith, sifted-fewer left),
       (
         (cc, cc),
-        sifted-near (a .limit) (a .base) (records (a .w .now)) (a .from) (loop .at) _ (omega arith) (gathered .1 .0) (omega arith) _ _
+        sifted-near (a .limit) (a .size) (a .base) (records (a .w .now)) (a .from) (loop .at) _ (omega arith) (gathered .1 .0) (omega arith) _ _
             (gathered .0) all (loop .inv .1 .1) left,
       ),
     )

@@ -1,58 +1,67 @@
--- `sift` meets its contract. The loop's invariant is `Sifted` itself, up to i: what stays of the records passed stands from `at` to
--- `next`, and the records from i on are as at entry, since `next` is at most i. Assumes nothing.
+-- `sift` meets its contract. The loop's invariant is `Sifted` itself, up to i. Assumes nothing.
 use mathlib.Core.Path.{_≡_, refl}
-use Prim.Native.Nat.{_-_, _≤_}
+use mathlib.Core.Bool.{false}
+use Prim.Native.Nat.{_+_, _-_, _≤_, _<_}
 use native.Mathlib.Omega.{arith}
-use lib.ListN.{length, take}
+use borrow.Author.Needs.{needs}
+use lib.ListN.{length, getD, take}
+use Rattle.stops.specs.Record.{emptyRecord}
 use Rattle.pool.specs.View.{records}
 use Rattle.pool.specs.Passes.{Sifted, isStaying}
-use Rattle.pool.proofs.SiftLaws.{sifted-none, sifted-passes, sifted-fails}
+use Rattle.pool.proofs.SiftLaws.{sifted-none, sifted-within, sifted-run, sifted-past, past-on}
 use Rattle.pool.proofs.sift.sift.Statement.{statement}
 use Rattle.pool.proofs.sift.sift.Tie as tie
 
 abbrev Inv-loop : tie.InvT-loop
-Inv-loop w₀ from to at limit base kids r next₀ i₀ w next i =
-    ((from ≤ i) × ((i ≤ to) × (next ≤ i)))
+Inv-loop w₀ from to at limit size base kids r next₀ i₀ w next i =
+    ((from ≤ i) × (i ≤ to))
     × ((length w ≡ length w₀) × Sifted (isStaying limit (take r (records kids))) (records w₀) from i at (records w) next)
 
 abbrev μ-loop : tie.MeasureT-loop
-μ-loop w₀ from to at limit base kids r next₀ i₀ w next i = to - i
+μ-loop w₀ from to at limit size base kids r next₀ i₀ w next i = to - i
 
 loop-holds : tie.Need-loop-holds Inv-loop μ-loop
 loop-holds c = (omega arith, (refl, sifted-none _ _ _ _))
 
-load-requires : tie.Need-load-requires Inv-loop μ-loop
-load-requires c κs = omega arith
+next-gone-requires : tie.Need-next-gone-requires Inv-loop μ-loop
+next-gone-requires c κs =
+    let start = c .before .before .before .before .before in
+    let sifted = c .before .before .loop .inv .1 .1 in
+    (omega arith, (omega (arith, sifted .same-length), start .pre .1 .1 .1))
 
-add-i : tie.Need-add-i Inv-loop μ-loop
-add-i c = omega arith
+slide-requires : tie.Need-slide-requires Inv-loop μ-loop
+slide-requires c κs =
+    let loop = c .before .before .before .before .loop in
+    let sifted = loop .inv .1 .1 in
+    let run = c .before .next-gone .ensures in (
+      sifted-within _ _ _ _ _ _ _ sifted (omega arith) (omega arith) (omega arith),
+      (run .from-there, omega (arith, run .up-to, sifted .same-length)),
+    )
 
-stays-requires : tie.Need-stays-requires Inv-loop μ-loop
-stays-requires c κs = c .before .before .before .before .before .before .pre .1 .1 .1
-
-store-requires : tie.Need-store-requires Inv-loop μ-loop
-store-requires c κs = omega arith
-
-add-next : tie.Need-add-next Inv-loop μ-loop
-add-next c = omega arith
+past-requires : tie.Need-past-requires Inv-loop μ-loop
+past-requires c κs = search needs
 
 loop-less : tie.Need-loop-less Inv-loop μ-loop
-loop-less c = omega arith
+loop-less c =
+    let run = c .before .before .before .before .before .next-gone .ensures in
+    omega (arith, past-on _ _ _ _ (run .from-there) (run .up-to) (omega arith) (c .past .ensures))
 
 loop-again : tie.Need-loop-again Inv-loop μ-loop
 loop-again c =
-    let before = c .before .before .before .before .before .before .before .before .before .loop .inv .1 .1 in
-    let x = c .before .before .before .before .before .before .load .result in
-    (omega arith, (cc, sifted-passes _ _ _ _ _ _ _ before (omega arith) (omega arith) (omega arith) x (cc) (cc) _ (cc)))
-
-loop-less-2 : tie.Need-loop-less-2 Inv-loop μ-loop
-loop-less-2 c = omega arith
-
-loop-again-2 : tie.Need-loop-again-2 Inv-loop μ-loop
-loop-again-2 c =
-    let before = c .before .before .before .before .before .loop .inv .1 .1 in
-    let x = c .before .before .load .result in
-    (omega arith, (cc, sifted-fails _ _ _ _ _ _ _ before (omega arith) (omega arith) (omega arith) x (cc) (cc)))
+    let a = c .before .before .before .before .before .before .before .before .before .before .before .args in
+    let loop = c .before .before .before .before .before .before .before .before .loop in
+    let run = c .before .before .before .before .before .next-gone .ensures in
+    let slid = c .before .before .before .slide .ensures in
+    let on = past-on _ _ _ _ (run .from-there) (run .up-to) (omega arith) (c .past .ensures) in
+    let moved =
+    sifted-run _ _ (a .from) (loop .i) _ (omega arith) (omega arith) _ _ (loop .inv .1 .1) _ (run .from-there) (omega (arith, run .up-to)) (run .all-so) _ _ slid in (
+      omega (arith, on, run .from-there),
+      (
+        cc,
+        sifted-past _ _ _ _ _ (omega arith) (omega (arith, run .from-there)) _ _ moved (a .to) _ (run .up-to) (omega arith) _ (slid .behind) (run .met)
+            (c .past .ensures),
+      ),
+    )
 
 same-length : tie.Need-same-length Inv-loop μ-loop
 same-length c = c .before .loop .inv .1 .0
@@ -69,14 +78,10 @@ sift-spec =
     Inv-loop
     μ-loop
     loop-holds
-    load-requires
-    add-i
-    stays-requires
-    store-requires
-    add-next
+    next-gone-requires
+    slide-requires
+    past-requires
     loop-less
     loop-again
-    loop-less-2
-    loop-again-2
     same-length
     returns)

@@ -5,7 +5,7 @@ use native.Mathlib.Omega.{arith}
 use lib.ListN.{length}
 use Rattle.pool.specs.View.{records}
 use Rattle.pool.specs.Passes.{Sifted, always}
-use Rattle.pool.proofs.SiftLaws.{sifted-none, sifted-passes}
+use Rattle.pool.proofs.SiftLaws.{sifted-none, sifted-passes, sifted-still}
 use Rattle.pool.proofs.sift.slide.Statement.{statement}
 use Rattle.pool.proofs.sift.slide.Tie as tie
 
@@ -15,6 +15,11 @@ Inv-loop w₀ from to at next₀ i₀ w next i =
 
 abbrev μ-loop : tie.MeasureT-loop
 μ-loop w₀ from to at next₀ i₀ w next i = to - i
+
+returns : tie.Need-returns Inv-loop μ-loop
+returns c =
+    let a = c .before .before .args in
+    rw (c .if1 .taken) (sifted-still (records (a .w .now)) (a .from) (a .to) (omega arith) (omega arith))
 
 loop-holds : tie.Need-loop-holds Inv-loop μ-loop
 loop-holds c = (omega arith, (refl, sifted-none _ _ _ _))
@@ -44,9 +49,9 @@ loop-again c =
 same-length : tie.Need-same-length Inv-loop μ-loop
 same-length c = c .before .loop .inv .1 .0
 
-returns : tie.Need-returns Inv-loop μ-loop
-returns c =
-    let all : c .before .loop .i ≡ c .before .before .before .args .to = omega arith in
+returns-2 : tie.Need-returns-2 Inv-loop μ-loop
+returns-2 c =
+    let all : c .before .loop .i ≡ c .before .before .before .before .args .to = omega arith in
     rw all at (c .before .loop .inv .1 .1)
 
 pub slide-spec : {M : Type 1} → statement M
@@ -55,6 +60,7 @@ slide-spec =
     (tie.spec
     Inv-loop
     μ-loop
+    returns
     loop-holds
     load-requires
     store-requires
@@ -63,4 +69,4 @@ slide-spec =
     loop-less
     loop-again
     same-length
-    returns)
+    returns-2)

@@ -13,11 +13,11 @@ use Rattle.pool.proofs.sift.staying.Statement.{statement}
 use Rattle.pool.proofs.sift.staying.Tie as tie
 
 abbrev Inv-loop : tie.InvT-loop
-Inv-loop w from to limit base kids r count₀ i₀ count i =
+Inv-loop w from to limit size base kids r count₀ i₀ count i =
     (from ≤ i) × ((i ≤ to) × (count ≡ length (keep (isStaying limit (take r (records kids))) (slice from i (records w)))))
 
 abbrev μ-loop : tie.MeasureT-loop
-μ-loop w from to limit base kids r count₀ i₀ count i = to - i
+μ-loop w from to limit size base kids r count₀ i₀ count i = to - i
 
 loop-holds : tie.Need-loop-holds Inv-loop μ-loop
 loop-holds c =

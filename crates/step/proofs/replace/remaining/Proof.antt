@@ -6,13 +6,13 @@ use Rattle.step.proofs.replace.remaining.Statement.{statement}
 use Rattle.step.proofs.replace.remaining.Tie as tie
 
 staying-requires : tie.Need-staying-requires
-staying-requires c κs = (omega arith, (omega arith, (omega arith, c .before .before .pre .kids-hold)))
+staying-requires c κs = (omega arith, (omega arith, (omega arith, c .before .before .pre .kids-near)))
 
 add-staying : tie.Need-add-staying
 add-staying c = omega arith
 
 staying-requires-2 : tie.Need-staying-requires-2
-staying-requires-2 c κs = (omega arith, (omega arith, (omega arith, c .before .before .before .pre .kids-hold)))
+staying-requires-2 c κs = (omega arith, (omega arith, (omega arith, c .before .before .before .pre .kids-near)))
 
 returns : tie.Need-returns
 returns c =

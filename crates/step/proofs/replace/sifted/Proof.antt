@@ -21,7 +21,7 @@ gathered c =
     sifts-gather _ _ _ _ _ _ (s .before .before .before .before .pre .0) _ _ _ _ (s .sift .ensures) (c .sift2 .ensures)
 
 sift-requires : tie.Need-sift-requires
-sift-requires c κs = (omega arith, (omega arith, (omega arith, (omega arith, c .before .before .before .pre .0 .kids-hold))))
+sift-requires c κs = (omega arith, (omega arith, (omega arith, (omega arith, c .before .before .before .pre .0 .kids-near))))
 
 add-sift : tie.Need-add-sift
 add-sift c = omega arith
@@ -34,7 +34,7 @@ sift-requires-2 c κs =
     let stays = isStaying (a .limit) (take (a .taking) (records (a .kids .now))) in
     let few = count-within stays 0 (a .i) (records (a .w .now)) (omega arith) in
     let sifted = s .sift .ensures in
-    (omega (arith, sifted .count, few), (omega arith, (omega (arith, sifted .same-length), (omega arith, start .pre .0 .kids-hold))))
+    (omega (arith, sifted .count, few), (omega arith, (omega (arith, sifted .same-length), (omega arith, start .pre .0 .kids-near))))
 
 write-at-requires : tie.Need-write-at-requires
 write-at-requires c κs =

@@ -5,7 +5,7 @@ use borrow.Author.Needs.{needs}
 use Rattle.pool.specs.View.{records}
 use Rattle.pool.specs.Passes.{isFree, dropAt}
 use Rattle.pool.proofs.SiftLaws.{sifted-fewer}
-use Rattle.pool.proofs.RivalLaws.{sifted-hold}
+use Rattle.pool.proofs.RivalLaws.{sifted-near-still}
 use Rattle.step.proofs.SurvivorLaws.{sifted-on, sifted-off, sifted-around}
 use Rattle.step.proofs.survivors.by_rule_2.Statement.{statement}
 use Rattle.step.proofs.survivors.by_rule_2.Tie as tie
@@ -20,7 +20,7 @@ unrivalled-requires-2 : tie.Need-unrivalled-requires-2
 unrivalled-requires-2 c κs =
     let before = c .before .before .before .unrivalled .ensures in
     let start = c .before .before .before .before .before .before .before .before in
-    ((omega (arith, sifted-fewer before, before .same-length), sifted-hold (start .args .base) before (start .pre .0 .1)), omega arith)
+    ((omega (arith, sifted-fewer before, before .same-length), sifted-near-still (start .args .size) (start .args .base) before (start .pre .0 .1)), omega arith)
 
 same-length : tie.Need-same-length
 same-length c = search needs

@@ -6,7 +6,7 @@ use borrow.Author.Needs.{needs}
 use Rattle.pool.specs.View.{records}
 use Rattle.pool.specs.Passes.{dropAt}
 use Rattle.pool.proofs.SiftLaws.{sifted-fewer}
-use Rattle.pool.proofs.RivalLaws.{sifted-hold}
+use Rattle.pool.proofs.RivalLaws.{sifted-near-still}
 use Rattle.step.proofs.SurvivorLaws.{survivors-sifted}
 use Rattle.step.proofs.survivors.survivors.Statement.{statement}
 use Rattle.step.proofs.survivors.survivors.Tie as tie
@@ -18,7 +18,7 @@ by-rule-2-requires : tie.Need-by-rule-2-requires
 by-rule-2-requires c κs =
     let first = c .before .before .before .by-rule-1 .ensures in
     let start = c .before .before .before .before .before .before .before in (
-      (omega (arith, sifted-fewer first, first .same-length), sifted-hold (start .args .base) first (start .pre .0 .1)),
+      (omega (arith, sifted-fewer first, first .same-length), sifted-near-still (start .args .size) (start .args .base) first (start .pre .0 .1)),
       omega arith,
     )
 
@@ -27,10 +27,11 @@ by-rule-4-requires c κs =
     let first = c .before .before .before .before .before .before .before .by-rule-1 .ensures in
     let second = c .before .before .before .by-rule-2 .ensures in
     let start = c .before .before .before .before .before .before .before .before .before .before .before in
+    let size = start .args .size in
     let base = start .args .base in (
       (
         omega (arith, sifted-fewer first, first .same-length, sifted-fewer second, second .same-length),
-        sifted-hold base second (sifted-hold base first (start .pre .0 .1)),
+        sifted-near-still size base second (sifted-near-still size base first (start .pre .0 .1)),
       ),
       omega arith,
     )

@@ -1,0 +1,18 @@
+-- `past` meets its contract. Assumes nothing.
+use native.Mathlib.Omega.{arith}
+use borrow.Author.Needs.{needs}
+use borrow.Author.Tests.{lt-ltb, le-ltb}
+use Rattle.pool.proofs.sift.past.Statement.{statement}
+use Rattle.pool.proofs.sift.past.Tie as tie
+
+add-result : tie.Need-add-result
+add-result c = search needs
+
+returns : tie.Need-returns
+returns c = rw (lt-ltb _ _ (c .if1 .taken))
+
+returns-2 : tie.Need-returns-2
+returns-2 c = rw (le-ltb (c .before .args .place) (c .before .args .to) (omega arith))
+
+pub past-spec : {M : Type 1} → statement M
+past-spec = tie.close (tie.spec add-result returns returns-2)
