@@ -10,17 +10,42 @@ use Prim.Native.Nat.{ℕ, _+_, _-_, _≤_, _<_}
 use native.Mathlib.Numerals.{add-one}
 use native.Mathlib.Omega.{arith}
 use borrow.Author.Tests.{ne-eqb}
-use lib.Dec.{T, leb, not-T}
+use lib.Bits.{bitOr, bitXor, xor-self, or-add-and, xor-add-and, and-le-l, and-le-r}
+use lib.Dec.{T, leb, eqb, eqb→eq, eqb-refl, not-T}
 use lib.ListN.{length, getD, take, drop, set, length-set}
 use lib.Seq.{slice, slice-empty, take-suc-set, take-add, drop-append-le, drop-at, length-take-le}
 use Rattle.lists.specs.Lists.{In, put, keep, any}
-use Rattle.lists.proofs.Tests.{same-tests, to-false, and-right, compared}
+use Rattle.lists.proofs.Tests.{same-tests, to-false, and-left, and-right, and-both, compared}
 use Rattle.lists.proofs.Members.{in-keep, keep-in, any-in, in-any}
 use Rattle.stops.specs.Record.{emptyRecord, recDominates}
 use Rattle.stops.specs.declared.node.Node.{Node as Record}
 use Rattle.pool.specs.Passes.{Sifted, isFree, near, AllNear, Gathering}
 use Rattle.pool.proofs.SliceLaws.{keep-append, keep-slice-more, slice-join, AllSo}
 use Rattle.pool.proofs.SiftLaws.{sifted-all, sifted-twice, sifted-same, free-append}
+
+-- two pairs of numbers are the same if and only if no digit differs in either
+no-digit-differs : (a b c d : ℕ) → bitOr (bitXor a b) (bitXor c d) ≡ 0 → (a ≡ b) × (c ≡ d)
+no-digit-differs a b c d e =
+    let none = or-add-and (bitXor a b) (bitXor c d) in
+    let within = and-le-l (bitXor a b) (bitXor c d) in
+    let within′ = and-le-r (bitXor a b) (bitXor c d) in (
+      omega (arith, none, within, within′, xor-add-and a b, and-le-l a b, and-le-r a b),
+      omega (arith, none, within, within′, xor-add-and c d, and-le-l c d, and-le-r c d),
+    )
+
+pub both-same : (a b c d : ℕ) → eqb (bitOr (bitXor a b) (bitXor c d)) 0 ≡ (eqb a b && eqb c d)
+both-same a b c d = same-tests (eqb (bitOr (bitXor a b) (bitXor c d)) 0) (eqb a b && eqb c d) there back
+  where
+    there : T (eqb (bitOr (bitXor a b) (bitXor c d)) 0) → T (eqb a b && eqb c d)
+    there h =
+        let same = no-digit-differs a b c d (eqb→eq (bitOr (bitXor a b) (bitXor c d)) 0 h) in
+        rw (same .0, same .1) (and-both (eqb b b) (eqb d d) (eqb-refl b) (eqb-refl d))
+
+    back : T (eqb a b && eqb c d) → T (eqb (bitOr (bitXor a b) (bitXor c d)) 0)
+    back h =
+        let first : a ≡ b = eqb→eq a b (and-left (eqb a b) (eqb c d) h) in
+        let second : c ≡ d = eqb→eq c d (and-right (eqb a b) (eqb c d) h) in
+        rw (first, second, xor-self b, xor-self d) tt
 
 -- records of other sizes or sets do not dominate
 sizes-apart : (y z : Record) → (y .size ≡ z .size → ⊥) → false ≡ recDominates y z

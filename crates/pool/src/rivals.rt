@@ -57,14 +57,13 @@ fn undominated(kids: &mut [u32], m: usize, w: &[u32], from: usize, to: usize, li
     r
 }
 
-// Whether a record has some size and its set holds every stop of base.
+// Whether a record has some size and its set holds every stop of base: one test, since which of the two fails follows no pattern.
 pub fn near(x: Node, size: u32, base: u32) -> bool
     ensures { λ r. ⌜ r ≡ near size base x ⌝ }
 {
-    if x.set & base != base {
-        return false;
-    }
-    x.size == size
+    let missing = (x.set & base) ^ base;
+    let other = x.size ^ size;
+    missing | other == 0
 }
 
 // The first of the records from `from` to `to` that is near base, or `to`.

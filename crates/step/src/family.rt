@@ -8,6 +8,7 @@ ghost use Rattle.pool.specs.View.{records};
 ghost use Rattle.step.specs.OnRecords.{Rows, Encoded, restOf, childOf, childrenOf};
 use pool::record::store;
 use stops::bound::ahead;
+use stops::bound::later;
 use stops::bound::next;
 use stops::bound::without;
 use stops::node::Node;
@@ -33,7 +34,7 @@ pub fn family(t: [[u32; 17]; 17], n: u32, number: u32, b: Node, kids: &mut [u32]
     let mut left = rest;
     while left != 0 {
         let s = next(left);
-        left = without(left, s);
+        left = later(left);
         store(kids, m, child(&t, n, number, b, place, rest, s));
         m += 1;
     }

@@ -126,6 +126,25 @@ added-half m j e =
     let low : (m + 2 ^ suc j) % 2 ≡ m % 2 = omega (arith, pow-suc 2 j) in
     and-step (m + 2 ^ suc j) m ∙ rw (half, low, e) (omega arith)
 
+-- the digits of m and of m - 1 agree above the lowest that is set
+digits-lowest : {k s m : ℕ} {xs : List ℕ} → Digits k s m xs → (l : ℕ) → k ≤ l → 0 < m → bitAnd m (m - 1) ≡ m - 2 ^ trailingZeros l m
+unfolding trailingZeros
+digits-lowest (no-digit e) l f p = absurd (omega arith)
+digits-lowest (is-clear h e d) zero f p = absurd (omega arith)
+digits-lowest (is-set h e d) zero f p = absurd (omega arith)
+digits-lowest (is-clear {m = m} h e d) (suc l) f p =
+    let even : m % 2 ≡ 0 = omega arith in
+    let half : m / 2 ≡ h = omega arith in
+    let before : (m - 1) / 2 ≡ h - 1 = omega arith in
+    let again : bitAnd h (h - 1) ≡ h - 2 ^ trailingZeros l h = digits-lowest d l (omega arith) (omega arith) in
+    and-step m (m - 1) ∙ rw (even, half, before, again) (omega (arith, pow-suc 2 (trailingZeros l h)))
+digits-lowest (is-set {m = m} h e d) (suc l) f p =
+    let odd : m % 2 ≡ 1 = omega arith in
+    let half : m / 2 ≡ h = omega arith in
+    let before : (m - 1) / 2 ≡ h = omega arith in
+    let low : min 1 ((m - 1) % 2) ≡ 0 = omega arith in
+    and-step m (m - 1) ∙ rw (odd, half, before, low, and-self) (omega arith)
+
 -- taking the digit j places up off takes its stop, r, out
 digits-without :
     {k s m : ℕ} {xs : List ℕ} → Digits k s m xs → (j r : ℕ) → r ≡ s + j → In r xs → (2 ^ j ≤ m) × Digits k s (m - 2 ^ j) (without r xs)
@@ -257,6 +276,9 @@ module _ (m : ℕ) (small : m < 2 ^ 16) where
       let (t, ys, z, b, c, q, n) = digits-next stops-digits 32 (omega arith) p in
       let first : 1 + t ≡ t + 1 = omega arith in
       rw (← z) (b, c, q ∙ rw (first, digits-bits n))
+
+  pub stopsIn-later : 0 < m → bitAnd m (m - 1) ≡ m - 2 ^ trailingZeros 32 m
+  stopsIn-later p = digits-lowest stops-digits 32 (omega arith) p
 
   pub stopsIn-range : (s : ℕ) → In s (stopsIn m) → (1 ≤ s) × (s ≤ 16)
   stopsIn-range s i = omega (arith, digits-range stops-digits s i)

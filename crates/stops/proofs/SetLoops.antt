@@ -1,5 +1,5 @@
 -- What a loop over the stops of a set needs: it takes the first stop of what is left out, and lowers or adds to what it has so far.
---   first-out             the first stop of a set, and the stops that are left without it
+--   first-out, first-later    the first stop of a set, and the stops that are left without it
 --   Lowered, lowered-starts, lowered-again, lowered-ends    the invariant of a loop that looks for the least value over a set
 --   Summed, summed-starts, summed-again, summed-ends    the same for a sum; summed-most: no sum on the way is above the last
 --   into-set, ahead-none, ahead-plain, ahead-close    the cheapest leg into a stop, and what a bound adds, of sets that are numbers
@@ -38,6 +38,10 @@ first-out m r some small e =
       others = split;
       less = omega (arith, pow-pos (r - 1));
     }
+
+-- what `later` gives is the set without that stop
+pub first-later : (m r x : ℕ) → r ≡ trailingZeros 32 m + 1 → x ≡ m - 2 ^ trailingZeros 32 m → x ≡ m - 2 ^ (r - 1)
+first-later m r x e q = let back : trailingZeros 32 m ≡ r - 1 = omega arith in rw (← back) q
 
 module _ {A : Type 0} (f : A → ℕ) where
   -- the least of v and of f over xs, taken from the left

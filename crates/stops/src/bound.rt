@@ -22,6 +22,14 @@ pub fn next(set: u32) -> u32
     u32::trailing_zeros(set) + 1
 }
 
+// The stops of a set behind its next one.
+pub fn later(set: u32) -> u32
+    requires { ⌜ (0 < set) × (set < 2 ^ 16) ⌝ }
+    ensures { λ r. ⌜ r ≡ set - 2 ^ trailingZeros 32 set ⌝ }
+{
+    set & (set - 1)
+}
+
 // The set without a stop of it.
 pub fn without(set: u32, stop: u32) -> u32
     requires { ⌜ (set < 2 ^ 16) × In stop (stopsIn set) ⌝ }
@@ -39,7 +47,7 @@ fn into(t: &[[u32; 17]; 17], place: u32, others: u32, s: u32) -> u32
     let mut left = others;
     while left != 0 {
         let r = next(left);
-        left = without(left, r);
+        left = later(left);
         least = lesser(least, t[r as usize][s as usize]);
     }
     least
@@ -52,10 +60,10 @@ fn home(t: &[[u32; 17]; 17], rest: u32) -> u32
 {
     let first = next(rest);
     let mut least = t[first as usize][0];
-    let mut left = without(rest, first);
+    let mut left = later(rest);
     while left != 0 {
         let r = next(left);
-        left = without(left, r);
+        left = later(left);
         least = lesser(least, t[r as usize][0]);
     }
     least
@@ -70,7 +78,7 @@ fn remainder(t: &[[u32; 17]; 17], place: u32, rest: u32) -> u32
     let mut left = rest;
     while left != 0 {
         let s = next(left);
-        left = without(left, s);
+        left = later(left);
         sum += into(t, place, without(rest, s), s);
     }
     sum

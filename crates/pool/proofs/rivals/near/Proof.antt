@@ -1,17 +1,15 @@
--- `near` meets its contract. Assumes nothing.
-use borrow.Author.Needs.{needs}
-use borrow.Author.Tests.{eq-eqb, ne-eqb}
+-- `near` meets its contract: no digit that differs, and none that is missing. Assumes nothing.
+use lib.Bits.{bitAnd}
 use Rattle.pool.specs.Passes.{near}
+use Rattle.pool.proofs.RivalLaws.{both-same}
 use Rattle.pool.proofs.rivals.near.Statement.{statement}
 use Rattle.pool.proofs.rivals.near.Tie as tie
 
 returns : tie.Need-returns
 unfolding near
-returns c = rw (ne-eqb _ _ (c .if1 .taken))
-
-returns-2 : tie.Need-returns-2
-unfolding near
-returns-2 c = rw (eq-eqb _ _ (c .before .if1 .left))
+returns c =
+    let a = c .before .before .args in
+    both-same (bitAnd (a .x .set) (a .base)) (a .base) (a .x .size) (a .size)
 
 pub near-spec : {M : Type 1} → statement M
-near-spec = tie.close (tie.spec returns returns-2)
+near-spec = tie.close (tie.spec returns)

@@ -6,7 +6,7 @@ use Prim.Native.Nat.{_+_, _-_, _*_, _^_, _%_, _≤_, _<_}
 use native.Mathlib.Omega.{arith}
 use borrow.Author.Needs.{needs}
 use lib.ListN.{length}
-use Rattle.stops.proofs.SetLoops.{First, first-out}
+use Rattle.stops.proofs.SetLoops.{First, first-out, first-later}
 use Rattle.pool.specs.View.{records}
 use Rattle.step.specs.OnRecords.{restOf, childOf, childrenOf}
 use Rattle.step.proofs.FamilyLaws.{rest-sum, rest-small, Written, written-starts, written-room, written-again, written-ends}
@@ -54,8 +54,12 @@ first c =
     let l = c .before .before .loop in
     first-out (l .left) (c .next .result) (omega arith) (l .inv .2 .small) (c .next .ensures .0)
 
-without-requires : tie.Need-without-requires Inv-loop μ-loop
-without-requires c κs = (c .before .before .loop .inv .2 .small, first c .member)
+later-requires : tie.Need-later-requires Inv-loop μ-loop
+later-requires c κs = let h = c .before .before .loop .inv .2 .small in omega arith
+
+-- what `later` gives is the others
+rest-left : (c : tie.After-later Inv-loop μ-loop) → c .later .result ≡ c .before .before .before .loop .left - 2 ^ (c .before .next .result - 1)
+rest-left c = first-later _ _ _ (c .before .next .ensures .0) (c .later .ensures)
 
 -- the slice has room for one record more
 room : (c : tie.After-next Inv-loop μ-loop) → let l = c .before .before .loop in (l .m < 16) × (16 ≤ length (records (l .kids)))
@@ -78,7 +82,7 @@ loop-less : tie.Need-loop-less Inv-loop μ-loop
 loop-less c =
     let s = c .before .before in
     let w = s .before .before .before .before in
-    omega (arith, first (w .before) .less, w .without .ensures)
+    omega (arith, first (w .before) .less, rest-left w)
 
 loop-again : tie.Need-loop-again Inv-loop μ-loop
 loop-again c =
@@ -87,7 +91,7 @@ loop-again c =
     let l = w .before .before .before .loop in (
       l .inv .0,
       s .store .kept .0 ∙ l .inv .1,
-      written-again (l .inv .2) (first (w .before)) (w .without .ensures) (s .before .child .ensures) (s .store .ensures),
+      written-again (l .inv .2) (first (w .before)) (rest-left w) (s .before .child .ensures) (s .store .ensures),
     )
 
 same-length : tie.Need-same-length Inv-loop μ-loop
@@ -109,7 +113,7 @@ family-spec =
     sub-rest-2
     loop-holds
     next-requires
-    without-requires
+    later-requires
     child-requires
     store-requires
     add-m

@@ -5,7 +5,7 @@ use borrow.Author.Needs.{needs}
 use Rattle.lists.specs.Lists.{least}
 use Rattle.stops.specs.Legs.{rowLeg}
 use Rattle.stops.specs.Record.{stopsIn}
-use Rattle.stops.proofs.SetLoops.{First, first-out, Lowered, lowered-starts-first, lowered-again, lowered-ends}
+use Rattle.stops.proofs.SetLoops.{First, first-out, first-later, Lowered, lowered-starts-first, lowered-again, lowered-ends}
 use Rattle.stops.proofs.bound.home.Statement.{statement}
 use Rattle.stops.proofs.bound.home.Tie as tie
 
@@ -39,22 +39,22 @@ index-1-least c = omega arith
 index-2-least : tie.Need-index-2-least Inv-loop μ-loop
 index-2-least c = omega arith
 
-without-requires : tie.Need-without-requires Inv-loop μ-loop
-without-requires c κs = (c .before .before .pre .1, first (c .before) .member)
+later-requires : tie.Need-later-requires Inv-loop μ-loop
+later-requires c κs = search needs
 
 loop-holds : tie.Need-loop-holds Inv-loop μ-loop
 unfolding rowLeg
 loop-holds c =
     let n = c .before .before in
     let a = n .before .args in
-    lowered-starts-first (λ s. rowLeg (a .t .now) s 0) (a .rest) (n .next .result) (c .without .result) (n .before .pre .1) (first n)
-    (c .without .ensures)
+    lowered-starts-first (λ s. rowLeg (a .t .now) s 0) (a .rest) (n .next .result) (c .later .result) (n .before .pre .1) (first n)
+    (first-later _ _ _ (n .next .ensures .0) (c .later .ensures))
 
 next-requires-2 : tie.Need-next-requires-2 Inv-loop μ-loop
 next-requires-2 c κs = search needs
 
-without-requires-2 : tie.Need-without-requires-2 Inv-loop μ-loop
-without-requires-2 c κs = (c .before .before .loop .inv .small, first-left c .member)
+later-requires-2 : tie.Need-later-requires-2 Inv-loop μ-loop
+later-requires-2 c κs = search needs
 
 cast-lesser : tie.Need-cast-lesser Inv-loop μ-loop
 cast-lesser c = omega arith
@@ -72,13 +72,16 @@ lesser-requires : tie.Need-lesser-requires Inv-loop μ-loop
 lesser-requires c κs = search needs
 
 loop-less : tie.Need-loop-less Inv-loop μ-loop
-loop-less c = omega (arith, first-left (c .before .before .before) .less)
+loop-less c =
+    let n = c .before .before .before in
+    omega (arith, first-left n .less, first-later _ _ _ (n .next2 .ensures .0) (c .before .before .later2 .ensures))
 
 loop-again : tie.Need-loop-again Inv-loop μ-loop
 unfolding rowLeg
 loop-again c =
     let n = c .before .before .before in
-    lowered-again (n .next2 .result) (n .before .before .loop .inv) (first-left n) (c .before .before .without2 .ensures) (c .lesser .ensures)
+    let rest = first-later _ _ _ (n .next2 .ensures .0) (c .before .before .later2 .ensures) in
+    lowered-again (n .next2 .result) (n .before .before .loop .inv) (first-left n) rest (c .lesser .ensures)
 
 returns : tie.Need-returns Inv-loop μ-loop
 returns c = lowered-ends (c .before .loop .inv) (omega arith)
@@ -94,10 +97,10 @@ home-spec =
     mul-least
     index-1-least
     index-2-least
-    without-requires
+    later-requires
     loop-holds
     next-requires-2
-    without-requires-2
+    later-requires-2
     cast-lesser
     mul-lesser
     index-1-lesser

@@ -6,7 +6,7 @@ use borrow.Author.Needs.{needs}
 use Rattle.lists.specs.Lists.{least}
 use Rattle.stops.specs.Legs.{rowLeg}
 use Rattle.stops.specs.Record.{stopsIn}
-use Rattle.stops.proofs.SetLoops.{First, first-out, Lowered, lowered-starts, lowered-again, lowered-ends}
+use Rattle.stops.proofs.SetLoops.{First, first-out, first-later, Lowered, lowered-starts, lowered-again, lowered-ends}
 use Rattle.stops.proofs.bound.into.Statement.{statement}
 use Rattle.stops.proofs.bound.into.Tie as tie
 
@@ -43,8 +43,8 @@ loop-holds c =
 next-requires : tie.Need-next-requires Inv-loop μ-loop
 next-requires c κs = search needs
 
-without-requires : tie.Need-without-requires Inv-loop μ-loop
-without-requires c κs = (c .before .before .loop .inv .small, first c .member)
+later-requires : tie.Need-later-requires Inv-loop μ-loop
+later-requires c κs = search needs
 
 cast-lesser : tie.Need-cast-lesser Inv-loop μ-loop
 cast-lesser c = omega arith
@@ -65,13 +65,16 @@ lesser-requires : tie.Need-lesser-requires Inv-loop μ-loop
 lesser-requires c κs = search needs
 
 loop-less : tie.Need-loop-less Inv-loop μ-loop
-loop-less c = omega (arith, first (c .before .before .before) .less)
+loop-less c =
+    let n = c .before .before .before in
+    omega (arith, first n .less, first-later _ _ _ (n .next .ensures .0) (c .before .before .later .ensures))
 
 loop-again : tie.Need-loop-again Inv-loop μ-loop
 unfolding rowLeg
 loop-again c =
     let n = c .before .before .before in
-    lowered-again (n .next .result) (n .before .before .loop .inv) (first n) (c .before .before .without .ensures) (c .lesser .ensures)
+    let rest = first-later _ _ _ (n .next .ensures .0) (c .before .before .later .ensures) in
+    lowered-again (n .next .result) (n .before .before .loop .inv) (first n) rest (c .lesser .ensures)
 
 returns : tie.Need-returns Inv-loop μ-loop
 returns c = lowered-ends (c .before .loop .inv) (omega arith)
@@ -88,7 +91,7 @@ into-spec =
     index-2-least
     loop-holds
     next-requires
-    without-requires
+    later-requires
     cast-lesser
     mul-lesser
     mul-lesser-2

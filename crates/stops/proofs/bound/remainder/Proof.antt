@@ -10,7 +10,7 @@ use Rattle.stops.specs.Legs.{legs}
 use Rattle.stops.specs.Bounds.{cheapestInto, remainder}
 use Rattle.stops.specs.Record.{stopsIn}
 use Rattle.stops.proofs.SetBits.{stopsIn-few}
-use Rattle.stops.proofs.SetLoops.{First, first-out, Summed, summed-starts, summed-most, summed-again, summed-ends, into-set, remainder-small}
+use Rattle.stops.proofs.SetLoops.{First, first-out, first-later, Summed, summed-starts, summed-most, summed-again, summed-ends, into-set, remainder-small}
 use Rattle.stops.proofs.bound.remainder.Statement.{statement}
 use Rattle.stops.proofs.bound.remainder.Tie as tie
 
@@ -41,7 +41,7 @@ into-value c =
     let n = c .before .before .before in
     let b = n .before .before .before .before in
     let a = b .args in
-    let o = c .before .without2 in
+    let o = c .before .without in
     rw (c .into .ensures) (into-set (a .t .now) (a .place) (a .rest) (o .result) (n .next .result) (b .pre .1 .1 .0) (first-in n) (o .ensures))
 
 home-requires : tie.Need-home-requires Inv-loop μ-loop
@@ -54,11 +54,11 @@ loop-holds c = summed-starts (c .before .pre .1 .1 .0) (rw (c .home .ensures))
 next-requires : tie.Need-next-requires Inv-loop μ-loop
 next-requires c κs = search needs
 
-without-requires : tie.Need-without-requires Inv-loop μ-loop
-without-requires c κs = (c .before .before .loop .inv .small, first c .member)
+later-requires : tie.Need-later-requires Inv-loop μ-loop
+later-requires c κs = search needs
 
-without-requires-2 : tie.Need-without-requires-2 Inv-loop μ-loop
-without-requires-2 c κs = (c .before .before .before .before .before .pre .1 .1 .0, first-in (c .before))
+without-requires : tie.Need-without-requires Inv-loop μ-loop
+without-requires c κs = (c .before .before .before .before .before .pre .1 .1 .0, first-in (c .before))
 
 into-requires : tie.Need-into-requires Inv-loop μ-loop
 into-requires c κs = omega arith
@@ -77,13 +77,16 @@ add-sum c =
     )
 
 loop-less : tie.Need-loop-less Inv-loop μ-loop
-loop-less c = omega (arith, first (c .before .before .before) .less)
+loop-less c =
+    let n = c .before .before .before in
+    omega (arith, first n .less, first-later _ _ _ (n .next .ensures .0) (c .before .before .later .ensures))
 
 loop-again : tie.Need-loop-again Inv-loop μ-loop
 loop-again c =
     let n = c .before .before .before in
     let l = n .before .before .loop in
-    summed-again (l .inv) (n .next .result) (first n) (c .before .before .without .ensures) (ap (λ (v : ℕ). l .sum + v) (into-value c))
+    let rest = first-later _ _ _ (n .next .ensures .0) (c .before .before .later .ensures) in
+    summed-again (l .inv) (n .next .result) (first n) rest (ap (λ (v : ℕ). l .sum + v) (into-value c))
 
 returns : tie.Need-returns Inv-loop μ-loop
 returns c = summed-ends (c .before .loop .inv) (omega arith)
@@ -97,8 +100,8 @@ remainder-spec =
     home-requires
     loop-holds
     next-requires
+    later-requires
     without-requires
-    without-requires-2
     into-requires
     add-sum
     loop-less
