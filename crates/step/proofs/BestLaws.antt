@@ -1,6 +1,6 @@
 -- Laws behind the functions of the best order known (`src/best.rt`).
 --   Learnt, learn-keeps, learn-replaces    what a child does to the numbers that stand for U's order (part 2 of a step)
---   learn-more                             the same of one record more of a list
+--   learn-none, learn-more                 the same of a list without a complete child, and of one record more of a list
 --   empty-best, order-given                no order is given, or one is
 --   Flown, flown-none, flown-more          an order made into a record, stop by stop
 --   next-near, flown-wide, flown-room      the numbers of the next stop, and of the leg home, have room
@@ -10,7 +10,7 @@
 -- Assumes nothing.
 use mathlib.Core.Path.{_≡_, refl, ap, sym, _∙_, subst}
 use mathlib.Core.Bool.{Bool, true, false, _&&_}
-use mathlib.Core.List.{List, [], _∷_, _++_, Memᴰ·append-right}
+use mathlib.Core.List.{List, [], _∷_, _++_, Memᴰ·append-right, List·Memᴰ·tail}
 use mathlib.Core.Logic.{_⊎_, inl, inr, _≢_}
 use mathlib.Core.Option.{Option, none, some, Option·map}
 use Prim.Native.Nat.{ℕ, zero, suc, _+_, _-_, _^_, _≤_, _<_}
@@ -55,6 +55,13 @@ learn-append P o (c ∷ cs) x = learn-append P (replace (P .complete c && ltb (P
 -- whatever order a stands for, b stands for U's order after the children xs
 abbrev pub Learnt : Best → ℕ → List Record → Best → Type 0
 Learnt a n xs b = (t : Table) (k : ℕ) (o : Option Record) → IsBest a o → IsBest b (learn (recProblem n t k) o xs)
+
+-- no child is complete
+pub learn-none : (a : Best) (n : ℕ) (xs : List Record) → ((x : Record) → In x xs → x .size ≢ n) → Learnt a n xs a
+unfolding recProblem
+learn-none a n [] h t k o best = best
+learn-none a n (x ∷ xs) h t k o best =
+    rw (ne-eqb (x .size) n (h x in-head)) (learn-none a n xs (λ y m. h y (List·Memᴰ·tail m)) t k o best)
 
 module _ (a : Best) (n : ℕ) (x : Record) where
   -- U is a number of a, whatever order that stands for

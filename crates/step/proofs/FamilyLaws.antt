@@ -79,6 +79,12 @@ module _ {n : ℕ} {t : List (List ℕ)} {k : ℕ} {b : Record} (rows : Rows n t
       let there : In s (left n y) = subst (λ (xs : List ℕ). In s xs) rest-left m in
       rw (e .same, ← mask-extend n y s there, ones-set n (rows .few) (extend y s)) (omega (arith, size-extend n y s there))
 
+  pub children-size : (x : Record) → In x (childrenOf n t k b) → x .size ≡ b .size + 1
+  unfolding childrenOf childOf bounded extended
+  children-size x i =
+      let (s, m, same) = in-map (childOf n t k b) (stopsIn (restOf n b)) x i in
+      ap (λ (y : Record). y .size) same ∙ one-more s m
+
   child-near : (s : ℕ) → In s (stopsIn (restOf n b)) → T (near (b .size + 1) (b .set) (childOf n t k b s))
   unfolding childOf bounded extended near
   child-near s m =

@@ -5,6 +5,7 @@ ghost use mathlib.Core.Logic.{_⊎_};
 ghost use mathlib.Core.Option.{Option, Option·map};
 ghost use Prim.Native.Nat.{ℕ, _≤_, _<_};
 ghost use lib.ListN.{length, take, drop};
+ghost use Rattle.lists.specs.Lists.{In};
 ghost use Rattle.search.specs.Step.{learn};
 ghost use Rattle.stops.specs.declared.node.Node.{Node as Record};
 ghost use Rattle.orders.specs.Orders.{Order};
@@ -40,11 +41,14 @@ fn better(best: Best, x: Node, n: u32) -> Best
     }
 }
 
-// Part 2 of a step, over the first m children.
-pub fn learn(kids: &[u32], m: usize, n: u32, best: Best) -> Best
-    requires { ⌜ m ≤ length (records (now kids)) ⌝ }
+// Part 2 of a step, over the first m children, which are all of one size.
+pub fn learn(kids: &[u32], m: usize, n: u32, size: u32, best: Best) -> Best
+    requires { ⌜ (m ≤ length (records (now kids))) × ((x : Record) → In x (take m (records (now kids))) → x .size ≡ size) ⌝ }
     ensures { λ r. ⌜ ((t : Table) (k : ℕ) (o : Option Record) → IsBest best o → IsBest r (learn (recProblem n t k) o (take m (records (now (kids .entry)))))) ⌝ }
 {
+    if size != n {
+        return best;
+    }
     let mut known = best;
     let mut k = 0;
     while k < m {

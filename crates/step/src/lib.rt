@@ -93,21 +93,10 @@ fn expand(
     let far = r.held;
     let known = r.best;
     let m = family(t, n, number, b, kids);
-    let best = learn(kids, m, n, known);
+    let size = b.size + 1;
+    let best = learn(kids, m, n, size, known);
     let limit = limit_of(rules, best.upper);
-    let left = survivors(
-        kids,
-        m,
-        w,
-        records,
-        a,
-        i,
-        far,
-        b.size + 1,
-        b.set,
-        rules,
-        limit,
-    );
+    let left = survivors(kids, m, w, records, a, i, far, size, b.set, rules, limit);
     Expanded {
         count: m,
         left: left,

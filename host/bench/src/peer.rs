@@ -26,20 +26,10 @@ fn at(records: &[Record], i: usize) -> &Record {
     unsafe { records.get_unchecked(i) }
 }
 
-/// The first place from `from` on whose record passes the test, or the number of records. Eight are looked at for one branch.
+/// The first place from `from` on whose record passes the test, or the number of records.
 #[inline(always)]
 fn find(records: &[Record], from: usize, test: impl Fn(&Record) -> bool) -> usize {
     let mut i = from;
-    while i + 8 <= records.len() {
-        let mut any = false;
-        for k in 0..8 {
-            any |= test(at(records, i + k));
-        }
-        if any {
-            break;
-        }
-        i += 8;
-    }
     while i < records.len() && !test(at(records, i)) {
         i += 1;
     }

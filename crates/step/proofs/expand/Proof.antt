@@ -6,7 +6,7 @@ use borrow.Author.Needs.{needs}
 use lib.ListN.{length}
 use Rattle.pool.specs.View.{records}
 use Rattle.pool.proofs.ViewLaws.{length-records}
-use Rattle.step.proofs.FamilyLaws.{children-near}
+use Rattle.step.proofs.FamilyLaws.{children-size, children-near}
 use Rattle.step.proofs.ExpandLaws.{same-records, family-few, expansion-made}
 use Rattle.step.proofs.expand.Statement.{statement}
 use Rattle.step.proofs.expand.Tie as tie
@@ -14,28 +14,31 @@ use Rattle.step.proofs.expand.Tie as tie
 family-requires : tie.Need-family-requires
 family-requires c κs = search needs
 
+-- b's size has room for one more
+add-size : tie.Need-add-size
+add-size c =
+    let ready = c .before .before .before .before .before .before .before .before .pre .0 in
+    omega (arith, ready .partial, ready .rows .few)
+
 -- the children fit the buffer, which has as many words as at the start
 learn-requires : tie.Need-learn-requires
 learn-requires c κs =
-    let made = c .before .before .before in
+    let made = c .before .before .before .before in
     let start = made .before .before .before .before .before in
     let kids = made .family .last .1 .1 .1 .1 .0 in
-    omega (
-      arith,
-      family-few (start .pre .0 .rows) (start .pre .0 .encoded),
-      made .family .ensures .1,
-      start .pre .1,
-      same-records (start .args .kids .now) kids (made .family .kept .1 .1 .1 .1 .0),
+    let ready = start .pre .0 in (
+      omega (
+        arith,
+        family-few (ready .rows) (ready .encoded),
+        made .family .ensures .1,
+        start .pre .1,
+        same-records (start .args .kids .now) kids (made .family .kept .1 .1 .1 .1 .0),
+      ),
+      rw (made .family .ensures .0) (children-size (ready .rows) (ready .encoded)),
     )
 
 limit-of-requires : tie.Need-limit-of-requires
 limit-of-requires c κs = search needs
-
--- b's size has room for one more
-add-survivors : tie.Need-add-survivors
-add-survivors c =
-    let ready = c .before .before .before .before .before .before .before .before .before .before .before .before .pre .0 in
-    omega (arith, ready .partial, ready .rows .few)
 
 survivors-requires : tie.Need-survivors-requires
 survivors-requires c κs =
@@ -73,7 +76,7 @@ returns c =
       same-records (start .args .kids .now) kids (made .family .kept .1 .1 .1 .1 .0),
       same-records kids (chose .survivors .last .0) (chose .survivors .kept .0),
     ))
-    (made .family .ensures) (chose .before .before .before .before .learn .ensures) (chose .before .before .before .limit-of .ensures) (chose .survivors .ensures)
+    (made .family .ensures) (chose .before .before .before .learn .ensures) (chose .before .before .limit-of .ensures) (chose .survivors .ensures)
 
 pub expand-spec : {M : Type 1} → statement M
-expand-spec = tie.close (tie.spec family-requires learn-requires limit-of-requires add-survivors survivors-requires same-length returns)
+expand-spec = tie.close (tie.spec family-requires add-size learn-requires limit-of-requires survivors-requires same-length returns)
