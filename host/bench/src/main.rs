@@ -3,6 +3,8 @@
 //! `cargo run --release -p bench [tables] [seconds] [R, P or Q]`: tables a row
 //! (default 5), how long the peer may take for one (default 10; those over it
 //! are left out and counted), and the job to run alone (default all three).
+//! Each table is planned three times by each of the two in turn, and the least
+//! time counts, so that what else the machine does shows little.
 
 mod peer;
 mod tables;
@@ -22,6 +24,8 @@ const KINDS: [Kind; 3] = [
     Kind { letter: "P", selection: 0, rules: 15 },
     Kind { letter: "Q", selection: 3, rules: 1 },
 ];
+
+const RUNS: usize = 3;
 
 fn main() {
     let mut words = std::env::args().skip(1);
@@ -47,19 +51,32 @@ fn row(wind: &str, n: usize, kind: &Kind, tables: u64, seconds: u64, pool: &mut 
     for seed in 0..tables {
         let table = tables::table(wind, n, seed);
         let start = if kind.selection == 3 { samples::nearest(n, &table) } else { Vec::new() };
-        let Some((found, time)) = time_peer(n, &table, kind, &start, seconds, pool) else {
+        let Some((found, times)) = least_times(n, &table, kind, &start, seconds, pool) else {
             continue;
         };
         ended += 1;
         branched += found.branched;
         records = records.max(found.records);
-        theirs += time;
-        ours += time_ours(n, &table, kind, &start, &found, pool);
+        theirs += times.0;
+        ours += times.1;
     }
     let each = |time: Duration| time.as_nanos() as f64 / branched.max(1) as f64;
     let ratio = ours.as_secs_f64() / theirs.as_secs_f64().max(1e-9);
     let name = format!("{}: selection {}, rules {}", kind.letter, kind.selection, kind.rules);
     println!("{wind:<8}{n:>3}  {name:<26}{ended:>7}{:>10}{branched:>12}{records:>10}{:>12.0}{:>12.0}{ratio:>8.2}", tables - ended, each(theirs), each(ours));
+}
+
+/// The peer's least time and ours.
+fn least_times(n: usize, table: &[u32], kind: &Kind, start: &[u8], seconds: u64, pool: &mut [Record]) -> Option<(Found, (Duration, Duration))> {
+    let (found, mut theirs) = time_peer(n, table, kind, start, seconds, pool)?;
+    let mut ours = time_ours(n, table, kind, start, &found, pool);
+    for _ in 1..RUNS {
+        if let Some((_, again)) = time_peer(n, table, kind, start, seconds, pool) {
+            theirs = theirs.min(again);
+        }
+        ours = ours.min(time_ours(n, table, kind, start, &found, pool));
+    }
+    Some((found, (theirs, ours)))
 }
 
 fn rows_of(n: usize, table: &[u32]) -> Rows {
