@@ -7,7 +7,7 @@ use Rattle.search.specs.Problem.{State}
 use Rattle.search.proofs.Plain.{tree, planOf, cutOf, adds}
 use Rattle.search.proofs.Counts.{counts-agree}
 use Rattle.orders.specs.Orders.{Node}
-use Rattle.pool.specs.Records.{recordsIn}
+use Rattle.records.specs.Records.{recordsIn}
 use Rattle.answer.specs.Call.{Call, Report, Answer, refusal}
 use Rattle.answer.specs.Checks.{cause}
 use Rattle.answer.specs.Answer.{problemOf, choicesOf, given, reportWith, ending, answer, StateOf}

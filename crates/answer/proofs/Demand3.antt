@@ -20,7 +20,7 @@ use Rattle.orders.proofs.Order.{order-complete, order-leads, leads-order, order
 use Rattle.orders.proofs.Orders.{orders-in, in-orders}
 use Rattle.stops.specs.Legs.{Legs, rows, legs, cost}
 use Rattle.stops.specs.Stops.{problem}
-use Rattle.pool.specs.Records.{padded, recordsIn}
+use Rattle.records.specs.Records.{padded, recordsIn}
 use Rattle.answer.specs.Call.{Call, Report, Answer, orderPlaces}
 use Rattle.answer.specs.Answer.{legsOf, problemOf, choicesOf, given, stopsOf, reportWith, ending, answer}
 use Rattle.answer.proofs.Passes.{Passes, passes}

@@ -26,7 +26,7 @@ use Rattle.stops.specs.Bounds.{boundBy}
 use Rattle.stops.specs.Stops.{problem, choices}
 use Rattle.stops.proofs.Bounds.{bound-closer}
 use Rattle.stops.proofs.Instance.{order-below}
-use Rattle.pool.specs.Records.{recordsIn}
+use Rattle.records.specs.Records.{recordsIn}
 use Rattle.answer.specs.Call.{Call, Report, Answer}
 use Rattle.answer.specs.Checks.{cause}
 use Rattle.answer.specs.Answer.{legsOf, problemOf, choicesOf, given, outcome, reportWith, ending, respond, answer}

@@ -10,7 +10,7 @@ use Rattle.search.specs.Problem.{State}
 use Rattle.search.specs.Run.{finish, next, finished, full, Overflows}
 use Rattle.search.proofs.Outcome.{finish-whatever-pool}
 use Rattle.orders.specs.Orders.{Node}
-use Rattle.pool.specs.Records.{recordsIn}
+use Rattle.records.specs.Records.{recordsIn}
 use Rattle.answer.specs.Call.{Call, Answer}
 use Rattle.answer.specs.Checks.{cause}
 use Rattle.answer.specs.Answer.{problemOf, choicesOf, outcome, reportWith, wordsOf, ending, respond, answer, StateOf}

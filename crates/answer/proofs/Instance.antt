@@ -20,7 +20,7 @@ use Rattle.stops.specs.Stops.{problem, choices}
 use Rattle.stops.specs.Record.{Within}
 use Rattle.stops.proofs.LegTable.{legs-within}
 use Rattle.stops.proofs.Instance.{tree-lawful, bound-lawful, stops-weigh, stops-solvable}
-use Rattle.pool.specs.Records.{recordsIn}
+use Rattle.records.specs.Records.{recordsIn}
 use Rattle.answer.specs.Call.{Call}
 use Rattle.answer.specs.Answer.{legsOf, problemOf, choicesOf, given, outcome, StateOf}
 use Rattle.answer.proofs.Passes.{Passes}

@@ -13,7 +13,7 @@ use Rattle.lists.proofs.Members.{in-any}
 use Rattle.orders.specs.Orders.{Order, isOrder}
 use Rattle.orders.proofs.Order.{isOrder-order}
 use Rattle.stops.specs.Legs.{entry}
-use Rattle.pool.specs.Records.{recordWords, recordsIn}
+use Rattle.records.specs.Records.{recordWords, recordsIn}
 use Rattle.answer.specs.Call.{Call}
 use Rattle.answer.specs.Checks.{cause₁, cause₂, cause₃, cause₄, cause₅, cause₆, isEmpty, orLater, jobCause, cause}
 use Rattle.answer.specs.Cases

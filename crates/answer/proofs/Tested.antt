@@ -18,7 +18,7 @@ use Rattle.search.proofs.Plain.{tree, planOf, cutOf}
 use Rattle.search.proofs.PlainSelection.{lateBy, rankBy, select-is-pick}
 use Rattle.search.proofs.Optimal.{active-some, tested-within}
 use Rattle.orders.specs.Orders.{Node, size}
-use Rattle.pool.specs.Records.{recordsIn}
+use Rattle.records.specs.Records.{recordsIn}
 use Rattle.answer.specs.Call.{Call}
 use Rattle.answer.specs.Checks.{cause}
 use Rattle.answer.specs.Answer.{problemOf, choicesOf, given, StateOf}

@@ -9,7 +9,7 @@ use Rattle.search.specs.Run.{Outcome, finished, full, unfinished, run, Steps}
 use Rattle.orders.specs.Orders.{Node, nodes}
 use Rattle.stops.specs.Legs.{Legs, rows, legs}
 use Rattle.stops.specs.Stops.{problem, choices}
-use Rattle.pool.specs.Records.{padded, poolWords, recordsIn}
+use Rattle.records.specs.Records.{padded, poolWords, recordsIn}
 use Rattle.answer.specs.Call.{Call, Report, Answer, orderPlaces, refusal}
 use Rattle.answer.specs.Checks.{cause}
 

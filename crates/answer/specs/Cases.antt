@@ -14,7 +14,7 @@ use Rattle.orders.specs.Orders.{flown, set, left, size, complete, children, cou
 use Rattle.stops.specs.Legs.{entry, rows, rowLeg, legs, path, last, cost}
 use Rattle.stops.specs.Bounds.{plain, cheapestInto, remainder, close, boundBy, dominates}
 use Rattle.stops.specs.Stops.{problem, choices}
-use Rattle.pool.specs.Records.{mask, record-of, padded, poolWords, recordsIn}
+use Rattle.records.specs.Records.{mask, record-of, padded, poolWords, recordsIn}
 use Rattle.answer.specs.Call.{Call, Report, Answer, refusal}
 use Rattle.answer.specs.Checks.{cause₁, cause₂, cause₃, cause₄, cause₅, cause₆, jobCause, cause}
 use Rattle.answer.specs.Answer.{legsOf, problemOf, choicesOf, outcome, reportWith, wordsOf, ending, respond, answer}

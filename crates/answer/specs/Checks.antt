@@ -7,7 +7,7 @@ use lib.ListN.{length}
 use Rattle.lists.specs.Lists.{any, from}
 use Rattle.orders.specs.Orders.{isOrder}
 use Rattle.stops.specs.Legs.{entry}
-use Rattle.pool.specs.Records.{recordWords, recordsIn}
+use Rattle.records.specs.Records.{recordWords, recordsIn}
 use Rattle.answer.specs.Call.{Call}
 
 -- n is 0 or above 16

@@ -10,7 +10,7 @@ use Prim.Native.Nat.{ℕ, zero, suc, _+_, _*_, _-_, _≤_}
 use native.Mathlib.Omega.{arith}
 use lib.ListN.{length, getD, take, drop, length-drop}
 use lib.Seq.{length-take-le}
-use Rattle.pool.specs.Records.{padded}
+use Rattle.records.specs.Records.{padded}
 use Rattle.answer.specs.Call.{Call, callOf, orderPlaces}
 use Rattle.answer.specs.Checks.{jobCause}
 use Rattle.job_file.specs.Job.{Job, callFor, area, startPlaceOf}

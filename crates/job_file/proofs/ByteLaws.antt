@@ -16,7 +16,7 @@ use lib.ListN.{length, getD, set, take, drop, replicate, length-append, length-d
 use lib.Seq.{sets, sets-eq, take-append-seam, drop-append-seam, drop-append-add, drop-drop, take-suc, length-take-le}
 use Rattle.lists.specs.Lists.{from, each}
 use Rattle.lists.proofs.Members.{in-head, length-from}
-use Rattle.pool.specs.Records.{padded}
+use Rattle.records.specs.Records.{padded}
 use Rattle.job_file.specs.Bytes.{leastFirst, valueOf, number, numberAt, overwrite, AllBytes}
 use Rattle.job_file.specs.Reader.{numbersIn}
 use Rattle.job_file.specs.Cases

@@ -12,7 +12,7 @@ use lib.ListN.{length, replicate, length-append}
 use Rattle.lists.specs.Lists.{In, each}
 use Rattle.orders.specs.Orders.{Order}
 use Rattle.orders.proofs.Order.{order-length}
-use Rattle.pool.specs.Records.{recordsIn}
+use Rattle.records.specs.Records.{recordsIn}
 use Rattle.answer.specs.Call.{Call, callOf}
 use Rattle.answer.specs.Checks.{cause₆, jobCause, cause}
 use Rattle.answer.proofs.Passes.{Passes, passes}

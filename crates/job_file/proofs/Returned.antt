@@ -13,7 +13,7 @@ use lib.Dec.{ltb}
 use lib.ListN.{length, take}
 use borrow.Author.Tests.{ltb-false}
 use Rattle.lists.proofs.Tests.{compared}
-use Rattle.pool.specs.Records.{padded}
+use Rattle.records.specs.Records.{padded}
 use Rattle.answer.specs.Checks.{orLater, jobCause}
 use Rattle.checks.proofs.JobCause.{job-first}
 use Rattle.job_file.specs.Bytes.{overwrite}

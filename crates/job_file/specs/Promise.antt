@@ -4,7 +4,7 @@ use mathlib.Core.Path.{_≡_}
 use mathlib.Core.List.{List}
 use Prim.Native.Nat.{ℕ}
 use lib.ListN.{length, take}
-use Rattle.pool.specs.Records.{padded}
+use Rattle.records.specs.Records.{padded}
 use Rattle.answer.specs.Call.{orderPlaces}
 use Rattle.job_file.specs.Job.{Job, area}
 use Rattle.job_file.specs.Reader.{Reading}

@@ -3,7 +3,7 @@ ghost use mathlib.Core.Path.{_≡_};
 ghost use mathlib.Core.List.{[]};
 ghost use Prim.Native.Nat.{_*_, _≤_};
 ghost use lib.ListN.{length, getD};
-ghost use Rattle.pool.specs.Records.{padded};
+ghost use Rattle.records.specs.Records.{padded};
 ghost use Rattle.answer.specs.Call.{callOf, orderPlaces};
 ghost use Rattle.answer.specs.Checks.{cause₁};
 ghost use Rattle.job_file.specs.Reader.{numbersIn, trailerFrom, jobBy, misplaced, refusal, read};

@@ -6,7 +6,7 @@ use Prim.Native.Nat.{ℕ, zero, suc, _%_, _≤_, _<_}
 use native.Mathlib.Omega.{arith}
 use lib.ListN.{length}
 use borrow.Author.Tests.{eq-eqb, ne-eqb}
-use Rattle.pool.specs.Records.{recordsIn}
+use Rattle.records.specs.Records.{recordsIn}
 use Rattle.answer.specs.Call.{Call, Report, Answer, refusal}
 use Rattle.answer.specs.Checks.{cause₆, orLater, cause}
 use Rattle.answer.specs.Answer.{outcome, ending, respond, answer}

@@ -23,10 +23,10 @@ use Rattle.stops.specs.Stops.{problem, choices}
 use Rattle.stops.specs.Record.{emptyRecord}
 use Rattle.stops.specs.declared.node.Node.{Node as Record}
 use Rattle.stops.proofs.Bounds.{bound-exact}
-use Rattle.pool.specs.Records.{padded, poolWords, recordsIn, orderWord}
-use Rattle.pool.specs.View.{records, encode}
-use Rattle.pool.proofs.ViewLaws.{length-records}
-use Rattle.pool.proofs.PoolWords.{pool-words}
+use Rattle.records.specs.Records.{padded, poolWords, recordsIn, orderWord}
+use Rattle.records.specs.View.{records, encode}
+use Rattle.records.proofs.ViewLaws.{length-records}
+use Rattle.records.proofs.PoolWords.{pool-words}
 use Rattle.answer.specs.Call.{Call, Report, orderPlaces}
 use Rattle.answer.specs.Checks.{cause}
 use Rattle.answer.specs.Answer.{legsOf, problemOf, choicesOf, outcome, StateOf, stopsOf, reportWith, wordsOf, ending, respond, answer}

@@ -21,8 +21,8 @@ use Rattle.stops.specs.Legs.{legs, rows}
 use Rattle.stops.specs.Stops.{problem, choices}
 use Rattle.stops.specs.Record.{Within}
 use Rattle.stops.proofs.Instance.{stops-weigh}
-use Rattle.pool.specs.View.{records, encode}
-use Rattle.pool.proofs.ViewLaws.{length-records}
+use Rattle.records.specs.View.{records, encode}
+use Rattle.records.proofs.ViewLaws.{length-records}
 use Rattle.answer.specs.Call.{Call}
 use Rattle.answer.specs.Answer.{legsOf, given}
 use Rattle.step.specs.OnRecords.{Table, Rows, Shown}

@@ -27,7 +27,7 @@ use Rattle.stops.specs.Record.{emptyRecord, stopsIn, ahead}
 use Rattle.stops.specs.Stops.{problem}
 use Rattle.stops.specs.declared.node.Node.{Node as Record}
 use Rattle.stops.proofs.Instance.{tree-lawful, bound-lawful, stops-solvable}
-use Rattle.pool.specs.View.{records, encode}
+use Rattle.records.specs.View.{records, encode}
 use Rattle.answer.specs.Answer.{given}
 use Rattle.step.specs.OnRecords.{Table, bounded, rootOf, IsBest, farOf, Rows, Shown}
 use Rattle.planner.specs.Turns.{recordsOf}

@@ -37,8 +37,9 @@ use Rattle.stops.specs.Record.{emptyRecord}
 use Rattle.stops.specs.Stops.{problem, choices}
 use Rattle.stops.specs.declared.node.Node.{Node as Record}
 use Rattle.stops.proofs.Instance.{tree-lawful, bound-lawful, stops-weigh, stops-solvable}
-use Rattle.pool.specs.View.{records, encode}
-use Rattle.pool.specs.Passes.{Chosen, dropAt}
+use Rattle.records.specs.View.{records, encode}
+use Rattle.selection.specs.Choosing.{Chosen}
+use Rattle.records.specs.Passes.{dropAt}
 use Rattle.answer.specs.Answer.{given}
 use Rattle.step.specs.OnRecords.{Table, recProblem, recChoices, Encoded, Ready, Shown, stepOf, Stepping}
 use Rattle.planner.specs.Turns.{recordsOf, Running, Turned}

@@ -16,7 +16,7 @@ use Rattle.orders.specs.Orders.{Node, Order}
 use Rattle.stops.specs.Legs.{legs}
 use Rattle.stops.specs.Stops.{problem, choices}
 use Rattle.stops.specs.declared.node.Node.{Node as Record}
-use Rattle.pool.specs.View.{records, encode}
+use Rattle.records.specs.View.{records, encode}
 use Rattle.answer.specs.Answer.{given}
 use Rattle.step.specs.OnRecords.{Table, Rows, Shown}
 use Rattle.step.specs.declared.Run.{Run}

@@ -1,12 +1,2 @@
-pub mod ViewLaws
-pub mod SliceLaws
-pub mod SiftLaws
 pub mod StayLaws
-pub mod RivalLaws
-pub mod ChooseLaws
 pub mod SettleLaws
-pub mod OrderWords
-pub mod Mask
-pub mod Encode
-pub mod EncodeLaws
-pub mod PoolWords

@@ -11,7 +11,7 @@ use lib.Seq.{slice, length-slice, slice-cons, take-all, take-append-le, drop-at,
 use Rattle.lists.specs.Lists.{keep}
 use Rattle.stops.specs.Record.{emptyRecord}
 use Rattle.stops.specs.declared.node.Node.{Node as Record}
-use Rattle.pool.specs.Passes.{Sifted, always}
+use Rattle.records.specs.Passes.{Sifted, always}
 
 module _ {A : Type 0} where
   -- the list with its elements from i to j in reverse order

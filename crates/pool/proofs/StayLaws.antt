@@ -18,11 +18,12 @@ use Rattle.lists.specs.Lists.{keep, any}
 use Rattle.lists.proofs.Numbers.{keep-parts}
 use Rattle.stops.specs.Record.{emptyRecord, recDominates}
 use Rattle.stops.specs.declared.node.Node.{Node as Record}
-use Rattle.pool.specs.View.{records}
-use Rattle.pool.specs.Passes.{Sifted, isStaying, always}
-use Rattle.pool.proofs.ViewLaws.{length-records, records-drop, records-join}
-use Rattle.pool.proofs.SliceLaws.{keep-slice-more, any-slice-more}
-use Rattle.pool.proofs.SiftLaws.{taken-out}
+use Rattle.records.specs.View.{records}
+use Rattle.records.specs.Passes.{Sifted, always}
+use Rattle.pool.specs.Staying.{isStaying}
+use Rattle.records.proofs.ViewLaws.{length-records, records-drop, records-join}
+use Rattle.records.proofs.SliceLaws.{keep-slice-more, any-slice-more}
+use Rattle.records.proofs.SiftLaws.{taken-out}
 
 or-right-true : (b c : Bool) → c ≡ true → (b || c) ≡ true
 or-right-true true c e = refl

@@ -1,4 +1,1 @@
-pub mod Records
-pub mod Examples
-pub mod View
-pub mod Passes
+pub mod Staying

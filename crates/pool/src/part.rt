@@ -3,10 +3,10 @@ ghost use mathlib.Core.Path.{_≡_};
 ghost use mathlib.Core.List.{_++_};
 ghost use Prim.Native.Nat.{_+_, _-_, _≤_, _<_};
 ghost use lib.ListN.{length, take, drop};
-ghost use Rattle.pool.specs.View.{records};
-ghost use Rattle.pool.specs.Passes.{Sifted, always};
-use crate::record::load;
-use crate::record::store;
+ghost use Rattle.records.specs.View.{records};
+ghost use Rattle.records.specs.Passes.{Sifted, always};
+use records::load;
+use records::store;
 
 // Moves the records behind the first of a part up by one, as many as count.
 fn move_up(part: &mut [u32], count: usize)

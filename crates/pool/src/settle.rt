@@ -6,10 +6,10 @@ ghost use Prim.Native.Nat.{_+_, _-_, _≤_};
 ghost use lib.ListN.{length, take, drop, replicate};
 ghost use lib.Seq.{slice};
 ghost use Rattle.stops.specs.Record.{emptyRecord};
-ghost use Rattle.pool.specs.View.{records};
-use crate::record::load;
-use crate::record::store;
+ghost use Rattle.records.specs.View.{records};
 use crate::sift::slide;
+use records::load;
+use records::store;
 use stops::node::Node;
 
 // Turns the records from `from` to `to` around.

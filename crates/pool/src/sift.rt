@@ -7,12 +7,14 @@ ghost use lib.ListN.{length, take};
 ghost use lib.Seq.{slice};
 ghost use Rattle.lists.specs.Lists.{keep, any};
 ghost use Rattle.stops.specs.Record.{recDominates};
-ghost use Rattle.pool.specs.View.{records};
-ghost use Rattle.pool.specs.Passes.{Sifted, RunsTo, isWithin, isStaying, always, AllNear};
-use crate::record::load;
-use crate::record::store;
-use crate::rivals::beats;
-use crate::rivals::near;
+ghost use Rattle.records.specs.View.{records};
+ghost use Rattle.records.specs.Passes.{Sifted, RunsTo, always};
+ghost use Rattle.pool.specs.Staying.{isWithin, isStaying};
+ghost use Rattle.rivals.specs.Rivals.{AllNear};
+use records::load;
+use records::store;
+use rivals::beats;
+use rivals::near;
 use stops::node::Node;
 
 // Rule 1 on children: keeps those of the first m whose bound is at most limit.

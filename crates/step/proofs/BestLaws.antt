@@ -37,10 +37,10 @@ use Rattle.stops.specs.Stops.{aboveEveryCost}
 use Rattle.stops.specs.declared.node.Node.{Node as Record}
 use Rattle.stops.proofs.Paths.{path-small, last-extend}
 use Rattle.stops.proofs.Bounds.{bound-exact}
-use Rattle.pool.specs.Records.{mask, orderWord, padded}
-use Rattle.pool.specs.View.{encode}
-use Rattle.pool.proofs.OrderWords.{Digits, first-digit, second-digit}
-use Rattle.pool.proofs.Encode.{unbounded, encode-extend, encode-wide, partial-digits}
+use Rattle.records.specs.Records.{mask, orderWord, padded}
+use Rattle.records.specs.View.{encode}
+use Rattle.records.proofs.OrderWords.{Digits, first-digit, second-digit}
+use Rattle.records.proofs.Encode.{unbounded, encode-extend, encode-wide, partial-digits}
 use Rattle.answer.specs.Answer.{given}
 use Rattle.step.specs.OnRecords.{Table, recProblem, IsBest, Rows, stopAt}
 use Rattle.step.specs.declared.best.Best.{Best}

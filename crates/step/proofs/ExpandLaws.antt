@@ -11,9 +11,9 @@ use Rattle.stops.specs.Record.{stopsIn}
 use Rattle.stops.specs.Stops.{aboveEveryCost}
 use Rattle.stops.specs.declared.node.Node.{Node as Record}
 use Rattle.stops.proofs.SetBits.{stopsIn-few}
-use Rattle.pool.specs.View.{records}
-use Rattle.pool.specs.Passes.{dropAt}
-use Rattle.pool.proofs.ViewLaws.{length-records}
+use Rattle.records.specs.View.{records}
+use Rattle.records.specs.Passes.{dropAt}
+use Rattle.records.proofs.ViewLaws.{length-records}
 use Rattle.step.specs.OnRecords.{Table, Rows, Encoded, restOf, childOf, childrenOf, recProblem, IsBest, survivorsOf, Ready, Expansion}
 use Rattle.step.specs.declared.best.Best.{Best}
 use Rattle.step.specs.declared.Run.{Run}

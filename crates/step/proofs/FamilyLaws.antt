@@ -31,10 +31,10 @@ use Rattle.stops.specs.declared.node.Node.{Node as Record}
 use Rattle.stops.proofs.Paths.{path-small}
 use Rattle.stops.proofs.SetBits.{stopsIn-zero, stopsIn-range, stopsIn-few, stopsIn-added}
 use Rattle.stops.proofs.SetLoops.{First, ahead-small}
-use Rattle.pool.specs.View.{encode}
-use Rattle.pool.specs.Passes.{near, AllNear}
-use Rattle.pool.proofs.Mask.{mask-stops, stops-left, ones-set, mask-extend}
-use Rattle.pool.proofs.Encode.{encode-wide}
+use Rattle.records.specs.View.{encode}
+use Rattle.rivals.specs.Rivals.{near, AllNear}
+use Rattle.records.proofs.Mask.{mask-stops, stops-left, ones-set, mask-extend}
+use Rattle.records.proofs.Encode.{encode-wide}
 use Rattle.step.specs.OnRecords.{Rows, Encoded, restOf, bounded, childOf, childrenOf}
 
 cond-most : {m : ℕ} (test : Bool) (x y : ℕ) → x ≤ m → y ≤ m → cond test x y ≤ m

@@ -21,11 +21,11 @@ use Rattle.stops.specs.Stops.{problem, choices}
 use Rattle.stops.specs.declared.node.Node.{Node as Record}
 use Rattle.stops.proofs.Paths.{path-extend}
 use Rattle.stops.proofs.Bounds.{bound-ahead, bound-exact}
-use Rattle.pool.specs.Records.{mask}
-use Rattle.pool.specs.View.{encode}
-use Rattle.pool.proofs.Mask.{mask-stops, stops-left}
-use Rattle.pool.proofs.Encode.{unbounded, encode-last, encode-extend}
-use Rattle.pool.proofs.EncodeLaws.{encode-child, encode-dominates}
+use Rattle.records.specs.Records.{mask}
+use Rattle.records.specs.View.{encode}
+use Rattle.records.proofs.Mask.{mask-stops, stops-left}
+use Rattle.records.proofs.Encode.{unbounded, encode-last, encode-extend}
+use Rattle.records.proofs.EncodeLaws.{encode-child, encode-dominates}
 use Rattle.step.specs.OnRecords.{restOf, bounded, childOf, childrenOf, rootOf, recProblem, recChoices}
 
 -- lists are mapped alike by functions that agree on their elements

@@ -14,8 +14,9 @@ use Rattle.lists.specs.Lists.{keep}
 use Rattle.lists.proofs.Keep.{keep-all}
 use Rattle.lists.proofs.Numbers.{keep-parts}
 use Rattle.stops.specs.declared.node.Node.{Node as Record}
-use Rattle.pool.specs.Passes.{Sifted, dropAt, isStaying, always}
-use Rattle.pool.proofs.SliceLaws.{keep-append, drop-further, slice-further}
+use Rattle.records.specs.Passes.{Sifted, dropAt, always}
+use Rattle.pool.specs.Staying.{isStaying}
+use Rattle.records.proofs.SliceLaws.{keep-append, drop-further, slice-further}
 use Rattle.step.specs.OnRecords.{Active, stayingOf}
 
 -- those to keep, in place of the first a of recs, stand at the front of recs′, e in number; the records from a on are as before

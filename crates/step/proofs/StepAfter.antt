@@ -13,8 +13,8 @@ use Rattle.search.specs.Problem.{State}
 use Rattle.search.specs.Step.{on, children₁, best₂, active₇, step}
 use Rattle.stops.specs.Record.{emptyRecord}
 use Rattle.stops.specs.declared.node.Node.{Node as Record}
-use Rattle.pool.specs.View.{records}
-use Rattle.pool.specs.Passes.{dropAt}
+use Rattle.records.specs.View.{records}
+use Rattle.records.specs.Passes.{dropAt}
 use Rattle.step.specs.OnRecords.{Table, recProblem, recChoices, childrenOf, stayingOf, heldWith, farOf, Ready, Shown, stepOf}
 use Rattle.step.specs.declared.best.Best.{Best}
 use Rattle.step.specs.declared.Run.{Run}

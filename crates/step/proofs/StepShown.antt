@@ -23,8 +23,9 @@ use Rattle.search.specs.Run.{held, withBranched}
 use Rattle.stops.specs.Record.{emptyRecord, recDominates}
 use Rattle.stops.specs.Stops.{aboveEveryCost}
 use Rattle.stops.specs.declared.node.Node.{Node as Record}
-use Rattle.pool.specs.View.{records}
-use Rattle.pool.specs.Passes.{dropAt, isStaying}
+use Rattle.records.specs.View.{records}
+use Rattle.records.specs.Passes.{dropAt}
+use Rattle.pool.specs.Staying.{isStaying}
 use Rattle.step.specs.OnRecords.{Table, recProblem, recChoices, childrenOf, survivorsOf, stayingOf, heldWith, farOf, IsBest, Ready, Shown, Expansion, stepOf}
 use Rattle.step.specs.declared.best.Best.{Best}
 use Rattle.step.specs.declared.Run.{Run}

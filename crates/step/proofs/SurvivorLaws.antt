@@ -19,8 +19,11 @@ use Rattle.search.specs.Step.{on}
 use Rattle.stops.specs.Record.{recDominates}
 use Rattle.stops.specs.Stops.{aboveEveryCost}
 use Rattle.stops.specs.declared.node.Node.{Node as Record}
-use Rattle.pool.specs.Passes.{Sifted, isWithin, isFree, dropAt, AllNear}
-use Rattle.pool.proofs.SiftLaws.{sifted-all, sifted-fewer, sifted-twice, free-append}
+use Rattle.records.specs.Passes.{Sifted, dropAt}
+use Rattle.pool.specs.Staying.{isWithin}
+use Rattle.rivals.specs.Rivals.{isFree, AllNear}
+use Rattle.records.proofs.SiftLaws.{sifted-all, sifted-fewer, sifted-twice}
+use Rattle.rivals.proofs.RivalLaws.{free-append}
 use Rattle.step.specs.OnRecords.{passing, survivorsOf}
 
 -- the test of a rule's pass: all pass if the rule is off

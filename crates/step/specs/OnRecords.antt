@@ -24,8 +24,10 @@ use Rattle.stops.specs.Legs.{rowLeg, legs}
 use Rattle.stops.specs.Record.{emptyRecord, extended, lastStop, recDominates, stopsIn, ahead, Within}
 use Rattle.stops.specs.Stops.{aboveEveryCost}
 use Rattle.stops.specs.declared.node.Node.{Node as Record}
-use Rattle.pool.specs.View.{records, encode}
-use Rattle.pool.specs.Passes.{isWithin, isFree, isStaying, dropAt, AllNear}
+use Rattle.records.specs.View.{records, encode}
+use Rattle.pool.specs.Staying.{isWithin, isStaying}
+use Rattle.rivals.specs.Rivals.{isFree, AllNear}
+use Rattle.records.specs.Passes.{dropAt}
 use Rattle.step.specs.declared.best.Best.{Best}
 use Rattle.step.specs.declared.Run.{Run}
 use Rattle.step.specs.declared.After.{After}

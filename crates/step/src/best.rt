@@ -10,11 +10,11 @@ ghost use Rattle.search.specs.Step.{learn};
 ghost use Rattle.stops.specs.declared.node.Node.{Node as Record};
 ghost use Rattle.orders.specs.Orders.{Order};
 ghost use Rattle.stops.specs.Legs.{legs};
-ghost use Rattle.pool.specs.View.{records, encode};
-ghost use Rattle.pool.specs.Records.{padded, orderWord};
+ghost use Rattle.records.specs.View.{records, encode};
+ghost use Rattle.records.specs.Records.{padded, orderWord};
 ghost use Rattle.answer.specs.Answer.{given};
 ghost use Rattle.step.specs.OnRecords.{Table, IsBest, recProblem, Rows, stopAt};
-use pool::record::load;
+use records::load;
 use stops::node::Node;
 
 // The cost of the best order known, and its two words; the largest number and zeros if none is known.

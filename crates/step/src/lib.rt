@@ -5,7 +5,7 @@ ghost use Prim.Native.Nat.{_+_, _-_, _^_, _≤_, _<_, max};
 ghost use lib.ListN.{length};
 ghost use Rattle.search.specs.Problem.{State};
 ghost use Rattle.stops.specs.declared.node.Node.{Node as Record};
-ghost use Rattle.pool.specs.View.{records};
+ghost use Rattle.records.specs.View.{records};
 ghost use Rattle.step.specs.OnRecords.{Ready, Shown, Stepping, Expansion};
 
 pub mod best;

@@ -6,14 +6,14 @@ ghost use Prim.Native.Nat.{ℕ, _+_, _-_, _^_, _≤_, _<_};
 ghost use lib.Dec.{T, leb, ltb, eqb};
 ghost use lib.ListN.{length, take, drop};
 ghost use Rattle.search.specs.Step.{on};
-ghost use Rattle.pool.specs.View.{records};
-ghost use Rattle.pool.specs.Passes.{dropAt};
+ghost use Rattle.records.specs.View.{records};
+ghost use Rattle.records.specs.Passes.{dropAt};
 ghost use Rattle.step.specs.OnRecords.{Active, stayingOf, heldWith};
 use pool::part::take_out;
 use pool::part::write_at;
-use pool::record::store;
 use pool::sift::sift;
 use pool::sift::staying;
+use records::store;
 use stops::node::Node;
 
 // How many children take part in rule 8.

@@ -5,11 +5,13 @@ ghost use Prim.Native.Nat.{_-_, _≤_, _<_};
 ghost use lib.ListN.{length, take, drop};
 ghost use Rattle.search.specs.Step.{on};
 ghost use Rattle.stops.specs.Stops.{aboveEveryCost};
-ghost use Rattle.pool.specs.View.{records};
-ghost use Rattle.pool.specs.Passes.{Sifted, AllNear, dropAt, isWithin, isFree};
+ghost use Rattle.records.specs.View.{records};
+ghost use Rattle.records.specs.Passes.{Sifted, dropAt};
+ghost use Rattle.rivals.specs.Rivals.{AllNear, isFree};
+ghost use Rattle.pool.specs.Staying.{isWithin};
 ghost use Rattle.step.specs.OnRecords.{survivorsOf};
-use pool::rivals::unrivalled;
 use pool::sift::within;
+use rivals::unrivalled;
 
 // What rule 1 keeps: bounds up to U, or all.
 pub fn limit_of(rules: u32, upper: u32) -> u32

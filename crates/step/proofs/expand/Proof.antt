@@ -4,8 +4,8 @@ use Prim.Native.Nat.{_/_}
 use native.Mathlib.Omega.{arith}
 use borrow.Author.Needs.{needs}
 use lib.ListN.{length}
-use Rattle.pool.specs.View.{records}
-use Rattle.pool.proofs.ViewLaws.{length-records}
+use Rattle.records.specs.View.{records}
+use Rattle.records.proofs.ViewLaws.{length-records}
 use Rattle.step.proofs.FamilyLaws.{children-size, children-near}
 use Rattle.step.proofs.ExpandLaws.{same-records, family-few, expansion-made}
 use Rattle.step.proofs.expand.Statement.{statement}

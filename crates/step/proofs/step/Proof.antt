@@ -12,9 +12,10 @@ use lib.ListN.{length, take}
 use lib.Seq.{length-take-le}
 use Rattle.lists.proofs.Tests.{tests}
 use Rattle.search.specs.Step.{on}
-use Rattle.pool.specs.View.{records}
-use Rattle.pool.specs.Passes.{dropAt, AllNear}
-use Rattle.pool.proofs.ViewLaws.{length-records, records-small}
+use Rattle.records.specs.View.{records}
+use Rattle.records.specs.Passes.{dropAt}
+use Rattle.rivals.specs.Rivals.{AllNear}
+use Rattle.records.proofs.ViewLaws.{length-records, records-small}
 use Rattle.stops.specs.declared.node.Node.{Node as Record}
 use Rattle.step.specs.OnRecords.{Active, stayingOf, heldWith, Shown, stepOf}
 use Rattle.step.specs.declared.Run.{Run}

@@ -1,5 +1,5 @@
 use mathlib.Core.Path.{refl}
-use Rattle.pool.specs.Records.{padded}
+use Rattle.records.specs.Records.{padded}
 use Rattle.job_file.specs.Reader.{refusal}
 use Rattle.job_file.specs.Promise.{returned}
 use Rattle.job_file.proofs.reader.refused.Statement.{statement}

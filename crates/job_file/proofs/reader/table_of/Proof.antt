@@ -4,7 +4,7 @@ use mathlib.Core.Path.{_≡_, refl, ap, sym, _∙_}
 use mathlib.Core.List.{[], _∷_, _++_}
 use Prim.Native.Nat.{ℕ, _-_, _≤_}
 use native.Mathlib.Omega.{arith}
-use Rattle.pool.specs.Records.{padded}
+use Rattle.records.specs.Records.{padded}
 use Rattle.job_file.specs.Reader.{numbersIn}
 use Rattle.job_file.specs.Promise.{tablePlaces}
 use Rattle.job_file.proofs.ByteLaws.{padded-one, numbers-next, length-numbers}

@@ -3,7 +3,7 @@ use mathlib.Core.Path.{_∙_, ap}
 use native.Mathlib.Omega.{arith}
 use lib.ListN.{set}
 use borrow.Author.Needs.{needs}
-use Rattle.pool.specs.View.{records}
+use Rattle.records.specs.View.{records}
 use Rattle.step.specs.OnRecords.{bounded}
 use Rattle.planner.proofs.StartLaws.{all-small, root-made, start-shown}
 use Rattle.planner.proofs.run.begun.Statement.{statement}

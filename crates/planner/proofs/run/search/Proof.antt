@@ -9,8 +9,8 @@ use lib.ListN.{length}
 use borrow.Author.Needs.{needs}
 use Rattle.search.specs.Problem.{State}
 use Rattle.orders.specs.Orders.{Node, nodes}
-use Rattle.pool.specs.Records.{recordsIn}
-use Rattle.pool.proofs.ViewLaws.{length-records}
+use Rattle.records.specs.Records.{recordsIn}
+use Rattle.records.proofs.ViewLaws.{length-records}
 use Rattle.answer.specs.Call.{Call, callOf}
 use Rattle.planner.specs.Turns.{Running, Turned}
 use Rattle.planner.specs.declared.run.Turn.{Turn}

@@ -6,9 +6,9 @@ use lib.ListN.{take}
 use borrow.Author.Needs.{needs}
 use Rattle.search.specs.Problem.{State}
 use Rattle.stops.specs.declared.node.Node.{Node as Record}
-use Rattle.pool.specs.View.{records}
-use Rattle.pool.specs.Passes.{Chose, Chosen}
-use Rattle.pool.specs.declared.choose.Place.{Place}
+use Rattle.records.specs.View.{records}
+use Rattle.selection.specs.Choosing.{Chose, Chosen}
+use Rattle.selection.specs.declared.Place.{Place}
 use Rattle.step.specs.OnRecords.{Stepping, Shown}
 use Rattle.planner.specs.Turns.{recordsOf}
 use Rattle.step.specs.declared.After.{After}

@@ -3,8 +3,8 @@
 use native.Mathlib.Omega.{arith}
 use lib.ListN.{length-drop}
 use borrow.Author.Needs.{needs}
-use Rattle.pool.specs.View.{records}
-use Rattle.pool.proofs.ViewLaws.{length-records}
+use Rattle.records.specs.View.{records}
+use Rattle.records.proofs.ViewLaws.{length-records}
 use Rattle.pool.proofs.StayLaws.{lent-records, lent-out}
 use Rattle.pool.proofs.part.take_out.Statement.{statement}
 use Rattle.pool.proofs.part.take_out.Tie as tie

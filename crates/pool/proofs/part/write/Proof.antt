@@ -6,7 +6,7 @@ use native.Mathlib.Omega.{arith}
 use lib.ListN.{length}
 use lib.Seq.{paste, length-paste}
 use Rattle.stops.specs.Record.{emptyRecord}
-use Rattle.pool.specs.View.{records}
+use Rattle.records.specs.View.{records}
 use Rattle.pool.proofs.StayLaws.{write-more}
 use Rattle.pool.proofs.part.write.Statement.{statement}
 use Rattle.pool.proofs.part.write.Tie as tie

@@ -2,8 +2,8 @@
 -- their front. Assumes nothing.
 use native.Mathlib.Omega.{arith}
 use lib.ListN.{length-drop}
-use Rattle.pool.specs.View.{records}
-use Rattle.pool.proofs.ViewLaws.{length-records}
+use Rattle.records.specs.View.{records}
+use Rattle.records.proofs.ViewLaws.{length-records}
 use Rattle.pool.proofs.StayLaws.{lent-records, lent-back}
 use borrow.Author.Needs.{needs}
 use Rattle.pool.proofs.part.write_at.Statement.{statement}

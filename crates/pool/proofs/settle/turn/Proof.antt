@@ -5,7 +5,7 @@ use Prim.Native.Nat.{_-_, _≤_}
 use native.Mathlib.Omega.{arith}
 use lib.ListN.{length, length-set}
 use Rattle.stops.specs.Record.{emptyRecord}
-use Rattle.pool.specs.View.{records}
+use Rattle.records.specs.View.{records}
 use Rattle.pool.proofs.SettleLaws.{turned, turn-again, turn-ends}
 use Rattle.pool.proofs.settle.turn.Statement.{statement}
 use Rattle.pool.proofs.settle.turn.Tie as tie

@@ -6,9 +6,9 @@ use native.Mathlib.Omega.{arith}
 use lib.ListN.{getD, take}
 use borrow.Author.Tests.{not-true, not-false}
 use Rattle.stops.specs.Record.{emptyRecord}
-use Rattle.pool.specs.View.{records}
-use Rattle.pool.specs.Passes.{isStaying}
-use Rattle.pool.proofs.SliceLaws.{AllSo, all-so-none, all-so-more}
+use Rattle.records.specs.View.{records}
+use Rattle.pool.specs.Staying.{isStaying}
+use Rattle.records.proofs.SliceLaws.{AllSo, all-so-none, all-so-more}
 use Rattle.pool.proofs.sift.next_gone.Statement.{statement}
 use Rattle.pool.proofs.sift.next_gone.Tie as tie
 

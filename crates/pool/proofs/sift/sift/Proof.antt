@@ -6,9 +6,10 @@ use native.Mathlib.Omega.{arith}
 use borrow.Author.Needs.{needs}
 use lib.ListN.{length, getD, take}
 use Rattle.stops.specs.Record.{emptyRecord}
-use Rattle.pool.specs.View.{records}
-use Rattle.pool.specs.Passes.{Sifted, isStaying}
-use Rattle.pool.proofs.SiftLaws.{sifted-none, sifted-within, sifted-run, sifted-past, past-on}
+use Rattle.records.specs.View.{records}
+use Rattle.records.specs.Passes.{Sifted}
+use Rattle.pool.specs.Staying.{isStaying}
+use Rattle.records.proofs.SiftLaws.{sifted-none, sifted-within, sifted-run, sifted-past, past-on}
 use Rattle.pool.proofs.sift.sift.Statement.{statement}
 use Rattle.pool.proofs.sift.sift.Tie as tie
 

@@ -3,9 +3,9 @@ use mathlib.Core.Path.{_≡_, refl}
 use Prim.Native.Nat.{_-_, _≤_}
 use native.Mathlib.Omega.{arith}
 use lib.ListN.{length}
-use Rattle.pool.specs.View.{records}
-use Rattle.pool.specs.Passes.{Sifted, always}
-use Rattle.pool.proofs.SiftLaws.{sifted-none, sifted-passes, sifted-still}
+use Rattle.records.specs.View.{records}
+use Rattle.records.specs.Passes.{Sifted, always}
+use Rattle.records.proofs.SiftLaws.{sifted-none, sifted-passes, sifted-still}
 use Rattle.pool.proofs.sift.slide.Statement.{statement}
 use Rattle.pool.proofs.sift.slide.Tie as tie
 

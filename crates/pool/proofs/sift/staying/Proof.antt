@@ -6,8 +6,8 @@ use native.Mathlib.Omega.{arith}
 use lib.ListN.{length, take}
 use lib.Seq.{slice}
 use Rattle.lists.specs.Lists.{keep}
-use Rattle.pool.specs.View.{records}
-use Rattle.pool.specs.Passes.{isStaying}
+use Rattle.records.specs.View.{records}
+use Rattle.pool.specs.Staying.{isStaying}
 use Rattle.pool.proofs.StayLaws.{count-none, count-within, count-passes, count-fails}
 use Rattle.pool.proofs.sift.staying.Statement.{statement}
 use Rattle.pool.proofs.sift.staying.Tie as tie

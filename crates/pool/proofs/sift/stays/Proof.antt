@@ -6,10 +6,11 @@ use native.Mathlib.Omega.{arith}
 use lib.ListN.{take}
 use borrow.Author.Needs.{needs}
 use borrow.Author.Tests.{le-leb, not-true}
-use Rattle.pool.specs.View.{records}
-use Rattle.pool.specs.Passes.{near, isStaying}
+use Rattle.records.specs.View.{records}
+use Rattle.rivals.specs.Rivals.{near}
+use Rattle.pool.specs.Staying.{isStaying}
 use Rattle.pool.proofs.StayLaws.{stays-above, stays-free}
-use Rattle.pool.proofs.RivalLaws.{apart}
+use Rattle.rivals.proofs.RivalLaws.{apart}
 use Rattle.pool.proofs.sift.stays.Statement.{statement}
 use Rattle.pool.proofs.sift.stays.Tie as tie
 

@@ -6,7 +6,7 @@ use native.Mathlib.Omega.{arith}
 use lib.ListN.{take}
 use Rattle.lists.specs.Lists.{any}
 use Rattle.stops.specs.Record.{emptyRecord, recDominates}
-use Rattle.pool.specs.View.{records}
+use Rattle.records.specs.View.{records}
 use Rattle.pool.proofs.StayLaws.{any-found, free-more}
 use Rattle.pool.proofs.sift.unbeaten.Statement.{statement}
 use Rattle.pool.proofs.sift.unbeaten.Tie as tie

@@ -4,9 +4,10 @@ use Prim.Native.Nat.{_-_, _≤_}
 use native.Mathlib.Omega.{arith}
 use lib.ListN.{length}
 use borrow.Author.Tests.{le-leb, lt-leb}
-use Rattle.pool.specs.View.{records}
-use Rattle.pool.specs.Passes.{Sifted, isWithin}
-use Rattle.pool.proofs.SiftLaws.{sifted-none, sifted-passes, sifted-fails}
+use Rattle.records.specs.View.{records}
+use Rattle.records.specs.Passes.{Sifted}
+use Rattle.pool.specs.Staying.{isWithin}
+use Rattle.records.proofs.SiftLaws.{sifted-none, sifted-passes, sifted-fails}
 use Rattle.pool.proofs.sift.within.Statement.{statement}
 use Rattle.pool.proofs.sift.within.Tie as tie
 

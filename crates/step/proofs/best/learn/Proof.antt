@@ -6,7 +6,7 @@ use native.Mathlib.Omega.{arith}
 use borrow.Author.Needs.{needs}
 use lib.ListN.{take}
 use Rattle.stops.specs.Record.{emptyRecord}
-use Rattle.pool.specs.View.{records}
+use Rattle.records.specs.View.{records}
 use Rattle.step.proofs.BestLaws.{Learnt, learn-none, learn-more}
 use Rattle.step.proofs.best.learn.Statement.{statement}
 use Rattle.step.proofs.best.learn.Tie as tie

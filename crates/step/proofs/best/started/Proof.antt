@@ -7,7 +7,7 @@ use lib.ListN.{length, getD}
 use denote.Ref.{now}
 use Rattle.orders.specs.Orders.{Order}
 use Rattle.stops.specs.Legs.{rowLeg, legs}
-use Rattle.pool.specs.View.{encode}
+use Rattle.records.specs.View.{encode}
 use Rattle.step.specs.OnRecords.{Rows}
 use Rattle.step.proofs.BestLaws.{empty-best, Flown, flown-none, flown-more, flown-wide, flown-room, flown-best, next-near, order-given}
 use Rattle.step.proofs.best.started.Statement.{statement}

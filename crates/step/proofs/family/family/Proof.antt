@@ -7,7 +7,7 @@ use native.Mathlib.Omega.{arith}
 use borrow.Author.Needs.{needs}
 use lib.ListN.{length}
 use Rattle.stops.proofs.SetLoops.{First, first-out, first-later}
-use Rattle.pool.specs.View.{records}
+use Rattle.records.specs.View.{records}
 use Rattle.step.specs.OnRecords.{restOf, childOf, childrenOf}
 use Rattle.step.proofs.FamilyLaws.{rest-sum, rest-small, Written, written-starts, written-room, written-again, written-ends}
 use Rattle.step.proofs.family.family.Statement.{statement}

@@ -5,8 +5,8 @@ use native.Mathlib.Omega.{arith}
 use lib.Dec.{T}
 use lib.ListN.{length}
 use borrow.Author.Tests.{le-leb, lt-leb}
-use Rattle.pool.specs.View.{records}
-use Rattle.pool.proofs.ViewLaws.{length-records}
+use Rattle.records.specs.View.{records}
+use Rattle.records.proofs.ViewLaws.{length-records}
 use Rattle.step.specs.OnRecords.{stayingOf}
 use Rattle.step.proofs.ReplaceLaws.{staying-few}
 use Rattle.step.proofs.replace.fits.Statement.{statement}

@@ -1,6 +1,6 @@
 -- `remaining` meets its contract: those that stay before i and behind it are those that stay. Assumes nothing.
 use native.Mathlib.Omega.{arith}
-use Rattle.pool.specs.View.{records}
+use Rattle.records.specs.View.{records}
 use Rattle.step.proofs.ReplaceLaws.{staying-number, staying-few}
 use Rattle.step.proofs.replace.remaining.Statement.{statement}
 use Rattle.step.proofs.replace.remaining.Tie as tie

@@ -2,8 +2,8 @@
 use native.Mathlib.Omega.{arith}
 use lib.Dec.{T}
 use borrow.Author.Needs.{needs}
-use Rattle.pool.specs.View.{records}
-use Rattle.pool.proofs.ViewLaws.{length-records}
+use Rattle.records.specs.View.{records}
+use Rattle.records.proofs.ViewLaws.{length-records}
 use Rattle.step.specs.OnRecords.{stayingOf}
 use Rattle.step.proofs.ReplaceLaws.{Gathered, slide-gathers, gathered-written}
 use Rattle.step.proofs.replace.replace.Statement.{statement}

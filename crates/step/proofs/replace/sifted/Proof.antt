@@ -2,9 +2,9 @@
 use native.Mathlib.Omega.{arith}
 use lib.ListN.{take}
 use borrow.Author.Needs.{needs}
-use Rattle.pool.specs.View.{records}
-use Rattle.pool.specs.Passes.{isStaying}
-use Rattle.pool.proofs.ViewLaws.{length-records}
+use Rattle.records.specs.View.{records}
+use Rattle.pool.specs.Staying.{isStaying}
+use Rattle.records.proofs.ViewLaws.{length-records}
 use Rattle.pool.proofs.StayLaws.{count-within}
 use Rattle.step.specs.OnRecords.{stayingOf}
 use Rattle.step.proofs.ReplaceLaws.{Gathered, sifts-gather, gathered-written}

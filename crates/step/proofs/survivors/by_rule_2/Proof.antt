@@ -2,10 +2,11 @@
 use native.Mathlib.Omega.{arith}
 use lib.ListN.{take}
 use borrow.Author.Needs.{needs}
-use Rattle.pool.specs.View.{records}
-use Rattle.pool.specs.Passes.{isFree, dropAt}
-use Rattle.pool.proofs.SiftLaws.{sifted-fewer}
-use Rattle.pool.proofs.RivalLaws.{sifted-near-still}
+use Rattle.records.specs.View.{records}
+use Rattle.rivals.specs.Rivals.{isFree}
+use Rattle.records.specs.Passes.{dropAt}
+use Rattle.records.proofs.SiftLaws.{sifted-fewer}
+use Rattle.rivals.proofs.RivalLaws.{sifted-near-still}
 use Rattle.step.proofs.SurvivorLaws.{sifted-on, sifted-off, sifted-around}
 use Rattle.step.proofs.survivors.by_rule_2.Statement.{statement}
 use Rattle.step.proofs.survivors.by_rule_2.Tie as tie

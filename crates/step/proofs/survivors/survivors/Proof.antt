@@ -3,10 +3,10 @@ use Prim.Native.Nat.{_-_}
 use native.Mathlib.Omega.{arith}
 use lib.ListN.{take, drop}
 use borrow.Author.Needs.{needs}
-use Rattle.pool.specs.View.{records}
-use Rattle.pool.specs.Passes.{dropAt}
-use Rattle.pool.proofs.SiftLaws.{sifted-fewer}
-use Rattle.pool.proofs.RivalLaws.{sifted-near-still}
+use Rattle.records.specs.View.{records}
+use Rattle.records.specs.Passes.{dropAt}
+use Rattle.records.proofs.SiftLaws.{sifted-fewer}
+use Rattle.rivals.proofs.RivalLaws.{sifted-near-still}
 use Rattle.step.proofs.SurvivorLaws.{survivors-sifted}
 use Rattle.step.proofs.survivors.survivors.Statement.{statement}
 use Rattle.step.proofs.survivors.survivors.Tie as tie

@@ -1,0 +1,52 @@
+-- The sets of a node as numbers (`mask`: stop s adds 2 to the power s-1): the stops that it flies and those that it leaves.
+--   mask-stops, set-small      together the two numbers are 2 to the power n, less 1
+--   stops-set, stops-left      the stops can be read back
+--   ones-set                   and those flown counted
+--   mask-extend, stops-child   what one more stop does to both
+-- Assumes nothing.
+use mathlib.Core.Path.{_≡_, ap, _∙_}
+use Prim.Native.Nat.{ℕ, _+_, _-_, _^_, _≤_, _<_}
+use native.Mathlib.Omega.{arith}
+use lib.Count.{ones}
+use lib.ListN.{length}
+use lib.Pow.{pow-pos, pow-mono}
+use Rattle.lists.specs.Lists.{In}
+use Rattle.lists.proofs.Distinct.{sum-without}
+use Rattle.orders.specs.Orders.{Node, flown, set, left, size, extend}
+use Rattle.orders.proofs.Sets.{distinct-left, left-extend}
+use Rattle.stops.specs.Record.{stopsIn}
+use Rattle.stops.proofs.SetBits.{stopsIn-ones, stopsIn-mask, stopsIn-others, mask-small, mask-others}
+use Rattle.records.specs.Records.{mask}
+use Rattle.records.specs.Examples
+
+pub mask-stops : (n : ℕ) (x : Node) → mask (set n x) + mask (left n x) ≡ 2 ^ n - 1
+unfolding mask set left
+mask-stops n x = omega (arith, mask-small (flown x) n, mask-others (flown x) n)
+
+mask-leave : (n : ℕ) (x : Node) (s : ℕ) → In s (left n x) → mask (left n x) ≡ 2 ^ (s - 1) + mask (left n (extend x s))
+unfolding mask
+mask-leave n x s m = rw (left-extend n x s) (sum-without (λ r. 2 ^ (r - 1)) s (distinct-left n x) m)
+
+pub mask-extend : (n : ℕ) (x : Node) (s : ℕ) → In s (left n x) → mask (set n (extend x s)) ≡ mask (set n x) + 2 ^ (s - 1)
+mask-extend n x s m = omega (arith, mask-stops n x, mask-stops n (extend x s), mask-leave n x s m)
+
+module _ (n : ℕ) (few : n ≤ 16) (x : Node) where
+  pub set-small : mask (set n x) < 2 ^ 16
+  set-small = omega (arith, mask-stops n x, pow-pos n, pow-mono {i = n} {j = 16} few)
+
+  pub stops-set : stopsIn (mask (set n x)) ≡ set n x
+  unfolding mask set
+  stops-set = stopsIn-mask (flown x) n few
+
+  pub stops-left : stopsIn (2 ^ n - 1 - mask (set n x)) ≡ left n x
+  unfolding mask set left
+  stops-left = stopsIn-others (flown x) n few
+
+  pub ones-set : ones (mask (set n x)) ≡ size n x
+  unfolding size
+  ones-set = stopsIn-ones (mask (set n x)) set-small ∙ ap length stops-set
+
+pub stops-child :
+    (n : ℕ) → n ≤ 16 → (x : Node) (s : ℕ) → In s (left n x)
+    → stopsIn (2 ^ n - 1 - mask (set n x) - 2 ^ (s - 1)) ≡ left n (extend x s)
+stops-child n few x s m = ap stopsIn (omega (arith, mask-extend n x s m)) ∙ stops-left n few (extend x s)

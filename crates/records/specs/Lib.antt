@@ -1,0 +1,4 @@
+pub mod Records
+pub mod Examples
+pub mod View
+pub mod Passes

@@ -1,0 +1,37 @@
+// Node records: a record's six numbers and the pool's words for a state are document 01's (specs/Records); words are seen as a list of
+// records (specs/View), and one is read and written here. The functions are public for the crates above and not for hosts; what they
+// require, those crates meet.
+ghost use mathlib.Core.Path.{_≡_};
+ghost use Prim.Native.Nat.{_<_};
+ghost use lib.ListN.{length, getD, set};
+ghost use Rattle.stops.specs.Record.{emptyRecord};
+ghost use Rattle.records.specs.View.{records};
+use stops::node::Node;
+
+pub fn load(w: &[u32], i: usize) -> Node
+    requires { ⌜ i < length (records (now w)) ⌝ }
+    ensures { λ r. ⌜ r ≡ getD (records (now (w .entry))) i emptyRecord ⌝ }
+{
+    let at = 6 * i;
+    Node {
+        size: w[at],
+        set: w[at + 1],
+        path: w[at + 2],
+        bound: w[at + 3],
+        first: w[at + 4],
+        second: w[at + 5],
+    }
+}
+
+pub fn store(w: &mut [u32], i: usize, x: Node)
+    requires { ⌜ i < length (records (now w)) ⌝ }
+    ensures { λ r. ⌜ records (now (w .exit)) ≡ set (records (now (w .entry))) i x ⌝ }
+{
+    let at = 6 * i;
+    w[at] = x.size;
+    w[at + 1] = x.set;
+    w[at + 2] = x.path;
+    w[at + 3] = x.bound;
+    w[at + 4] = x.first;
+    w[at + 5] = x.second;
+}
