@@ -1,6 +1,6 @@
 -- Laws for the passes over active records and for the writing of children, as the loops of `stays`, `staying`, `write` and `write_at`
--- need them. `isStaying` is false above the limit (`stays-above`) and where one of the kids dominates (`stays-beaten`), else true
--- (`stays-free`). What holds at a partial index holds at the next: none of the first k passes a test (`free-more`), so many records pass
+-- need them. `isStaying` is false above the limit (`stays-above`), and true below it where none of the kids dominates (`stays-free`). What
+-- holds at a partial index holds at the next: none of the first k passes a test (`free-more`), so many records pass
 -- (`count-passes`, `count-fails`), the first k kids are written (`write-more`). Last, what a part of the pool's words that is lent on is
 -- as records (`lent-records`, `lent-back`). Assumes nothing.
 use mathlib.Core.Path.{_≡_, refl, ap, sym, _∙_}
@@ -47,12 +47,6 @@ module _ (limit : ℕ) (kids : List Record) (x : Record) where
   pub stays-free : (r : ℕ) → x .bound ≤ limit → any (λ y. recDominates y x) (take r kids) ≡ false → isStaying limit (take r kids) x ≡ true
   unfolding isStaying
   stays-free r h e = rw (le-leb (x .bound) limit h, e)
-
-  pub stays-beaten :
-      (k r : ℕ) → x .bound ≤ limit → k < r → r ≤ length kids → recDominates (getD kids k emptyRecord) x ≡ true
-      → isStaying limit (take r kids) x ≡ false
-  unfolding isStaying
-  stays-beaten k r h i inside p = rw (le-leb (x .bound) limit h, any-found (λ y. recDominates y x) emptyRecord kids k r i inside p)
 
 -- none of the first k passes, and the next does not
 pub free-more :

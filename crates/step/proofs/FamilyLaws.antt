@@ -29,7 +29,8 @@ use Rattle.stops.specs.Legs.{rowLeg, legs, path}
 use Rattle.stops.specs.Record.{Wide, extended, lastStop, stopsIn, ahead}
 use Rattle.stops.specs.declared.node.Node.{Node as Record}
 use Rattle.stops.proofs.Paths.{path-small}
-use Rattle.stops.proofs.SetBits.{stopsIn-zero, stopsIn-range, stopsIn-few, stopsIn-added}
+use Rattle.stops.proofs.SetBits.{stopsIn-zero, stopsIn-range, stopsIn-few}
+use Rattle.stops.proofs.SetAnd.{stopsIn-added}
 use Rattle.stops.proofs.SetLoops.{First, ahead-small}
 use Rattle.records.specs.View.{encode}
 use Rattle.rivals.specs.Rivals.{near, AllNear}

@@ -119,36 +119,23 @@ pub fn step(
     requires { ⌜ Ready n t number rules (now w) i b r ⌝ }
     ensures { λ q. ⌜ ((s : State Record) → Shown rules (now (w .entry)) r s → Stepping n t number rules i b (now (w .entry)) (now (w .exit)) s q) ⌝ }
 {
-    let count = w.len() / 6;
+    let cap = w.len() / 6;
     let a = r.active;
     let far = r.held;
     let known = r.best;
     let mut kids = [0u32; 96];
     let e = expand(t, n, rules, number, w, i, b, r, &mut kids);
     let left = e.left;
-    let limit = e.limit;
+    let top = e.limit;
     let best = e.best;
-    let taking = taking_of(rules, left);
+    let part = taking_of(rules, left);
     let held = holding(rules, far);
-    let all = all_stay(rules, known.upper, best.upper, taking);
+    let all = all_stay(rules, known.upper, best.upper, part);
     let size = b.size + 1;
-    if !fits(
-        w,
-        count,
-        a,
-        i,
-        limit,
-        size,
-        b.set,
-        &kids,
-        left,
-        taking,
-        held,
-        all,
-    ) {
+    if !fits(w, cap, a, i, top, size, b.set, &kids, left, part, held, all) {
         return After::Full;
     }
-    let active = replace(w, a, i, limit, size, b.set, &kids, left, taking, all);
-    hold(w, count, held, b);
+    let active = replace(w, a, i, top, size, b.set, &kids, left, part, all);
+    hold(w, cap, held, b);
     After::Go(counted(r, best, e.count, active, held))
 }

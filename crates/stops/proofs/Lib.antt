@@ -8,4 +8,5 @@ pub mod LegTable
 pub mod Instance
 pub mod RowLaws
 pub mod SetBits
+pub mod SetAnd
 pub mod SetLoops

@@ -5,20 +5,17 @@
 --   mask, stopsIn-mask, mask-stopsIn, mask-small    the number of a set of stops, and the way back
 --   mask-others, stopsIn-others   what is missing from the number of all n stops is the number of the other stops
 --   stopsIn-ones                  the digits that are set are as many as the stops
---   stopsIn-added                 a stop that was lacking, added to a set, leaves the others
 -- Each is shown of `Digits`, by halving the number. Assumes nothing.
 use mathlib.Core.Path.{_≡_, refl, ap, _∙_, sym}
 use mathlib.Core.Bool.{Bool, true, false, not}
 use mathlib.Core.List.{List, [], _∷_, List·Memᴰ·tail, List·Memᴰ·cases-cons, List·Memᴰ·not-nil}
 use mathlib.Core.Logic.{_⊎_, inl, inr, _≢_}
-use Prim.Native.Nat.{ℕ, zero, suc, _+_, _-_, _^_, _/_, _%_, _≤_, _<_, min}
+use Prim.Native.Nat.{ℕ, zero, suc, _+_, _-_, _^_, _/_, _%_, _≤_, _<_}
 use native.Mathlib.Nat.{pow-suc}
 use native.Mathlib.Omega.{arith}
-use lib.Bits.{bitAnd, and-step, and-self}
 use lib.Count.{trailingZeros, ones, ones-step}
 use lib.Dec.{eqb, eqb-refl}
 use lib.ListN.{length}
-use lib.Pow.{pow-pos}
 use Rattle.lists.specs.Lists.{In, put, keep, sum, from, Distinct, none, more}
 use Rattle.lists.proofs.Tests.{compared, to-true, to-false, ne-neqb}
 use Rattle.lists.proofs.Members.{in-head, in-keep, in-from}
@@ -29,7 +26,7 @@ use Rattle.stops.specs.Examples
 
 -- Digits k s m xs: m has k digits, and xs are the stops of those that are set, where the lowest digit stands for stop s. A number is
 -- twice its half h, and then its lowest digit is clear, or one more, and then it is set.
-data Digits : ℕ → ℕ → ℕ → List ℕ → Type 0 where
+pub data Digits : ℕ → ℕ → ℕ → List ℕ → Type 0 where
   no-digit : {s m : ℕ} → m ≡ 0 → Digits 0 s m []
   is-clear : {k s m : ℕ} {xs : List ℕ} (h : ℕ) → m ≡ h + h → Digits k (suc s) h xs → Digits (suc k) s m xs
   is-set : {k s m : ℕ} {xs : List ℕ} (h : ℕ) → m ≡ suc (h + h) → Digits k (suc s) h xs → Digits (suc k) s m (s ∷ xs)
@@ -56,7 +53,7 @@ digits-bits {s = s} {m = m} (is-set h e d) =
     let q : m / 2 ≡ h = omega arith in
     rw (o, q) (ap (λ (l : List ℕ). s ∷ l) (digits-bits d))
 
-digits-range : {k s m : ℕ} {xs : List ℕ} → Digits k s m xs → (r : ℕ) → In r xs → (s ≤ r) × (r < s + k)
+pub digits-range : {k s m : ℕ} {xs : List ℕ} → Digits k s m xs → (r : ℕ) → In r xs → (s ≤ r) × (r < s + k)
 digits-range (no-digit e) r i = absurd (List·Memᴰ·not-nil i)
 digits-range (is-clear h e d) r i = omega (arith, digits-range d r i)
 digits-range (is-set {k} {s} {m} {xs} h e d) r i = go (List·Memᴰ·cases-cons i) (digits-range d r)
@@ -113,40 +110,8 @@ digits-next (is-set {k} {s} {m} {xs} h e d) (suc l) f p =
     let odd : m % 2 ≡ 1 = omega arith in
     (zero, xs, rw odd, omega arith, omega arith, ap (λ (r : ℕ). r ∷ xs) (omega arith), is-clear {m = m - 1} h (omega arith) d)
 
--- a digit added where m has none leaves those of m as they are: at the lowest place, and one place above where it does so in the half
-added-lowest : (m : ℕ) → m % 2 ≡ 0 → bitAnd (m + 2 ^ 0) m ≡ m
-added-lowest m even =
-    let half : (m + 1) / 2 ≡ m / 2 = omega arith in
-    let low : min ((m + 1) % 2) (m % 2) ≡ 0 = rw even (omega arith) in
-    and-step (m + 1) m ∙ rw (half, low, and-self) (omega arith)
-
-added-half : (m j : ℕ) → bitAnd (m / 2 + 2 ^ j) (m / 2) ≡ m / 2 → bitAnd (m + 2 ^ suc j) m ≡ m
-added-half m j e =
-    let half : (m + 2 ^ suc j) / 2 ≡ m / 2 + 2 ^ j = omega (arith, pow-suc 2 j) in
-    let low : (m + 2 ^ suc j) % 2 ≡ m % 2 = omega (arith, pow-suc 2 j) in
-    and-step (m + 2 ^ suc j) m ∙ rw (half, low, e) (omega arith)
-
--- the digits of m and of m - 1 agree above the lowest that is set
-digits-lowest : {k s m : ℕ} {xs : List ℕ} → Digits k s m xs → (l : ℕ) → k ≤ l → 0 < m → bitAnd m (m - 1) ≡ m - 2 ^ trailingZeros l m
-unfolding trailingZeros
-digits-lowest (no-digit e) l f p = absurd (omega arith)
-digits-lowest (is-clear h e d) zero f p = absurd (omega arith)
-digits-lowest (is-set h e d) zero f p = absurd (omega arith)
-digits-lowest (is-clear {m = m} h e d) (suc l) f p =
-    let even : m % 2 ≡ 0 = omega arith in
-    let half : m / 2 ≡ h = omega arith in
-    let before : (m - 1) / 2 ≡ h - 1 = omega arith in
-    let again : bitAnd h (h - 1) ≡ h - 2 ^ trailingZeros l h = digits-lowest d l (omega arith) (omega arith) in
-    and-step m (m - 1) ∙ rw (even, half, before, again) (omega (arith, pow-suc 2 (trailingZeros l h)))
-digits-lowest (is-set {m = m} h e d) (suc l) f p =
-    let odd : m % 2 ≡ 1 = omega arith in
-    let half : m / 2 ≡ h = omega arith in
-    let before : (m - 1) / 2 ≡ h = omega arith in
-    let low : min 1 ((m - 1) % 2) ≡ 0 = omega arith in
-    and-step m (m - 1) ∙ rw (odd, half, before, low, and-self) (omega arith)
-
 -- taking the digit j places up off takes its stop, r, out
-digits-without :
+pub digits-without :
     {k s m : ℕ} {xs : List ℕ} → Digits k s m xs → (j r : ℕ) → r ≡ s + j → In r xs → (2 ^ j ≤ m) × Digits k s (m - 2 ^ j) (without r xs)
 digits-without (no-digit e) j r q i = absurd (List·Memᴰ·not-nil i)
 digits-without (is-clear h e d) zero r q i = absurd (omega (arith, digits-range d r i))
@@ -166,21 +131,6 @@ digits-without (is-set {s = s} {m} {xs} h e d) (suc j) r q i =
     )
   where
     go : (r ≡ s) ⊎ In r xs → In r xs
-    go (inl p) = absurd (omega arith)
-    go (inr p) = p
-
--- m is what r lacks of all the first n digits: a digit of r that is set, added to m, leaves those of m as they are
-digits-added :
-    {k s r : ℕ} {xs : List ℕ} → Digits k s r xs → (n m : ℕ) → m + r + 1 ≡ 2 ^ n → (j t : ℕ) → t ≡ s + j → In t xs → bitAnd (m + 2 ^ j) m ≡ m
-digits-added d zero m e j t q i = absurd (omega (arith, digits-without d j t q i .0, pow-pos j))
-digits-added (no-digit z) (suc n) m e j t q i = absurd (List·Memᴰ·not-nil i)
-digits-added (is-clear h z d) (suc n) m e zero t q i = absurd (omega (arith, digits-range d t i))
-digits-added (is-clear h z d) (suc n) m e (suc j) t q i = added-half m j (digits-added d n (m / 2) (omega (arith, pow-suc 2 n)) j t (omega arith) i)
-digits-added (is-set h z d) (suc n) m e zero t q i = added-lowest m (omega (arith, pow-suc 2 n))
-digits-added (is-set {s = s} {xs = xs} h z d) (suc n) m e (suc j) t q i =
-    added-half m j (digits-added d n (m / 2) (omega (arith, pow-suc 2 n)) j t (omega arith) (go (List·Memᴰ·cases-cons i)))
-  where
-    go : (t ≡ s) ⊎ In t xs → In t xs
     go (inl p) = absurd (omega arith)
     go (inr p) = p
 
@@ -263,7 +213,7 @@ unfolding stopsIn
 stopsIn-zero = digits-bits (digits-zero 16 1)
 
 module _ (m : ℕ) (small : m < 2 ^ 16) where
-  stops-digits : Digits 16 1 m (stopsIn m)
+  pub stops-digits : Digits 16 1 m (stopsIn m)
   unfolding stopsIn
   stops-digits = digits 16 1 m small
 
@@ -276,9 +226,6 @@ module _ (m : ℕ) (small : m < 2 ^ 16) where
       let (t, ys, z, b, c, q, n) = digits-next stops-digits 32 (omega arith) p in
       let first : 1 + t ≡ t + 1 = omega arith in
       rw (← z) (b, c, q ∙ rw (first, digits-bits n))
-
-  pub stopsIn-later : 0 < m → bitAnd m (m - 1) ≡ m - 2 ^ trailingZeros 32 m
-  stopsIn-later p = digits-lowest stops-digits 32 (omega arith) p
 
   pub stopsIn-range : (s : ℕ) → In s (stopsIn m) → (1 ≤ s) × (s ≤ 16)
   stopsIn-range s i = omega (arith, digits-range stops-digits s i)
@@ -298,10 +245,6 @@ module _ (m : ℕ) (small : m < 2 ^ 16) where
       let h : (1 ≤ s) × (s ≤ 16) = stopsIn-range s i in
       let (b, n) = digits-without stops-digits (s - 1) s (omega arith) i in
       (b, digits-bits n)
-
--- a stop that a set of the first n lacks, added to it, leaves its stops as they are
-pub stopsIn-added : (n m r s : ℕ) → m + r + 1 ≡ 2 ^ n → r < 2 ^ 16 → In s (stopsIn r) → bitAnd (m + 2 ^ (s - 1)) m ≡ m
-stopsIn-added n m r s all small i = digits-added (stops-digits r small) n m all (s - 1) s (omega (arith, stopsIn-range r small s i)) i
 
 -- the number of a set of stops
 abbrev pub mask : List ℕ → ℕ

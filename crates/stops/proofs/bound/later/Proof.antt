@@ -1,7 +1,7 @@
 -- `stops::bound::later` meets its contract: of the digits of a set and of the number before it, those above the lowest that is set agree.
 -- Assumes nothing.
 use native.Mathlib.Omega.{arith}
-use Rattle.stops.proofs.SetBits.{stopsIn-later}
+use Rattle.stops.proofs.SetAnd.{stopsIn-later}
 use Rattle.stops.proofs.bound.later.Statement.{statement}
 use Rattle.stops.proofs.bound.later.Tie as tie
 
