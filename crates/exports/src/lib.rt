@@ -1,7 +1,12 @@
-// What a host in C or Rust calls. Each function is the planner's own under a C name, and so is its promise; this crate holds nothing
-// else, so that building the static library proves nothing twice.
+// What a host in C or Rust calls. Each function is one of ours under a C name, and so is its promise; this crate holds nothing else, so
+// that building the static library proves nothing twice.
+ghost use mathlib.Core.Path.{_≡_};
 ghost use Rattle.answer.specs.Call.{callOf};
 ghost use Rattle.planner.specs.Promise.{Promised};
+ghost use Rattle.job_file.specs.Reader.{read};
+ghost use Rattle.job_file.specs.Promise.{returned, jobOf, Promised as PromisedFile};
+use job_file::reader::Reading;
+use job_file::writer::Written;
 use planner::run::Report;
 
 // `planner::plan` for C: a slice is a pointer and a length.
@@ -18,4 +23,28 @@ pub extern "C" fn gondamuy_plan(
     ensures { λ r. ⌜ Promised (callOf n (now (table .entry)) selection rules bound (now (start .entry)) (now (pool .entry))) r (now (pool .exit)) ⌝ }
 {
     planner::plan(n, table, selection, rules, bound, start, pool)
+}
+
+// `job_file::reader::read` for C.
+#[no_mangle]
+pub extern "C" fn gondamuy_read(file: &[u8]) -> Reading
+    ensures { λ r. ⌜ r ≡ returned (read (now (file .entry))) ⌝ }
+{
+    job_file::reader::read(file)
+}
+
+// `job_file::writer::write` for C.
+#[no_mangle]
+pub extern "C" fn gondamuy_write(
+    n: u32,
+    table: &[u32],
+    selection: u32,
+    rules: u32,
+    bound: u32,
+    start: &[u8],
+    buffer: &mut [u8],
+) -> Written
+    ensures { λ r. ⌜ PromisedFile (jobOf n (now (table .entry)) selection rules bound (now (start .entry))) (now (buffer .entry)) r (now (buffer .exit)) ⌝ }
+{
+    job_file::writer::write(n, table, selection, rules, bound, start, buffer)
 }

@@ -1,8 +1,15 @@
-//! The proved stop-order planner, safe to call with anything. What `plan`
-//! answers is `answer` of crates/answer/specs/Answer.antt, over all inputs.
+//! The proved stop-order planner, and the proved reader and writer of job
+//! files, safe to call with anything. What they answer is, over all inputs,
+//! that of `answer` (crates/answer/specs/Answer.antt), of `read` and of `write`
+//! (crates/job_file/specs/Reader.antt and Writer.antt).
+
+mod border;
 
 /// Words in a record of the pool.
 pub const RECORD_WORDS: usize = 6;
+
+/// Bytes of the longest job file.
+pub const LONGEST_FILE: usize = 1_185;
 
 /// An order (number 0) or a refusal (number 1 to 7).
 #[repr(C)]
@@ -19,19 +26,42 @@ pub struct Report {
     pub most: u64,
 }
 
-extern "C" {
-    fn gondamuy_plan(
-        n: u32,
-        table: *const u32,
-        table_len: usize,
-        selection: u32,
-        rules: u32,
-        bound: u32,
-        start: *const u8,
-        start_len: usize,
-        pool: *mut u32,
-        pool_len: usize,
-    ) -> Report;
+/// A job (number 0) or a refusal (number 8, 1, 9, 3, 4 or 5) and zeros.
+#[repr(C)]
+#[derive(Clone, Copy, Debug, PartialEq, Eq)]
+pub struct Reading {
+    pub number: u32,
+    pub n: u32,
+    /// (n+1) squared legs, row by row, and zeros behind.
+    pub table: [u32; 289],
+    pub selection: u32,
+    pub rules: u32,
+    pub bound: u32,
+    /// The starting order, and zeros behind.
+    pub start: [u8; 16],
+    /// How many stops the starting order has: 0 or n.
+    pub stops: u32,
+}
+
+impl Reading {
+    /// The legs, as `plan` and `write` take them; none of a refusal.
+    pub fn table(&self) -> &[u32] {
+        let side = if self.number == 0 { self.n as usize + 1 } else { 0 };
+        &self.table[..side * side]
+    }
+
+    /// The starting order, as `plan` and `write` take it.
+    pub fn start(&self) -> &[u8] {
+        &self.start[..self.stops as usize]
+    }
+}
+
+/// A file's length (number 0) or a refusal (number 1 to 5 or 10) and 0.
+#[repr(C)]
+#[derive(Clone, Copy, Debug, PartialEq, Eq)]
+pub struct Written {
+    pub number: u32,
+    pub length: usize,
 }
 
 /// Puts the stops 1 to n into the cheapest order.
@@ -51,7 +81,7 @@ pub fn plan(
     // The slices are valid for their lengths, and `pool`, being lent as
     // mutable, overlaps neither of the others.
     unsafe {
-        gondamuy_plan(
+        border::gondamuy_plan(
             n,
             table.as_ptr(),
             table.len(),
@@ -62,6 +92,41 @@ pub fn plan(
             start.len(),
             pool.as_mut_ptr(),
             pool.len(),
+        )
+    }
+}
+
+/// Reads a job file.
+pub fn read(file: &[u8]) -> Reading {
+    // The slice is valid for its length.
+    unsafe { border::gondamuy_read(file.as_ptr(), file.len()) }
+}
+
+/// Writes a job's file at the front of `buffer` and leaves the bytes behind it
+/// as they were; a refusal leaves the whole buffer. `LONGEST_FILE` bytes are
+/// enough for every job.
+pub fn write(
+    n: u32,
+    table: &[u32],
+    selection: u32,
+    rules: u32,
+    bound: u32,
+    start: &[u8],
+    buffer: &mut [u8],
+) -> Written {
+    // As for `plan`.
+    unsafe {
+        border::gondamuy_write(
+            n,
+            table.as_ptr(),
+            table.len(),
+            selection,
+            rules,
+            bound,
+            start.as_ptr(),
+            start.len(),
+            buffer.as_mut_ptr(),
+            buffer.len(),
         )
     }
 }
