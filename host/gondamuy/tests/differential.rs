@@ -1,37 +1,23 @@
 //! The proved planner against the second planner: the report and every word
 //! of the pool, over random jobs of many kinds.
 
-use gondamuy::{plan, Report, RECORD_WORDS};
-use samples::{level, nearest, Random};
-use witness::{plan_watched, Request};
+mod common;
 
-#[derive(Clone, Debug)]
-struct Job {
-    n: u32,
-    table: Vec<u32>,
-    selection: u32,
-    rules: u32,
-    bound: u32,
-    start: Vec<u8>,
-}
+use common::random_job;
+use gondamuy::{plan, Report, RECORD_WORDS};
+use jobtext::Job;
+use samples::{level, nearest, Random};
+use witness::job_file::Contents;
+use witness::plan_watched;
 
 /// Runs both planners on the same pool and holds them to each other. Returns
 /// the report and how many records the run needed at most.
 fn compare(job: &Job, pool: &[u32]) -> (Report, usize) {
     let mut ours = pool.to_vec();
     let mut theirs = pool.to_vec();
-    let start: Vec<u32> = job.start.iter().map(|&s| s.into()).collect();
-    let request = Request {
-        n: job.n.into(),
-        table: &job.table,
-        selection: job.selection.into(),
-        rules: job.rules.into(),
-        bound: job.bound.into(),
-        start: &start,
-    };
     let mut most = 0;
     let with_branched = job.rules & 4 != 0;
-    let expected = plan_watched(&request, &mut theirs, &mut |state| {
+    let expected = plan_watched(&Contents::from(job).request(), &mut theirs, &mut |state| {
         let held = if with_branched { state.branched.len() } else { 0 };
         most = most.max(state.active.len() + held);
     });
@@ -43,18 +29,6 @@ fn compare(job: &Job, pool: &[u32]) -> (Report, usize) {
     assert_eq!(counts, expected.counts(), "{job:?}");
     assert!(ours == theirs, "the pools differ: {job:?}");
     (report, most)
-}
-
-fn small_job(random: &mut Random, n: usize, most: u32) -> Job {
-    let start = if random.below(2) == 0 { Vec::new() } else { random.order(n) };
-    Job {
-        n: n as u32,
-        table: random.table(n, 0, most),
-        selection: random.below(4) as u32,
-        rules: random.below(16) as u32,
-        bound: random.below(2) as u32,
-        start,
-    }
 }
 
 /// In an ample dirty pool, in one of exactly the records needed, one less, and one.
@@ -76,7 +50,7 @@ fn small_tables_under_all_choices() {
     for round in 0..26_000u64 {
         let n = 1 + random.below(if round % 40 == 0 { 6 } else { 4 }) as usize;
         let most = random.pick(&[0, 1, 2, 9, 1_000, 1_000_000]);
-        let job = small_job(&mut random, n, most);
+        let job = random_job(&mut random, n, most);
         let numbers = in_four_pools(&mut random, &job, 2_100);
         assert_eq!(numbers[0], 0);
         assert_eq!(numbers[1], 0, "a pool of the records needed suffices: {job:?}");
@@ -92,7 +66,7 @@ fn up_to_sixteen_stops() {
     for n in 7..=16 {
         for round in 0..6 {
             let most = random.pick(&[1, 9, 1_000, 1_000_000]);
-            let mut job = small_job(&mut random, n, most);
+            let mut job = random_job(&mut random, n, most);
             job.bound = 1;
             // Small pools: such jobs end soon, with an order or full.
             let records = [1, 17, 40, 90, 200, 400][round];
@@ -111,7 +85,7 @@ fn up_to_sixteen_stops() {
 fn pilots_of_twelve_stops() {
     let mut random = Random(3);
     for _ in 0..6 {
-        let mut job = small_job(&mut random, 12, 1_000);
+        let mut job = random_job(&mut random, 12, 1_000);
         (job.selection, job.rules, job.bound) = (3, 1, 1);
         job.start = nearest(12, &job.table);
         let (report, _) = compare(&job, &random.words(120 * RECORD_WORDS));
@@ -126,7 +100,7 @@ fn every_refusal() {
     let mut seen = [0; 8];
     for _ in 0..20_000 {
         let n = 1 + random.below(4) as usize;
-        let mut job = small_job(&mut random, n, 9);
+        let mut job = random_job(&mut random, n, 9);
         let mut words = 60;
         let faults = random.below(64);
         if faults & 1 != 0 {

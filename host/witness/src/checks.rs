@@ -21,7 +21,16 @@ pub struct Request<'a> {
 }
 
 pub fn check(request: &Request, pool_words: usize) -> Result<Job, u32> {
-    if request.n == 0 || request.n > MOST_STOPS {
+    let job = check_job(request)?;
+    if pool_words == 0 || pool_words % WORDS != 0 {
+        return Err(6);
+    }
+    Ok(job)
+}
+
+/// Refusals 1 to 5, which don't look at the pool.
+pub fn check_job(request: &Request) -> Result<Job, u32> {
+    if !n_allowed(request.n) {
         return Err(1);
     }
     let n = request.n as usize;
@@ -36,10 +45,11 @@ pub fn check(request: &Request, pool_words: usize) -> Result<Job, u32> {
     let rules = rules(request.rules).ok_or(4u32)?;
     let bound = bound(request.bound).ok_or(4u32)?;
     let start = starting_order(n, request.start).ok_or(5u32)?;
-    if pool_words == 0 || pool_words % WORDS != 0 {
-        return Err(6);
-    }
     Ok(Job { legs, selection, rules, bound, start })
+}
+
+pub fn n_allowed(n: u64) -> bool {
+    (1..=MOST_STOPS).contains(&n)
 }
 
 fn legs_allowed(legs: &Legs) -> bool {

@@ -1,10 +1,11 @@
-//! A second planner, written from document 01 alone, in plain lists and
-//! literal passes. It serves as a witness beside the proved planner.
+//! A second planner, and a second reader and writer of job files, written from
+//! document 01 alone, in plain lists and literal passes. They serve as
+//! witnesses beside the proved ones.
 //!
 //! In reading order: `legs` (table and cost of an order), `node` (partial
 //! orders, bounds, dominance), `checks` (refusals 1 to 6), `run` (the run and
-//! refusal 7), `words` (report and pool), `enumerate` (all n! orders).
-//! Job files are not here.
+//! refusal 7), `words` (report and pool), `enumerate` (all n! orders),
+//! `job_file` (reader and writer), `program` (what `plan` prints).
 //!
 //! Where document 01 leaves a choice, this planner takes these:
 //!
@@ -27,11 +28,17 @@
 //! 9. With number 7, "active" and "most" are those of the state that stands.
 //! 10. A run whose active set became empty isn't described. The planner then
 //!     panics; no run in the tests comes there.
+//! 11. A starting order of another length than n, in a file whose length fits
+//!     it, is no permutation of 1 to n: 5.
+//! 12. A file of more than 1,185 bytes is 9 from the reader too, after 8 and 1,
+//!     even if its trailer fits it.
 
 pub mod checks;
 pub mod enumerate;
+pub mod job_file;
 pub mod legs;
 pub mod node;
+pub mod program;
 pub mod run;
 pub mod words;
 

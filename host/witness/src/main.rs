@@ -1,22 +1,19 @@
-//! Reads a job as plain text from standard input and prints the report and
-//! the pool's words, six to a line. With the word `trace` on the command line
-//! it first prints the state at the start and after each step.
-//!
-//! The text: numbers apart by blanks or line ends, `#` opens a comment: n, the
-//! (n+1) squared table entries, selection, rules, bound, the length of the
-//! starting order, its stops, the number of records in the pool.
-
-mod text;
+//! Reads a job as plain text (see `jobtext`) from standard input and prints
+//! the report and the pool's words, six to a line. On the command line stands
+//! the number of records in the pool; with the word `trace` behind it, the
+//! state at the start and after each step is printed first.
 
 use std::io::{Read, Write};
 use std::process::ExitCode;
 
+use witness::job_file::Contents;
 use witness::node::Node;
-use witness::{plan_watched, Report, Request, State, WORDS};
+use witness::{plan_watched, Report, State, WORDS};
+
+const MOST_RECORDS: usize = 1_000_000;
 
 fn main() -> ExitCode {
-    let traced = std::env::args().nth(1).as_deref() == Some("trace");
-    match answer(traced) {
+    match answer() {
         Ok(()) => ExitCode::SUCCESS,
         Err(fault) => {
             eprintln!("{fault}");
@@ -25,21 +22,20 @@ fn main() -> ExitCode {
     }
 }
 
-fn answer(traced: bool) -> Result<(), String> {
+fn answer() -> Result<(), String> {
+    let arguments: Vec<String> = std::env::args().skip(1).collect();
+    let records: usize = match arguments.first().map(|word| word.parse()) {
+        Some(Ok(records)) if records <= MOST_RECORDS => records,
+        _ => return Err(format!("the number of records, {MOST_RECORDS} at most, is the first argument")),
+    };
+    let traced = arguments.get(1).is_some_and(|word| word == "trace");
     let mut input = String::new();
     std::io::stdin().read_to_string(&mut input).map_err(|fault| fault.to_string())?;
-    let job = text::parse(&input)?;
-    let request = Request {
-        n: job.n,
-        table: &job.table,
-        selection: job.selection,
-        rules: job.rules,
-        bound: job.bound,
-        start: &job.start,
-    };
-    let mut pool = vec![0u32; job.records * WORDS];
+    let parsed = jobtext::parse(&input).map_err(|fault| fault.to_string())?;
+    let job = Contents::from(&parsed.job);
+    let mut pool = vec![0u32; records * WORDS];
     let mut lines = Vec::new();
-    let report = plan_watched(&request, &mut pool, &mut |state| {
+    let report = plan_watched(&job.request(), &mut pool, &mut |state| {
         if traced {
             lines.push(state_text(state));
         }

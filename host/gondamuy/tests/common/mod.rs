@@ -1,0 +1,76 @@
+//! What the tests share: random jobs, and ways to spoil them.
+#![allow(dead_code)]
+
+use jobtext::Job;
+use samples::Random;
+
+/// A job of n stops that every check lets pass, with or without a starting order.
+pub fn random_job(random: &mut Random, n: usize, most: u32) -> Job {
+    let start = if random.below(2) == 0 { Vec::new() } else { random.order(n) };
+    Job {
+        n: n as u32,
+        table: random.table(n, 0, most),
+        selection: random.below(4) as u32,
+        rules: random.below(16) as u32,
+        bound: random.below(2) as u32,
+        start,
+    }
+}
+
+/// As `random_job`, over 1 to 16 stops and legs of every size.
+pub fn any_job(random: &mut Random) -> Job {
+    let n = 1 + random.below(16) as usize;
+    let most = random.pick(&[0, 1, 255, 256, 65_536, 1_000_000]);
+    random_job(random, n, most)
+}
+
+/// Jobs of 1 to 16 stops, each without and with a starting order.
+pub fn each_size(random: &mut Random, mut check: impl FnMut(&mut Random, &Job)) {
+    for n in 1..=16 {
+        for start in [Vec::new(), random.order(n)] {
+            let job = Job { start, ..random_job(random, n, 1_000_000) };
+            check(random, &job);
+        }
+    }
+}
+
+/// Those of some numbers that the bits of a round name: all mixtures in turn.
+pub fn some_of(numbers: &[u32], round: u64) -> Vec<u32> {
+    let named = numbers.iter().enumerate().filter(|(bit, _)| round >> bit & 1 == 1);
+    named.map(|(_, &number)| number).collect()
+}
+
+/// Number 3: a leg too dear, or a diagonal entry that is not 0.
+pub fn spoil_table(random: &mut Random, job: &mut Job) {
+    let side = job.n as usize + 1;
+    if random.below(2) == 0 {
+        let at = random.below((side * side) as u64) as usize;
+        job.table[at] = random.pick(&[1_000_001, 1 << 24, u32::MAX]);
+    } else {
+        let at = random.below(side as u64) as usize;
+        job.table[at * (side + 1)] = random.pick(&[1, 256, 1 << 16, 1_000_000]);
+    }
+}
+
+/// Number 4: a selection, rules or a bound that are not known; `more` are added to 4, 16 and 2.
+pub fn spoil_choice(random: &mut Random, job: &mut Job, more: &[u32]) {
+    let more = random.pick(more);
+    match random.below(3) {
+        0 => job.selection = 4 + more,
+        1 => job.rules = 16 + more,
+        _ => job.bound = 2 + more,
+    }
+}
+
+/// Number 5: a starting order cut short, or with a stop twice, or with one that is not there.
+pub fn spoil_start(random: &mut Random, job: &mut Job) {
+    let n = job.n as usize;
+    job.start = random.order(n);
+    let at = random.below(n as u64) as usize;
+    match random.below(4) {
+        0 if n > 1 => job.start.truncate(1 + random.below(n as u64 - 1) as usize),
+        1 if n > 1 => job.start[at] = job.start[(at + 1) % n],
+        2 => job.start[at] = 0,
+        _ => job.start[at] = random.pick(&[n as u8 + 1, 17, 255]),
+    }
+}

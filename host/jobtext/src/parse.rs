@@ -1,0 +1,205 @@
+//! From the text to a job, or to a fault with its line.
+
+use std::fmt;
+use std::str::FromStr;
+
+use crate::names::{list, number, Named, BOUNDS, RULES, SELECTIONS};
+use crate::Job;
+
+/// What is wrong with a text, and on which line, counted from 1.
+#[derive(Clone, Debug, PartialEq, Eq)]
+pub struct Fault {
+    pub line: usize,
+    pub what: String,
+}
+
+impl fmt::Display for Fault {
+    fn fmt(&self, out: &mut fmt::Formatter) -> fmt::Result {
+        write!(out, "line {}: {}", self.line, self.what)
+    }
+}
+
+/// What a keyword says, and the line that it stands on.
+struct At<T> {
+    line: usize,
+    value: T,
+}
+
+/// A job and the lines that it stands on.
+pub struct Parsed {
+    pub job: Job,
+    stops: usize,
+    table: usize,
+    rows: Vec<usize>,
+    choices: [usize; 3],
+    start: usize,
+}
+
+impl Parsed {
+    /// The line that a refusal of the job speaks of.
+    pub fn line_of(&self, number: u32) -> usize {
+        match number {
+            1 => self.stops,
+            3 => self.dear_row(),
+            4 => self.choices[self.unknown_choice()],
+            5 => self.start,
+            _ => self.table,
+        }
+    }
+
+    fn dear_row(&self) -> usize {
+        let side = self.job.n as usize + 1;
+        let wrong = |i: usize, row: &[u32]| row[i] != 0 || row.iter().any(|&leg| leg > 1_000_000);
+        let at = self.job.table.chunks(side).enumerate().position(|(i, row)| wrong(i, row));
+        at.map_or(self.table, |i| self.rows[i])
+    }
+
+    fn unknown_choice(&self) -> usize {
+        let Job { selection, rules, .. } = self.job;
+        if selection > 3 {
+            0
+        } else if rules > 15 {
+            1
+        } else {
+            2
+        }
+    }
+}
+
+/// What the lines have said so far.
+#[derive(Default)]
+struct Lines {
+    stops: Option<At<u32>>,
+    table: Option<At<Vec<At<Vec<u32>>>>>,
+    selection: Option<At<u32>>,
+    rules: Option<At<u32>>,
+    bound: Option<At<u32>>,
+    start: Option<At<Vec<u8>>>,
+    /// Numbers at the front of a line are a row of the table.
+    in_table: bool,
+}
+
+pub fn parse(text: &str) -> Result<Parsed, Fault> {
+    let mut lines = Lines::default();
+    let mut count = 0;
+    for (at, text) in text.lines().enumerate() {
+        count = at + 1;
+        let bare = text.split('#').next().unwrap_or("");
+        let words: Vec<&str> = bare.split_whitespace().collect();
+        lines.take(count, &words).map_err(|what| Fault { line: count, what })?;
+    }
+    lines.job(count.max(1))
+}
+
+impl Lines {
+    fn take(&mut self, line: usize, words: &[&str]) -> Result<(), String> {
+        let Some((&first, rest)) = words.split_first() else {
+            return Ok(());
+        };
+        if self.in_table && first.starts_with(|c: char| c.is_ascii_digit()) {
+            let value = numbers(words, "leg")?;
+            self.table.as_mut().expect("in_table").value.push(At { line, value });
+            return Ok(());
+        }
+        self.in_table = first == "table";
+        match first {
+            "stops" => set(&mut self.stops, line, first, single(rest, "the number of stops")?),
+            "table" if rest.is_empty() => set(&mut self.table, line, first, Vec::new()),
+            "table" => Err("the table's rows begin on the line behind `table`".to_string()),
+            "selection" => set(&mut self.selection, line, first, choice(rest, &SELECTIONS)?),
+            "rules" => set(&mut self.rules, line, first, rules(rest)?),
+            "bound" => set(&mut self.bound, line, first, choice(rest, &BOUNDS)?),
+            "start" if rest == ["none"] => set(&mut self.start, line, first, Vec::new()),
+            "start" => set(&mut self.start, line, first, numbers(rest, "stop")?),
+            _ => Err(format!("`{first}` is none of stops, table, selection, rules, bound, start")),
+        }
+    }
+
+    /// `end` is the text's last line, where what is missing is missed.
+    fn job(self, end: usize) -> Result<Parsed, Fault> {
+        let stops = there(self.stops, "stops", end)?;
+        let table = there(self.table, "table", end)?;
+        let selection = there(self.selection, "selection", end)?;
+        let rules = there(self.rules, "rules", end)?;
+        let bound = there(self.bound, "bound", end)?;
+        let start = self.start.unwrap_or(At { line: end, value: Vec::new() });
+        let side = stops.value as usize + 1;
+        for row in table.value.iter().filter(|row| row.value.len() != side) {
+            let what = format!("a row of {} legs, and {} stops have {side}", row.value.len(), stops.value);
+            return Err(Fault { line: row.line, what });
+        }
+        if table.value.len() != side {
+            let what = format!("a table of {} rows, and {} stops have {side}", table.value.len(), stops.value);
+            return Err(Fault { line: table.line, what });
+        }
+        Ok(Parsed {
+            stops: stops.line,
+            table: table.line,
+            rows: table.value.iter().map(|row| row.line).collect(),
+            choices: [selection.line, rules.line, bound.line],
+            start: start.line,
+            job: Job {
+                n: stops.value,
+                table: table.value.into_iter().flat_map(|row| row.value).collect(),
+                selection: selection.value,
+                rules: rules.value,
+                bound: bound.value,
+                start: start.value,
+            },
+        })
+    }
+}
+
+fn set<T>(place: &mut Option<At<T>>, line: usize, keyword: &str, value: T) -> Result<(), String> {
+    if let Some(earlier) = place {
+        return Err(format!("`{keyword}` stands on line {} already", earlier.line));
+    }
+    *place = Some(At { line, value });
+    Ok(())
+}
+
+fn there<T>(place: Option<At<T>>, keyword: &str, end: usize) -> Result<At<T>, Fault> {
+    place.ok_or_else(|| Fault { line: end, what: format!("the text ends without `{keyword}`") })
+}
+
+fn numbers<T: FromStr>(words: &[&str], what: &str) -> Result<Vec<T>, String> {
+    let of = |word: &&str| word.parse().map_err(|_| format!("`{word}` is no number of a {what}"));
+    words.iter().map(of).collect()
+}
+
+fn single(words: &[&str], what: &str) -> Result<u32, String> {
+    match words {
+        [word] => word.parse().map_err(|_| format!("`{word}` is not {what}")),
+        _ => Err(format!("{what} is one number")),
+    }
+}
+
+/// One of some names, or a number.
+fn choice(words: &[&str], named: &[Named]) -> Result<u32, String> {
+    let names = list(named);
+    match words {
+        [word] => number(named, word)
+            .or_else(|| word.parse().ok())
+            .ok_or(format!("`{word}` is none of {names}, and no number")),
+        _ => Err(format!("one of {names}, or a number")),
+    }
+}
+
+/// `none`, names of rules, or their sum.
+fn rules(words: &[&str]) -> Result<u32, String> {
+    match words {
+        ["none"] => return Ok(0),
+        [word] => return choice(&[word], &RULES),
+        [] => return Err(format!("none, some of {}, or a number", list(&RULES))),
+        _ => {}
+    }
+    let mut sum = 0;
+    for word in words {
+        let rule = number(&RULES, word).ok_or(format!("`{word}` is none of {}", list(&RULES)))?;
+        if sum & rule != 0 {
+            return Err(format!("`{word}` stands twice"));
+        }
+        sum += rule;
+    }
+    Ok(sum)
+}

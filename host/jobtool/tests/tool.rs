@@ -1,0 +1,77 @@
+//! The tool run as a program: both ways, and what it says of faults.
+
+use std::io::Write;
+use std::process::{Command, Stdio};
+
+/// What it writes, or what it complains of with a status of failure.
+fn run(arguments: &[&str], input: &[u8]) -> Result<Vec<u8>, String> {
+    let mut tool = Command::new(env!("CARGO_BIN_EXE_jobtool"))
+        .args(arguments)
+        .stdin(Stdio::piped())
+        .stdout(Stdio::piped())
+        .stderr(Stdio::piped())
+        .spawn()
+        .unwrap();
+    tool.stdin.take().unwrap().write_all(input).unwrap();
+    let output = tool.wait_with_output().unwrap();
+    if output.status.success() {
+        assert!(output.stderr.is_empty());
+        return Ok(output.stdout);
+    }
+    assert!(output.stdout.is_empty());
+    Err(String::from_utf8(output.stderr).unwrap())
+}
+
+const TEXT: &str = "stops 2\ntable\n0 3 4\n5 0 6\n7 8 0\nselection LIFO\nrules U/DBAS DB/AS\nbound close\nstart 2 1\n";
+
+fn write(text: &str) -> Result<Vec<u8>, String> {
+    run(&["write"], text.as_bytes())
+}
+
+#[test]
+fn text_to_file_and_back() {
+    let file = write(TEXT).unwrap();
+    assert_eq!(file.len(), 4 * 9 + 2 + 13);
+    assert_eq!(file[36..], [2, 1, 0, 0, 0, 0, 36, 0, 0, 0, 2, 2, 3, 9, 1]);
+    let text = String::from_utf8(run(&["show"], &file).unwrap()).unwrap();
+    assert!(text.contains("selection LIFO # latest generated first\n"), "{text}");
+    assert!(text.contains("rules U/DBAS DB/AS #"), "{text}");
+    assert_eq!(write(&text).unwrap(), file);
+}
+
+/// The proved writer's refusals, each at the line that it speaks of.
+#[test]
+fn refused_jobs() {
+    let refused = |old, new| write(&TEXT.replace(old, new)).unwrap_err();
+    assert_eq!(refused("0 3 4", "0 3 1000001"), "line 3: refused 3: a leg is above 1,000,000 or a diagonal entry is not 0\n");
+    assert!(refused("7 8 0", "7 8 1").starts_with("line 5: refused 3:"));
+    assert!(refused("LIFO", "4").starts_with("line 6: refused 4:"));
+    assert!(refused("U/DBAS DB/AS", "16").starts_with("line 7: refused 4:"));
+    assert!(refused("close", "2").starts_with("line 8: refused 4:"));
+    assert!(refused("start 2 1", "start 2 2").starts_with("line 9: refused 5:"));
+    let none = "stops 0\ntable\n0\nselection 0\nrules 0\nbound 0\n";
+    assert!(write(none).unwrap_err().starts_with("line 1: refused 1:"));
+}
+
+#[test]
+fn faulty_texts() {
+    assert_eq!(write(&TEXT.replace("5 0 6", "5 0 x")).unwrap_err(), "line 4: `x` is no number of a leg\n");
+    assert_eq!(run(&["write"], &[0xff]).unwrap_err(), "the input is no text\n");
+}
+
+#[test]
+fn refused_files() {
+    assert_eq!(run(&["show"], &[0; 12]).unwrap_err(), "refused 8: the file is shorter than 13 bytes\n");
+    let mut file = write(TEXT).unwrap();
+    file.insert(0, 0);
+    assert!(run(&["show"], &file).unwrap_err().starts_with("refused 9:"));
+}
+
+#[test]
+fn numbers_in_words() {
+    assert_eq!(run(&["refusal", "7"], b"").unwrap(), b"7: the pool is full\n");
+    assert_eq!(run(&["refusal", "11"], b"").unwrap(), b"11: no such number\n");
+    for arguments in [&["refusal", "x"][..], &["refusal"], &["read"], &[]] {
+        assert!(run(arguments, b"").unwrap_err().starts_with("jobtool write"));
+    }
+}

@@ -1,0 +1,61 @@
+//! Job files: document 01's case l, the bytes of a file one by one, and what
+//! the program prints.
+
+mod common;
+
+use common::T;
+use witness::job_file::{read, write, Contents, LONGEST};
+use witness::program::output;
+
+fn a() -> Contents {
+    Contents { n: 3, table: T.to_vec(), selection: 0, rules: 1, bound: 1, start: Vec::new() }
+}
+
+fn file(job: &Contents) -> Vec<u8> {
+    let mut buffer = vec![0; LONGEST];
+    let length = write(&job.request(), &mut buffer).unwrap();
+    buffer.truncate(length);
+    buffer
+}
+
+#[test]
+fn case_l() {
+    let file = file(&a());
+    assert_eq!(file.len(), 77);
+    assert_eq!(file[64..], [0, 0, 0, 0, 0x40, 0, 0, 0, 3, 0, 0, 1, 1]);
+    assert_eq!(read(&file), Ok(a()));
+    let lines = "cost 13\norder 1 2 3\nbranched 3\ngenerated 7\neliminated 3\nactive 1\nmost 4\n";
+    assert_eq!(output(&file), lines);
+}
+
+/// One stop, a million out and 258 back, with its order.
+#[test]
+fn bytes_one_by_one() {
+    let job = Contents { n: 1, table: vec![0, 1_000_000, 258, 0], selection: 2, rules: 9, bound: 0, start: vec![1] };
+    let told = [
+        0, 0, 0, 0, 0x40, 0x42, 0x0f, 0, 2, 1, 0, 0, 0, 0, 0, 0, // the table
+        1, // the starting order
+        0, 0, 0, 0, 16, 0, 0, 0, 1, 1, 2, 9, 0, // the trailer
+    ];
+    assert_eq!(file(&job), told);
+    assert_eq!(read(&told), Ok(job));
+}
+
+#[test]
+fn program_refuses() {
+    let good = file(&a());
+    assert_eq!(output(&[]), "refused 8\n");
+    assert_eq!(output(&[0; 13]), "refused 1\n");
+    assert_eq!(output(&good[1..]), "refused 9\n");
+    // Longer than the longest job: 9, where the reader looks at n first.
+    assert_eq!((output(&[0; LONGEST + 1]), read(&[0; LONGEST + 1])), ("refused 9\n".to_string(), Err(1)));
+    for (at, byte, number) in [(3, 1, 3), (76, 2, 4)] {
+        let mut bad = good.clone();
+        bad[at] = byte;
+        assert_eq!(output(&bad), format!("refused {number}\n"));
+    }
+    let mut started = good.clone();
+    started.splice(64..64, [1, 2, 2]);
+    started[76] = 3;
+    assert_eq!(output(&started), "refused 5\n");
+}
