@@ -1,0 +1,80 @@
+//! The sample jobs of jobs/samples: the text and the job file of each agree,
+//! the second planner prints what is expected, and the proved one finds the
+//! same.
+
+use std::fs;
+use std::path::{Path, PathBuf};
+
+use gondamuy::{plan, read, write, LONGEST_FILE, RECORD_WORDS};
+use jobtext::{parse, Job};
+
+const NAMES: [&str; 4] = ["case-a", "office", "office-full", "pilot"];
+
+fn folder() -> PathBuf {
+    Path::new(env!("CARGO_MANIFEST_DIR")).join("../../jobs/samples")
+}
+
+fn bytes(name: &str, kind: &str) -> Vec<u8> {
+    fs::read(folder().join(format!("{name}.{kind}"))).unwrap()
+}
+
+fn string(name: &str, kind: &str) -> String {
+    String::from_utf8(bytes(name, kind)).unwrap()
+}
+
+fn job(name: &str) -> Job {
+    parse(&string(name, "txt")).map_err(|fault| fault.to_string()).unwrap().job
+}
+
+#[test]
+fn three_files_for_each() {
+    let mut found: Vec<String> =
+        fs::read_dir(folder()).unwrap().map(|entry| entry.unwrap().file_name().into_string().unwrap()).collect();
+    found.sort();
+    let mut told: Vec<String> =
+        NAMES.iter().flat_map(|name| ["expected", "job", "txt"].map(|kind| format!("{name}.{kind}"))).collect();
+    told.sort();
+    assert_eq!(found, told);
+}
+
+#[test]
+fn text_and_file_agree() {
+    for name in NAMES {
+        let Job { n, table, selection, rules, bound, start } = job(name);
+        let mut file = vec![0; LONGEST_FILE];
+        let written = write(n, &table, selection, rules, bound, &start, &mut file);
+        assert_eq!(written.number, 0, "{name}");
+        assert_eq!(file[..written.length], bytes(name, "job"), "{name}");
+        let reading = read(&bytes(name, "job"));
+        assert_eq!((reading.table(), reading.start()), (&table[..], &start[..]), "{name}");
+    }
+}
+
+#[test]
+fn both_planners_give_what_is_expected() {
+    for name in NAMES {
+        let expected = string(name, "expected");
+        assert_eq!(witness::program::output(&bytes(name, "job")), expected, "{name}");
+        let Job { n, table, selection, rules, bound, start } = job(name);
+        let report = plan(n, &table, selection, rules, bound, &start, &mut vec![0; 2_000 * RECORD_WORDS]);
+        let first = match report.number {
+            0 => format!("cost {}", report.cost),
+            number => format!("refused {number}"),
+        };
+        assert_eq!(expected.lines().next(), Some(&first[..]), "{name}");
+    }
+}
+
+/// Names and numbers of the texts mean what they should.
+#[test]
+fn choices_of_each() {
+    let choices = |name| {
+        let job = job(name);
+        (job.n, job.selection, job.rules, job.bound, job.start.len())
+    };
+    assert_eq!(choices("case-a"), (3, 0, 1, 1, 0));
+    assert_eq!(choices("pilot"), (16, 3, 1, 1, 16));
+    assert_eq!(choices("office"), (12, 0, 15, 1, 0));
+    assert_eq!(choices("office-full"), (16, 0, 15, 1, 0));
+    assert_eq!(string("office-full", "expected"), "refused 7\n");
+}
