@@ -7,7 +7,8 @@
 //! - 106,000 with one byte of the trailer changed to each other value;
 //! - 80,000 of random bytes, half of them before the trailer of a job;
 //! - 80,000 with n, places or length, table, choices or starting order wrong,
-//!   in every mixture, where the number is known beforehand;
+//!   each in half of them and in every mixture, where the number is known
+//!   beforehand;
 //! - 800 longer than the longest job.
 //!
 //! Each file that is accepted, the proved writer writes again, byte for byte.

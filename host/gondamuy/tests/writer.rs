@@ -4,8 +4,8 @@
 //! - 48,000 with a job of 1 to 16 stops, half of them with a starting order,
 //!   in a buffer empty, too short by one, exact, longer by one and by more; what
 //!   was written, the proved reader reads as the same job;
-//! - 64,000 with causes 1 to 5 and 10 in every mixture, where the number is
-//!   known beforehand.
+//! - 64,000 with causes 1 to 5 and 10, each in half of them and in every
+//!   mixture, where the number is known beforehand.
 
 mod common;
 

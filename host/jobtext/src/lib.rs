@@ -38,8 +38,9 @@ pub struct Job {
 /// The text of a job, with the choices in words.
 pub fn text(job: &Job) -> String {
     let mut text = format!("stops {}\ntable\n", job.n);
+    let width = job.table.iter().max().map_or(1, |leg| leg.to_string().len());
     for row in job.table.chunks(job.n as usize + 1) {
-        let legs: Vec<String> = row.iter().map(|leg| format!("{leg:>7}")).collect();
+        let legs: Vec<String> = row.iter().map(|leg| format!("{leg:>width$}")).collect();
         text += &format!("{}\n", legs.join(" "));
     }
     let (selection, words) = names::selection(job.selection);

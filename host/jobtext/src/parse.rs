@@ -40,14 +40,14 @@ impl Parsed {
     pub fn line_of(&self, number: u32) -> usize {
         match number {
             1 => self.stops,
-            3 => self.dear_row(),
+            3 => self.refused_row(),
             4 => self.choices[self.unknown_choice()],
             5 => self.start,
             _ => self.table,
         }
     }
 
-    fn dear_row(&self) -> usize {
+    fn refused_row(&self) -> usize {
         let side = self.job.n as usize + 1;
         let wrong = |i: usize, row: &[u32]| row[i] != 0 || row.iter().any(|&leg| leg > 1_000_000);
         let at = self.job.table.chunks(side).enumerate().position(|(i, row)| wrong(i, row));
@@ -124,7 +124,7 @@ impl Lines {
         let bound = there(self.bound, "bound", end)?;
         let start = self.start.unwrap_or(At { line: end, value: Vec::new() });
         let side = stops.value as usize + 1;
-        for row in table.value.iter().filter(|row| row.value.len() != side) {
+        if let Some(row) = table.value.iter().find(|row| row.value.len() != side) {
             let what = format!("a row of {} legs, and {} stops have {side}", row.value.len(), stops.value);
             return Err(Fault { line: row.line, what });
         }

@@ -62,15 +62,16 @@ pub fn spoil_choice(random: &mut Random, job: &mut Job, more: &[u32]) {
     }
 }
 
-/// Number 5: a starting order cut short, or with a stop twice, or with one that is not there.
+/// Number 5: a starting order cut short or too long (though its file is not), with a stop twice, or with one that is not there.
 pub fn spoil_start(random: &mut Random, job: &mut Job) {
     let n = job.n as usize;
     job.start = random.order(n);
     let at = random.below(n as u64) as usize;
-    match random.below(4) {
+    match random.below(5) {
         0 if n > 1 => job.start.truncate(1 + random.below(n as u64 - 1) as usize),
         1 if n > 1 => job.start[at] = job.start[(at + 1) % n],
         2 => job.start[at] = 0,
+        3 if n < 16 => job.start.extend((0..=random.below(100)).map(|_| at as u8 + 1)),
         _ => job.start[at] = random.pick(&[n as u8 + 1, 17, 255]),
     }
 }
