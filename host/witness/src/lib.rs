@@ -1,6 +1,6 @@
-//! A second planner, and a second reader and writer of job files, written from
-//! document 01 alone, in plain lists and literal passes. They serve as
-//! witnesses beside the proved ones.
+//! A second planner, written from document 01 alone, in plain lists and
+//! literal passes, and a second reader and writer of job files, which follow
+//! its text. They serve as witnesses beside the proved ones.
 //!
 //! In reading order: `legs` (table and cost of an order), `node` (partial
 //! orders, bounds, dominance), `checks` (refusals 1 to 6), `run` (the run and
