@@ -3,7 +3,7 @@
 --   overwrite-behind    a part of a buffer, behind what is written, is lent and written in its turn
 --   padded-overwrite, take-padded, padded-one    an array of zeros whose front is written
 --   take-next, numbers-next, table-next    the lists that the loops write, one element more
---   length-numbers, length-each-number    their lengths
+--   each-append, length-numbers, length-each-number    these lists in parts, and their lengths
 --   four-bytes    the number at a place, byte by byte
 --   value-bytes, bytes-value    a number and its bytes, least byte first: each way and back
 -- Assumes nothing.
@@ -100,9 +100,9 @@ unfolding number
 length-each-number [] = omega arith
 length-each-number (x ∷ xs) = omega (arith, length-each-number xs)
 
-each-append : (xs ys : List ℕ) → each number (xs ++ ys) ≡ each number xs ++ each number ys
-each-append [] ys = refl
-each-append (x ∷ xs) ys = rw (each-append xs ys, append-assoc)
+pub each-append : (k : ℕ → List ℕ) (xs ys : List ℕ) → each k (xs ++ ys) ≡ each k xs ++ each k ys
+each-append k [] ys = refl
+each-append k (x ∷ xs) ys = rw (each-append k xs ys, append-assoc)
 
 each-next : (xs : List ℕ) (k : ℕ) → k < length xs → each number (take (k + 1) xs) ≡ each number (take k xs) ++ number (getD xs k 0)
 each-next xs k h = rw (take-next xs k, each-append, append-nil)

@@ -1,0 +1,57 @@
+-- `put_lines` meets its contract: the cost and the order, and behind them the counts. Assumes nothing.
+use mathlib.Core.Path.{_≡_, sym}
+use Prim.Native.Nat.{_≤_}
+use native.Mathlib.Omega.{arith}
+use lib.ListN.{length, take}
+use lib.Seq.{length-take-le}
+use Rattle.planner.specs.Promise.{reportOf}
+use Rattle.printing.proofs.PutLaws.{put-then}
+use Rattle.printing.proofs.PrintedLaws.{seven-lines}
+use borrow.Author.Needs.{needs}
+use Rattle.printing.proofs.lines.put_lines.Statement.{statement}
+use Rattle.printing.proofs.lines.put_lines.Tie as tie
+
+array-share-prefix-order : tie.Need-array-share-prefix-order
+array-share-prefix-order c =
+    let start = c .before .before .before in
+    let sixteen : length (start .args .r .order) ≡ 16 = search needs in
+    omega arith
+
+slice-aggregate-put-answer : tie.Need-slice-aggregate-put-answer
+slice-aggregate-put-answer c = sym (length-take-le _ (c .before .before .before .before .args .r .order) (array-share-prefix-order (c .before)))
+
+put-answer-requires : tie.Need-put-answer-requires
+put-answer-requires c κs =
+    let long = length-take-le _ (c .before .before .before .before .args .r .order) (array-share-prefix-order (c .before)) in
+    omega arith
+
+put-counts-requires : tie.Need-put-counts-requires
+put-counts-requires c κs =
+    let answer = c .before .before .before in
+    let long = length-take-le _ (answer .before .before .before .before .before .args .r .order) (array-share-prefix-order (answer .before .before)) in
+    omega (arith, answer .put-answer .ensures)
+
+same-length : tie.Need-same-length
+same-length c = search needs
+
+returns : tie.Need-returns
+unfolding reportOf
+returns c =
+    let counts = c .before .before in
+    let answer = counts .before .before .before .before in
+    let start = answer .before .before .before .before .before in
+    let long = length-take-le _ (start .args .r .order) (array-share-prefix-order (answer .before .before)) in (
+      rw (seven-lines (start .args .count) (reportOf (start .args .r))) (put-then (answer .put-answer .ensures .0) (counts .put-counts .ensures .0)),
+      omega (arith, answer .put-answer .ensures, counts .put-counts .ensures),
+    )
+
+pub put-lines-spec : {M : Type 1} → statement M
+put-lines-spec =
+    tie.close
+    (tie.spec
+    array-share-prefix-order
+    slice-aggregate-put-answer
+    put-answer-requires
+    put-counts-requires
+    same-length
+    returns)

@@ -1,0 +1,71 @@
+-- `put_stops` meets its contract. The loop's invariant: the first k stops are written. The measure is how many are left. Assumes nothing.
+use mathlib.Core.Path.{_≡_, refl, ap, sym, _∙_}
+use mathlib.Core.List.{List, [], _∷_, _++_}
+use Prim.Native.Nat.{ℕ, _+_, _*_, _-_, _≤_}
+use native.Mathlib.Omega.{arith}
+use lib.ListN.{length, take}
+use lib.Seq.{take-all}
+use Rattle.printing.specs.Text.{numbered}
+use Rattle.printing.specs.Code.{Put, numberRoom}
+use Rattle.printing.proofs.PutLaws.{put-nothing, put-then, put-length, numbered-next}
+use Rattle.printing.proofs.lines.put_stops.Statement.{statement}
+use Rattle.printing.proofs.lines.put_stops.Tie as tie
+
+abbrev Inv-loop : tie.InvT-loop
+Inv-loop buffer₀ at stops end₀ k₀ buffer end k =
+    (k ≤ length stops) × (length buffer ≡ length buffer₀) × (end ≤ at + numberRoom * k) × Put buffer₀ at (numbered (take k stops)) buffer end
+
+abbrev μ-loop : tie.MeasureT-loop
+μ-loop buffer₀ at stops end₀ k₀ buffer end k = length stops - k
+
+loop-holds : tie.Need-loop-holds Inv-loop μ-loop
+loop-holds c = (omega arith, refl, omega arith, put-nothing _ _)
+
+shared-slice-read-wide : tie.Need-shared-slice-read-wide Inv-loop μ-loop
+shared-slice-read-wide c = omega arith
+
+wide-requires : tie.Need-wide-requires Inv-loop μ-loop
+wide-requires c κs = omega arith
+
+put-number-requires : tie.Need-put-number-requires Inv-loop μ-loop
+put-number-requires c κs = omega arith
+
+add-k : tie.Need-add-k Inv-loop μ-loop
+add-k c = omega arith
+
+loop-less : tie.Need-loop-less Inv-loop μ-loop
+loop-less c = omega arith
+
+loop-again : tie.Need-loop-again Inv-loop μ-loop
+loop-again c =
+    let number = c .before .before in
+    let stop = number .before in
+    let at = stop .before .before .before .before .loop in
+    let stops = stop .before .before .before .before .before .before .before .args .stops .now in
+    let put = put-then (at .inv .3) (number .put-number .ensures .0) in
+    let next = numbered-next stops (at .k) (omega arith) ∙ ap (λ (x : ℕ). numbered (take (at .k) stops) ++ numbered (x ∷ [])) (sym (stop .wide .ensures)) in
+    (omega arith, omega (arith, at .inv .1, put-length (number .put-number .ensures .0)), omega arith, rw (sym next) at put)
+
+same-length : tie.Need-same-length Inv-loop μ-loop
+same-length c = c .before .loop .inv .1
+
+returns : tie.Need-returns Inv-loop μ-loop
+returns c =
+    let at = c .before .loop in
+    (rw (take-all (at .k) (c .before .before .before .before .args .stops .now) (omega arith)) at (at .inv .3), omega arith)
+
+pub put-stops-spec : {M : Type 1} → statement M
+put-stops-spec =
+    tie.close
+    (tie.spec
+    Inv-loop
+    μ-loop
+    loop-holds
+    shared-slice-read-wide
+    wide-requires
+    put-number-requires
+    add-k
+    loop-less
+    loop-again
+    same-length
+    returns)

@@ -1,0 +1,42 @@
+-- What the functions of this crate compute between one another. These definitions are the code's own: a reader of the promises needs none of
+-- them.
+--   Put        some bytes written into a buffer from a place on, the others as they were, and the place behind them
+--   numberRoom how many bytes a number takes at most: a space, and the twenty digits of 64 bits
+--   lineRoom   .. and a line of numbers: its name, the numbers and the line's end
+--   answerLines, countLines    the first two of the seven lines, and the other five
+--   answerRoom, countsRoom     how many bytes these take at most
+-- Assumes nothing.
+use mathlib.Core.Path.{_≡_}
+use mathlib.Core.List.{List, [], _∷_, _++_}
+use Prim.Native.Nat.{ℕ, _+_, _*_}
+use lib.ListN.{length}
+use lib.Seq.{sets}
+use Rattle.printing.specs.Text.{ascii, line}
+
+pub record Put (before : List ℕ) (place : ℕ) (bytes after : List ℕ) (end : ℕ) : Type 0 where
+  pub written : after ≡ sets before place bytes
+  pub behind : end ≡ place + length bytes
+
+abbrev pub numberRoom : ℕ
+numberRoom = 21
+
+abbrev pub lineRoom : List ℕ → ℕ → ℕ
+lineRoom name count = length name + numberRoom * count + 1
+
+unfoldable pub answerLines : ℕ → List ℕ → List ℕ
+answerLines cost stops = line "cost" (cost ∷ []) ++ line "order" stops
+
+abbrev pub answerRoom : ℕ → ℕ
+answerRoom count = lineRoom (ascii "cost") 1 + lineRoom (ascii "order") count
+
+unfoldable pub countLines : ℕ → ℕ → ℕ → ℕ → ℕ → List ℕ
+countLines branched generated eliminated active most =
+    line "branched" (branched ∷ [])
+    ++ line "generated" (generated ∷ [])
+    ++ line "eliminated" (eliminated ∷ [])
+    ++ line "active" (active ∷ [])
+    ++ line "most" (most ∷ [])
+
+-- 37 bytes of names, and 22 for each number and its line's end
+abbrev pub countsRoom : ℕ
+countsRoom = 147

@@ -1,0 +1,28 @@
+-- What is printed for a report of n stops: document 01, "Job file and program". Assumes nothing.
+use mathlib.Core.List.{List, [], _∷_, _++_}
+use Prim.Native.Nat.{ℕ, zero, suc}
+use lib.ListN.{take}
+use Rattle.answer.specs.Call.{Report}
+use Rattle.printing.specs.Text.{line}
+
+-- "A refusal prints one line, `refused` and the number."
+unfoldable pub refusedLine : ℕ → List ℕ
+refusedLine number = line "refused" (number ∷ [])
+
+-- "prints seven lines"; the order's n stops, without the zeros past n
+unfoldable pub sevenLines : ℕ → Report → List ℕ
+sevenLines n r =
+    line "cost" (r .cost ∷ [])
+    ++ line "order" (take n (r .order))
+    ++ line "branched" (r .branched ∷ [])
+    ++ line "generated" (r .generated ∷ [])
+    ++ line "eliminated" (r .eliminated ∷ [])
+    ++ line "active" (r .active ∷ [])
+    ++ line "most" (r .most ∷ [])
+
+unfoldable pub printedBy : ℕ → ℕ → Report → List ℕ
+printedBy zero n r = sevenLines n r
+printedBy (suc k) n r = refusedLine (suc k)
+
+unfoldable pub printed : ℕ → Report → List ℕ
+printed n r = printedBy (r .number) n r

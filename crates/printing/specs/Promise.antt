@@ -1,0 +1,13 @@
+-- The promise of what is printed in words of its code: a text in an array, with zeros behind it. Assumes nothing.
+use mathlib.Core.List.{List}
+use Prim.Native.Nat.{ℕ}
+use lib.ListN.{length}
+use Rattle.pool.specs.Records.{padded}
+use Rattle.printing.specs.declared.Text.{Text}
+
+-- Places for a text. The longest has seven lines: 46 bytes of names, 22 numbers of at most 21 bytes with their spaces, and the lines' ends.
+abbrev pub textPlaces : ℕ
+textPlaces = 515
+
+unfoldable pub textOf : List ℕ → Text
+textOf bytes = record { bytes = padded textPlaces bytes; length = length bytes }

@@ -1,0 +1,52 @@
+// What is printed: `report_text` and `refusal_text` are open to a caller; every other function is public for this crate alone, and what it requires its
+// callers meet. specs/Printed says what is printed for every report.
+ghost use mathlib.Core.Path.{_≡_};
+ghost use Prim.Native.Nat.{min};
+ghost use Rattle.planner.specs.Promise.{reportOf};
+ghost use Rattle.printing.specs.Printed.{refusedLine, printed};
+ghost use Rattle.printing.specs.Promise.{textOf};
+
+pub mod lines;
+pub mod put;
+
+use crate::lines::put_lines;
+use crate::put::put_line;
+use planner::run::Report;
+
+// Places for a text.
+pub const TEXT: usize = 515;
+
+// A text: its bytes, with zeros behind them, and how many they are.
+pub struct Text {
+    pub bytes: [u8; TEXT],
+    pub length: usize,
+}
+
+// How many places of an order its first n stops take.
+fn places(n: u32) -> usize
+    ensures { λ r. ⌜ r ≡ min n 16 ⌝ }
+{
+    if n < 16 { n as usize } else { 16 }
+}
+
+// The line of a refusal.
+pub fn refusal_text(number: u32) -> Text
+    ensures { λ r. ⌜ r ≡ textOf (refusedLine number) ⌝ }
+{
+    let mut bytes = [0u8; TEXT];
+    let length = put_line(&mut bytes, 0, b"refused", number as u64);
+    Text { bytes, length }
+}
+
+// The text of a report of n stops.
+pub fn report_text(n: u32, report: Report) -> Text
+    ensures { λ r. ⌜ r ≡ textOf (printed n (reportOf report)) ⌝ }
+{
+    let number = report.number;
+    if number != 0 {
+        return refusal_text(number);
+    }
+    let mut bytes = [0u8; TEXT];
+    let length = put_lines(&mut bytes, places(n), report);
+    Text { bytes, length }
+}
