@@ -11,7 +11,7 @@ use Prim.Native.Nat.{ℕ, zero, suc, _≤_, _<_}
 use native.Mathlib.Omega.{arith}
 use lib.ListN.{length, take, replicate, length-append}
 use borrow.Author.Tests.{lt-ltb, le-ltb}
-use Rattle.pool.specs.Records.{padded}
+use Rattle.records.specs.Records.{padded}
 use Rattle.answer.specs.Call.{Report, Answer, callOf, orderPlaces}
 use Rattle.answer.specs.Answer.{answer}
 use Rattle.job_file.specs.Job.{Job, area, longest}

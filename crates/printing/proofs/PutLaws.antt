@@ -10,7 +10,7 @@ use Prim.Native.Nat.{ℕ, zero, suc, _+_, _≤_, _<_}
 use native.Mathlib.Omega.{arith}
 use lib.ListN.{length, getD, set, take, drop, replicate, length-append, length-replicate}
 use lib.Seq.{sets, sets-eq, length-sets}
-use Rattle.pool.specs.Records.{padded}
+use Rattle.records.specs.Records.{padded}
 use Rattle.job_file.specs.Bytes.{overwrite}
 use Rattle.job_file.proofs.ByteLaws.{padded-overwrite, take-next, each-append}
 use Rattle.printing.specs.Text.{ascii, decimal, numbered}
