@@ -15,7 +15,7 @@ use Rattle.records.specs.Records.{padded}
 use Rattle.answer.specs.Call.{Report, Answer, callOf, orderPlaces}
 use Rattle.answer.specs.Answer.{answer}
 use Rattle.job_file.specs.Job.{Job, area, longest}
-use Rattle.job_file.specs.Reader.{Reading, read}
+use Rattle.job_file.specs.Reader.{read}
 use Rattle.job_file.specs.Promise.{tablePlaces, returned, jobOf, jobFrom}
 use Rattle.job_file.specs.declared.reader.Reading.{Reading as Returned}
 use Rattle.job_file.proofs.JobLaws.{Passed, passed}
@@ -24,7 +24,7 @@ use Rattle.job_file.proofs.Returned.{job-returned}
 use Rattle.printing.specs.Printed.{refusedLine, printed}
 use Rattle.printing.specs.Promise.{textPlaces, textOf}
 use Rattle.printing.specs.declared.Text.{Text}
-use Rattle.plan.specs.Output.{poolLength, callBy, answered, outputBy, output}
+use Rattle.plan.specs.Output.{poolLength, callBy, answered, output}
 use Rattle.plan.specs.Cases
 
 padded-longer : (n : ℕ) (xs : List ℕ) → length xs ≤ length (padded n xs)

@@ -4,11 +4,11 @@
 --   put-text       a text written into an array of zeros
 --   numbered-next  the stops that the loop writes, one more
 -- Assumes nothing.
-use mathlib.Core.Path.{_≡_, refl, ap, sym, _∙_}
-use mathlib.Core.List.{List, [], _∷_, _++_, append-nil}
-use Prim.Native.Nat.{ℕ, zero, suc, _+_, _≤_, _<_}
+use mathlib.Core.Path.{_≡_, refl, ap, _∙_}
+use mathlib.Core.List.{List, [], _∷_, _++_}
+use Prim.Native.Nat.{ℕ, suc, _+_, _≤_, _<_}
 use native.Mathlib.Omega.{arith}
-use lib.ListN.{length, getD, set, take, drop, replicate, length-append, length-replicate}
+use lib.ListN.{length, getD, set, take, replicate, length-append, length-replicate}
 use lib.Seq.{sets, sets-eq, length-sets}
 use Rattle.records.specs.Records.{padded}
 use Rattle.job_file.specs.Bytes.{overwrite}

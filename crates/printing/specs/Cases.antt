@@ -1,8 +1,7 @@
 -- Small cases of text, and document 01's case l. The laws name this module, so that it is checked before them: a wrong definition is met here
 -- first. Assumes nothing.
 use mathlib.Core.Path.{_≡_, refl}
-use mathlib.Core.List.{List, [], _∷_, _++_}
-use Prim.Native.Nat.{ℕ}
+use mathlib.Core.List.{[], _∷_}
 use Rattle.answer.specs.Call.{Report, refusal}
 use Rattle.printing.specs.Text.{ascii, decimal, numbered, line}
 use Rattle.printing.specs.Printed.{refusedLine, sevenLines, printedBy, printed}

@@ -1,7 +1,6 @@
 // Bytes, numbers and lines written into a buffer from a place on. Each function answers the place behind what it wrote.
-ghost use mathlib.Core.Path.{_≡_};
 ghost use mathlib.Core.List.{[], _∷_, _++_};
-ghost use Prim.Native.Nat.{_+_, _*_, _≤_};
+ghost use Prim.Native.Nat.{_+_, _≤_};
 ghost use lib.ListN.{length};
 ghost use Rattle.printing.specs.Text.{ascii, numbered};
 ghost use Rattle.printing.specs.Code.{Put, numberRoom, lineRoom};

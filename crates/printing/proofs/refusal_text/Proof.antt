@@ -2,7 +2,6 @@
 use native.Mathlib.Omega.{arith}
 use Rattle.printing.specs.Text.{line}
 use Rattle.printing.specs.Printed.{refusedLine}
-use Rattle.printing.specs.Promise.{textOf}
 use Rattle.printing.proofs.PutLaws.{put-text}
 use borrow.Author.Needs.{needs}
 use Rattle.printing.proofs.refusal_text.Statement.{statement}

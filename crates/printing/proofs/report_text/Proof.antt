@@ -1,6 +1,5 @@
 -- `report_text` meets its contract: a refusal's line, or the seven lines in an array of zeros. Assumes nothing.
 use mathlib.Core.Path.{_≡_, ap, sym, _∙_}
-use native.Mathlib.Omega.{arith}
 use lib.ListN.{length}
 use Rattle.planner.specs.Promise.{reportOf}
 use Rattle.printing.specs.Promise.{textOf}

@@ -1,6 +1,6 @@
 -- `answer` meets its contract: a refusal by the reader, or the report of the job that it returned. Assumes nothing.
 use mathlib.Core.Path.{_≡_, ap, sym, _∙_}
-use Prim.Native.Nat.{ℕ, _+_, _*_, _≤_}
+use Prim.Native.Nat.{ℕ, _+_, _*_}
 use native.Mathlib.Omega.{arith}
 use lib.Seq.{length-take-le}
 use Rattle.job_file.specs.Job.{area}

@@ -1,6 +1,5 @@
 -- `output` meets its contract. Assumes nothing.
 use mathlib.Core.Path.{ap, _∙_}
-use native.Mathlib.Omega.{arith}
 use Rattle.printing.specs.Promise.{textOf}
 use Rattle.plan.proofs.OutputLaws.{long-output, short-output}
 use borrow.Author.Needs.{needs}

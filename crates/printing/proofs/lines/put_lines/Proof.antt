@@ -1,8 +1,7 @@
 -- `put_lines` meets its contract: the cost and the order, and behind them the counts. Assumes nothing.
 use mathlib.Core.Path.{_≡_, sym}
-use Prim.Native.Nat.{_≤_}
 use native.Mathlib.Omega.{arith}
-use lib.ListN.{length, take}
+use lib.ListN.{length}
 use lib.Seq.{length-take-le}
 use Rattle.planner.specs.Promise.{reportOf}
 use Rattle.printing.proofs.PutLaws.{put-then}

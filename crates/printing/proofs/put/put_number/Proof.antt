@@ -1,5 +1,4 @@
 -- `put_number` meets its contract: a space, and behind it the digits. Assumes nothing.
-use mathlib.Core.Path.{_≡_}
 use native.Mathlib.Omega.{arith}
 use lib.ListN.{length-set, length-take}
 use Rattle.printing.proofs.DigitLaws.{fewest-few, space-digits}
@@ -32,7 +31,7 @@ put-bytes-requires c κs =
 same-length : tie.Need-same-length
 same-length c =
     let start = c .before .before .before .before .before .before .before .before in
-    put-length (put-then (put-one (start .args .buffer .now) (start .args .at) 32) (c .before .before .put-bytes .ensures))
+    put-length (put-then (put-one (start .args .buffer .now) (start .args .at) _) (c .before .before .put-bytes .ensures))
 
 returns : tie.Need-returns
 returns c =
