@@ -1,0 +1,45 @@
+-- An index into a run of records: inside, or past the end. Assumes nothing.
+use mathlib.Core.Path.{_≡_, refl, ap, sym}
+use mathlib.Core.Bool.{true, false, not}
+use mathlib.Core.List.{List, [], _∷_}
+use Prim.Native.Nat.{ℕ, zero, suc, _*_, _≤_, _<_, _^_}
+use native.Mathlib.Omega.{arith}
+use lib.Dec.{T, ltb, nltb→le}
+use lib.ListN.{length, getD, set}
+use Rattle.lists.proofs.Tests.{to-true, to-false}
+use Rattle.stops.specs.Record.{emptyRecord}
+use Rattle.stops.specs.declared.node.Node.{Node as Record}
+use Rattle.node_records.specs.declared.Found.{Found}
+use Rattle.node_records.specs.Answers.{isInside, recordAt, found}
+
+-- past the end nothing is set
+pub set-outside : {X : Type 0} (ys : List X) (i : ℕ) (x : X) → length ys ≤ i → ys ≡ set ys i x
+set-outside [] i x l = refl
+set-outside (y ∷ ys) zero x l = absurd (omega arith)
+set-outside (y ∷ ys) (suc i) x l = ap (λ (zs : List _). y ∷ zs) (set-outside ys i x (omega arith))
+
+-- the byte offset of record i fits, and so does that of every record
+pub offset-fits : (i n : ℕ) → i < n → n * 24 < 2 ^ 63 → i * 24 < 2 ^ 64
+offset-fits i n l room = omega arith
+
+getD-outside : (ys : List Record) (i : ℕ) → length ys ≤ i → getD ys i emptyRecord ≡ emptyRecord
+getD-outside [] i l = refl
+getD-outside (y ∷ ys) zero l = absurd (omega arith)
+getD-outside (y ∷ ys) (suc i) l = getD-outside ys i (omega arith)
+
+module _ (ys : List Record) (i : ℕ) where
+  pub is-inside : T (ltb i (length ys)) → isInside ys i ≡ true
+  unfolding isInside
+  is-inside h = to-true (ltb i (length ys)) h
+
+  pub is-outside : T (not (ltb i (length ys))) → isInside ys i ≡ false
+  unfolding isInside
+  is-outside h = to-false (ltb i (length ys)) h
+
+  pub found-inside : T (ltb i (length ys)) → record { inside = true; node = getD ys i emptyRecord } ≡ found ys i
+  unfolding found recordAt
+  found-inside h = rw (is-inside h) refl
+
+  pub found-outside : T (not (ltb i (length ys))) → record { inside = false; node = emptyRecord } ≡ found ys i
+  unfolding found recordAt
+  found-outside h = rw (is-outside h, getD-outside ys i (nltb→le i (length ys) h)) refl

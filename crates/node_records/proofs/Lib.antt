@@ -1,0 +1,8 @@
+pub mod OrderLaws
+pub mod SetLaws
+pub mod NodeLaws
+pub mod PathLaws
+pub mod Retrace
+pub mod FigureLaws
+pub mod Indices
+pub mod Reading

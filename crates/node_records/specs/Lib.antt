@@ -1,0 +1,4 @@
+pub mod Numbers
+pub mod Nodes
+pub mod Answers
+pub mod Examples

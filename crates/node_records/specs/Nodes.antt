@@ -1,0 +1,39 @@
+-- What a record says of a node: document 01, "The pool". Assumes nothing.
+--   stopAt x k       the stop at place k of the record's order
+--   flownStops x     its stops in flown order
+--   isNode n x       whether it is a node's record at all, for n stops
+-- `proofs/` shows that the records that pass are just those of nodes, and that each node's stops are read back.
+use mathlib.Core.Bool.{Bool, true, false, not, _&&_, cond}
+use mathlib.Core.List.{List, [], _∷_, map}
+use Prim.Native.Nat.{ℕ, _+_, _-_, _^_, _/_, _%_, min}
+use lib.Dec.{leb, ltb, eqb}
+use lib.ListN.{take, drop}
+use Rattle.lists.specs.Lists.{all, from}
+use Rattle.orders.specs.Orders.{Node, stops, flown, set, size}
+use Rattle.stops.specs.declared.node.Node.{Node as Record}
+use Rattle.pool.specs.Records.{mask, orderWord}
+
+-- "two for the order (s-1 in four bits each, eight stops a number, first stop lowest ..)"
+unfoldable pub stopAt : Record → ℕ → ℕ
+stopAt x k = cond (ltb k 8) (x .first / 16 ^ k % 16) (x .second / 16 ^ (k - 8) % 16) + 1
+
+-- as many as the size says, of the sixteen that the two numbers have bits for
+unfoldable pub flownStops : Record → Node
+flownStops x = map (stopAt x) (from 0 (min (x .size) 16))
+
+-- no stop twice
+abbrev pub distinct : Node → Bool
+distinct [] = true
+distinct (s ∷ x) = not (flown x s) && distinct x
+
+-- The stops y that the order of x gives are distinct stops of 1 to n, the size and the set are theirs, and so are the two numbers for
+-- the order, "unused bits 0".
+unfoldable pub isRecordOf : ℕ → Record → Node → Bool
+isRecordOf n x y =
+    distinct y && all (flown (stops n)) y
+    && eqb (x .size) (size n y) && eqb (x .set) (mask (set n y))
+    && eqb (x .first) (orderWord (take 8 y)) && eqb (x .second) (orderWord (drop 8 y))
+
+-- "n is 1 to 16"
+unfoldable pub isNode : ℕ → Record → Bool
+isNode n x = leb 1 n && leb n 16 && isRecordOf n x (flownStops x)
