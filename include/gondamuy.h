@@ -21,6 +21,19 @@ extern "C" {
 /* words in a record of the pool */
 #define GONDAMUY_RECORD_WORDS 6
 
+/* A record of the pool: six words in a row. */
+struct gondamuy_node {
+    uint32_t size;
+    uint32_t set;        /* stop s adds 2 to the power s-1 */
+    uint32_t path;
+    uint32_t bound;
+    uint32_t first;      /* s-1 in four bits each, the first eight stops, first stop lowest */
+    uint32_t second;     /* the others */
+};
+
+/* refused by a compiler that puts anything between or behind the six words */
+typedef char gondamuy_node_is_six_words[sizeof(struct gondamuy_node) == GONDAMUY_RECORD_WORDS * sizeof(uint32_t) ? 1 : -1];
+
 /* bytes of the longest job file: a buffer that every job's file fits */
 #define GONDAMUY_LONGEST_FILE 1185
 
@@ -59,6 +72,17 @@ struct gondamuy_report gondamuy_plan(uint32_t n,
                                      uint32_t selection, uint32_t rules, uint32_t bound,
                                      const uint8_t *start, size_t start_len,
                                      uint32_t *pool, size_t pool_len);
+
+/* The same with a pool of node records: the same call over the same memory. pool_len counts records. */
+static inline struct gondamuy_report gondamuy_plan_nodes(uint32_t n,
+                                                         const uint32_t *table, size_t table_len,
+                                                         uint32_t selection, uint32_t rules, uint32_t bound,
+                                                         const uint8_t *start, size_t start_len,
+                                                         struct gondamuy_node *pool, size_t pool_len)
+{
+    return gondamuy_plan(n, table, table_len, selection, rules, bound, start, start_len,
+                         (uint32_t *)pool, pool_len * GONDAMUY_RECORD_WORDS);
+}
 
 /* Reads a job file: the job comes back by value, so that no buffer can be too short. */
 struct gondamuy_reading gondamuy_read(const uint8_t *file, size_t file_len);

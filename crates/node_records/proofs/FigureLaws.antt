@@ -28,6 +28,7 @@ use Rattle.checks.proofs.JobCause.{job-passes}
 use Rattle.node_records.specs.Numbers.{ofNumbers}
 use Rattle.node_records.specs.Nodes.{stopAt, flownStops, isRecordOf, isNode}
 use Rattle.node_records.specs.Answers.{isInside, recordAt, found, noFigures, figuresBy, figures}
+use Rattle.node_records.specs.Examples
 use Rattle.node_records.specs.declared.Found.{Found}
 use Rattle.node_records.specs.declared.Figures.{Figures}
 use Rattle.node_records.proofs.NodeLaws.{NodeRecord, node-record}

@@ -11,6 +11,7 @@ use Rattle.stops.specs.Record.{emptyRecord}
 use Rattle.stops.specs.declared.node.Node.{Node as Record}
 use Rattle.node_records.specs.declared.Found.{Found}
 use Rattle.node_records.specs.Answers.{isInside, recordAt, found}
+use Rattle.node_records.specs.Examples
 
 -- past the end nothing is set
 pub set-outside : {X : Type 0} (ys : List X) (i : ℕ) (x : X) → length ys ≤ i → ys ≡ set ys i x

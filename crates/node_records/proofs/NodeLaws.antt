@@ -14,6 +14,7 @@ use Rattle.orders.proofs.Sets.{in-stops, stops-in, in-flown, flown-in}
 use Rattle.stops.specs.declared.node.Node.{Node as Record}
 use Rattle.pool.specs.Records.{mask, orderWord}
 use Rattle.node_records.specs.Nodes.{flownStops, distinct, isRecordOf, isNode}
+use Rattle.node_records.specs.Examples
 
 -- the test for distinct stops
 distinct-list : (x : Node) → T (distinct x) → Distinct x

@@ -19,16 +19,14 @@ use prog.Routine.{Routine}
 use prog.Wp.{Heap, Calls, Loops, Env}
 use ghost.Atoms.{Atoms, sem}
 use contract.Monad.{Fun, fact}
-use types.Kit.{Given, Item, Post, Goal, Seq, runs, lands, ‵, raw, ⋆, _⊛_, some, later, _$_, _∵_, !, qed, by, move, drop, use1, use2, split, join, pick, fsplit, fjoin, frame, await, done}
+use types.Kit.{Given, Item, Post, Goal, Seq, runs, lands, ‵, raw, ⋆, _⊛_, _$_, _∵_, !, qed, move, drop, use1, use2, split, join, fjoin, frame, done}
 use types.Run.{Opds}
 use sound.WpLaws.{FmC}
 use denote.RattleType.{owns}
-use denote.Laws.{Is, shows}
-use denote.Plain.{uint-makes}
-use denote.Builtin.{usize}
+use denote.Laws.{Is}
 use denote.Ref.{RefT}
 use denote.Slice.{sliceVal, ShrSlice, shr-slice-copy}
-use denote.Steps.{owned, peeks, heard, nothing}
+use denote.Steps.{nothing}
 use denote.Struct.Laws as LL
 use denote.Triple.Statement.{Contract, Triple}
 use denote.Triple.Call.{calls-at}
@@ -39,6 +37,8 @@ use Rattle.stops.proofs.node.Node as T
 use Rattle.stops.proofs.node.Node.Laws as T′
 use Rattle.node_records.specs.declared.Found.{Found}
 use Rattle.node_records.specs.Answers.{found}
+use Rattle.node_records.specs.Examples
+use Rattle.node_records.proofs.Walk.{hears, own-usize}
 use Rattle.node_records.proofs.Found as F
 use Rattle.node_records.proofs.Found.Laws as F′
 use Rattle.node_records.proofs.read as read
@@ -79,14 +79,17 @@ module _ {M : Type 1} (𝓤 : URA M) (H : Heap 𝓤) (A : Atoms 𝓤) (mem : Mem
     to = (((κ, tt), (q, tt), tt, (s, (i, tt)), (slice ∷ [], (vint w64 i ∷ [], tt))), tt)
 
     -- of what `read` ensures, the clause alone: it has no `&mut`, so what is said of last values is dropped
-    said : (r : Found) → ent 𝓤 (ensured 𝓤 H A read.ended (read.clauses 𝓤 H A mem run) (κ, tt) (s, (i, tt)) tt r) (fact 𝓤 (r ≡ found (s .now) i))
+    abbrev Ensured : Found → SProp 𝓤
+    Ensured r = ensured 𝓤 H A read.ended (read.clauses 𝓤 H A mem run) (κ, tt) (s, (i, tt)) tt r
+
+    said : (r : Found) → ent 𝓤 (Ensured r) (fact 𝓤 (r ≡ found (s .now) i))
     said r = exE 𝓤 _ (λ ws. snd∗ 𝓤 (sem 𝓤 H A (lasts read.ended (κ, tt) (s, (i, tt)) ws)) (fact 𝓤 (r ≡ found (s .now) i)))
 
     module _ (W : Given 𝓤 H A) where
       asked : i < 2 ^ 64 → ent 𝓤 (⋆ 𝓤 H A (‵ (flft κ q) ∷ ‵ owned-slice ∷ [])) (ReadAt .pre to)
       asked gi =
           qed W (‵ (flft κ q) ∷ ‵ owned-slice ∷ []) ∵
-          nothing ! $ move ! (1 ∷ 0 ∷ []) $ join ! $ nothing ! $ owned ! usize (Is usize) (uint-makes 𝓤 H A W w64) i (vint w64 i ∷ []) (refl, gi) $ fjoin ! $
+          nothing ! $ move ! (1 ∷ 0 ∷ []) $ join ! $ nothing ! $ own-usize ! i gi $ fjoin ! $
           move ! (2 ∷ 0 ∷ []) $ fjoin ! $ move ! (1 ∷ 0 ∷ []) $ join ! $ frame ! $ done !
 
       pub reads-record :
@@ -99,9 +102,9 @@ module _ {M : Type 1} (𝓤 : URA M) (H : Heap 𝓤) (A : Atoms 𝓤) (mem : Mem
           move t (1 ∷ []) $ use1 W (‵ owned-slice ⊛ ‵ owned-slice) (shr-slice-copy 𝓤 H A W (named 0) κ T.the-row .twice s (slice ∷ [])) $ split t $
           move t (2 ∷ 0 ∷ []) $ use2 W (raw (ReadAt .pre to)) (asked gi) $
           calls-at t fm ReadAt known to os (λ v.
-          use1 W (later (some (λ (r : Found). ((‵ (flft κ q) ⊛ ‵ ftrue) ⊛ ‵ (F.the-row .own r (v ∷ []))) ⊛ raw (ensured 𝓤 H A read.ended (read.clauses 𝓤 H A mem run) (κ, tt) (s, (i, tt)) tt r)))) (id⊢ 𝓤 _) $
-          await t tt $ pick t (λ r. split t $ move t (1 ∷ []) $ use1 W (raw (fact 𝓤 (r ≡ found (s .now) i))) (said r) $ heard t (r ≡ found (s .now) i) (λ e.
-          split t $ move t (1 ∷ []) $ peeks t F.the-row (Is F.the-row) (shows 𝓤 H A F.the-row) r (v ∷ []) (λ is.
+          hears t tt F.the-row (‵ (flft κ q) ⊛ ‵ ftrue) Ensured (λ r. r ≡ found (s .now) i) said v (id⊢ 𝓤 _) (λ r e is.
           drop t $ split t $ move t (1 ∷ []) $ drop t $
-          subst (λ (u : Val). Seq K W (‵ (flft κ q) ∷ ‵ owned-slice ∷ Γ) (lands C Λ E d u rest p)) (sym (ap (λ (us : List Val). getD us 0 v) (LL.tells F.the-type F′.the-laws r (v ∷ []) is)))
-          (k r e (subst (Is F.the-row r) (LL.tells F.the-type F′.the-laws r (v ∷ []) is) is))))))
+          (let w = LL.tells F.the-type F′.the-laws r (v ∷ []) is in spelled r w (k r e (subst (Is F.the-row r) w is)))))
+        where
+          spelled : {v : Val} (r : Found) → v ∷ [] ≡ mach r ∷ [] → Seq K W (‵ (flft κ q) ∷ ‵ owned-slice ∷ Γ) (lands C Λ E d (mach r) rest p) → Seq K W (‵ (flft κ q) ∷ ‵ owned-slice ∷ Γ) (lands C Λ E d v rest p)
+          spelled {v} r e s = subst (λ (u : Val). Seq K W (‵ (flft κ q) ∷ ‵ owned-slice ∷ Γ) (lands C Λ E d u rest p)) (sym (ap (λ (us : List Val). getD us 0 v) e)) s

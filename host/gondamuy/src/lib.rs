@@ -5,11 +5,33 @@
 
 mod border;
 
+use std::mem::{align_of, size_of};
+use std::slice;
+
 /// Words in a record of the pool.
 pub const RECORD_WORDS: usize = 6;
 
 /// Bytes of the longest job file.
 pub const LONGEST_FILE: usize = 1_185;
+
+/// A node record: the six words of the pool in their sequence.
+#[repr(C)]
+#[derive(Clone, Copy, Debug, Default, PartialEq, Eq)]
+pub struct Node {
+    pub size: u32,
+    /// Stop s adds 2 to the power s-1.
+    pub set: u32,
+    pub path: u32,
+    pub bound: u32,
+    /// s-1 in four bits each, the first eight stops, first stop lowest.
+    pub first: u32,
+    /// The others.
+    pub second: u32,
+}
+
+// Six words and nothing between or behind them: what `words` rests on.
+const _: () = assert!(size_of::<Node>() == RECORD_WORDS * size_of::<u32>());
+const _: () = assert!(align_of::<Node>() == align_of::<u32>());
 
 /// An order (number 0) or a refusal (number 1 to 7).
 #[repr(C)]
@@ -94,6 +116,26 @@ pub fn plan(
             pool.len(),
         )
     }
+}
+
+/// The memory of some records as the pool's words.
+pub fn words(pool: &mut [Node]) -> &mut [u32] {
+    // A `Node` is six words in a row, each of which may hold any number.
+    unsafe { slice::from_raw_parts_mut(pool.as_mut_ptr().cast(), pool.len() * RECORD_WORDS) }
+}
+
+/// `plan` with a pool of node records: the same call over the same memory. No
+/// record is a part record, so number 6 comes from an empty pool alone.
+pub fn plan_nodes(
+    n: u32,
+    table: &[u32],
+    selection: u32,
+    rules: u32,
+    bound: u32,
+    start: &[u8],
+    pool: &mut [Node],
+) -> Report {
+    plan(n, table, selection, rules, bound, start, words(pool))
 }
 
 /// Reads a job file.

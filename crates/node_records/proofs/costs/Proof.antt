@@ -16,19 +16,18 @@ use prog.Wp.{Heap, Calls, Loops, WpFn, Tables}
 use ghost.Atoms.{Atoms, sem}
 use contract.Monad.{Fun, fact}
 use contract.Running.{givenOf, tables, tablesOf}
-use types.Kit.{Given, ‵, raw, _⊛_, ⋆, some, later, _$_, _∵_, !, qed, by, move, keep, drop, use1, use2, split, join, pick, fsplit, fjoin, suffices, frame, await, done}
-use types.Run.{look, init, forget, stop, fld, from, load, and-then, no-more, land, returns, enter, alloc1, alloc0, params1, pass1, pass0, free1, free0}
+use types.Kit.{Given, ‵, raw, _⊛_, ⋆, _$_, _∵_, !, qed, by, move, keep, drop, use1, use2, split, join, fsplit, fjoin, suffices, frame, done}
+use types.Run.{look, init, forget, stop, fld, from, load, and-then, no-more, land, returns, enter, alloc1, alloc0, params1, pass1, pass0}
 use types.Part.{whole, sub, look-in}
 use sound.WpLaws.{FmC, fmOf, WpFn-mono}
 use denote.Exit.{yes}
 use denote.RattleType.{owns}
-use denote.Laws.{Is, shows}
-use denote.Plain.{Boolean, uint-vals, uint-tells, uint-makes, bool-makes}
+use denote.Plain.{uint-vals, uint-tells}
 use denote.Builtin.{u32, usize}
 use denote.Ref.{RefT}
 use denote.Signature.{plain}
 use denote.Slice.{sliceVal, ShrSlice, Room, slice-vals, shr-slice-tells, shr-slice-copy}
-use denote.Steps.{owned, peeks, heard, nothing}
+use denote.Steps.{nothing}
 use denote.Struct.Laws as LL
 use denote.Triple.Statement.{Contract, Triple}
 use denote.Triple.Call.{calls-at}
@@ -45,6 +44,7 @@ use Rattle.node_records.specs.declared.Found.{Found}
 use Rattle.node_records.specs.declared.Figures.{Figures}
 use Rattle.node_records.proofs.Figures as R
 use Rattle.node_records.proofs.Figures.Laws as R′
+use Rattle.node_records.proofs.Walk.{value, frees-all, hears, own-u32, own-usize, own-bool}
 use Rattle.node_records.proofs.Reading.{mach, Numbers, numbers, found-typed, ReadAt, slice, owned-slice, reads-record}
 use Rattle.node_records.proofs.FigureLaws.{figures-found}
 use Rattle.node_records.proofs.read.Symbol as read-def
@@ -93,19 +93,22 @@ module _ {M : Type 1} (𝓤 : URA M) (H : Heap 𝓤) (A : Atoms 𝓤) (mem : Mem
     abbrev answer : Figures
     answer = figures (r .inside) (ofNumbers (r .node .size) (r .node .set) (r .node .first) (r .node .second)) n (t .now) bound
 
-    said : (u : Figures) → ent 𝓤 (ensured 𝓤 H A callee.ended (callee.clauses 𝓤 H A mem run) (κ, tt) (to .0 .3) tt u) (fact 𝓤 (u ≡ answer))
+    abbrev Ensured : Figures → SProp 𝓤
+    Ensured u = ensured 𝓤 H A callee.ended (callee.clauses 𝓤 H A mem run) (κ, tt) (to .0 .3) tt u
+
+    said : (u : Figures) → ent 𝓤 (Ensured u) (fact 𝓤 (u ≡ answer))
     said u = exE 𝓤 _ (λ ws. snd∗ 𝓤 (sem 𝓤 H A (lasts callee.ended (κ, tt) (to .0 .3) ws)) (fact 𝓤 (u ≡ answer)))
 
     asked : (W : Given 𝓤 H A) → n < 2 ^ 32 → bound < 2 ^ 32 → Numbers (r .node) → ent 𝓤 (⋆ 𝓤 H A (‵ (flft κ q) ∷ ‵ owned-table ∷ [])) (Callee .pre to)
     asked W gn gb x =
         qed W (‵ (flft κ q) ∷ ‵ owned-table ∷ []) ∵ nothing ! $ move ! (1 ∷ 0 ∷ []) $ join ! $
-        nothing ! $ owned ! u32 (Is u32) (uint-makes 𝓤 H A W w32) bound _ (refl, gb) $ fjoin ! $ move ! (2 ∷ 0 ∷ []) $ fjoin ! $
-        owned ! u32 (Is u32) (uint-makes 𝓤 H A W w32) n _ (refl, gn) $ fjoin ! $
-        owned ! u32 (Is u32) (uint-makes 𝓤 H A W w32) (r .node .second) _ (refl, x .second) $ fjoin ! $
-        owned ! u32 (Is u32) (uint-makes 𝓤 H A W w32) (r .node .first) _ (refl, x .first) $ fjoin ! $
-        owned ! u32 (Is u32) (uint-makes 𝓤 H A W w32) (r .node .set) _ (refl, x .set) $ fjoin ! $
-        owned ! u32 (Is u32) (uint-makes 𝓤 H A W w32) (r .node .size) _ (refl, x .size) $ fjoin ! $
-        owned ! Boolean (Is Boolean) (bool-makes 𝓤 H A W) (r .inside) _ refl $ fjoin ! $ move ! (1 ∷ 0 ∷ []) $ join ! $ frame ! $ done !
+        nothing ! $ own-u32 ! bound gb $ fjoin ! $ move ! (2 ∷ 0 ∷ []) $ fjoin ! $
+        own-u32 ! n gn $ fjoin ! $
+        own-u32 ! (r .node .second) (x .second) $ fjoin ! $
+        own-u32 ! (r .node .first) (x .first) $ fjoin ! $
+        own-u32 ! (r .node .set) (x .set) $ fjoin ! $
+        own-u32 ! (r .node .size) (x .size) $ fjoin ! $
+        own-bool ! (r .inside) $ fjoin ! $ move ! (1 ∷ 0 ∷ []) $ join ! $ frame ! $ done !
 
 module _ {M : Type 1} (𝓤 : URA M) (H : Heap 𝓤) (A : Atoms 𝓤) (W : Given 𝓤 H A) (mem : Memory → SProp 𝓤) (run : Routine → Fun 𝓤) (κ κ′ : Lft) (q q′ : Share) (s : RefT (List Record)) (i n : ℕ) (t : RefT (List ℕ)) (bound : ℕ) where
   abbrev v : Val
@@ -139,8 +142,8 @@ module _ {M : Type 1} (𝓤 : URA M) (H : Heap 𝓤) (A : Atoms 𝓤) (W : Given
       qed W (‵ (R.the-row .own r (u ∷ [])) ∷ (‵ (flft κ′ q′) ⊛ ‵ ftrue) ∷ ‵ Own′ ∷ ‵ (flft κ q) ∷ ‵ Own ∷ []) ∵
       suffices ! _ (ends-at 𝓤 H A costs.ended stayed (costs.clauses 𝓤 H A mem run) W bind u r (tt, (tt, (tt, (tt, (tt, tt))))) (tt, (tt, (tt, (tt, (tt, tt)))))) $ says ! e $
       move ! (3 ∷ 1 ∷ []) $ join ! $ frame ! $
-      nothing ! $ owned ! u32 (Is u32) (uint-makes 𝓤 H A W w32) bound _ (refl, gb) $ fjoin ! $ move ! (2 ∷ 0 ∷ []) $ fjoin ! $
-      owned ! u32 (Is u32) (uint-makes 𝓤 H A W w32) n _ (refl, gn) $ fjoin ! $ owned ! usize (Is usize) (uint-makes 𝓤 H A W w64) i _ (refl, gi) $ fjoin ! $
+      nothing ! $ own-u32 ! bound gb $ fjoin ! $ move ! (2 ∷ 0 ∷ []) $ fjoin ! $
+      own-u32 ! n gn $ fjoin ! $ own-usize ! i gi $ fjoin ! $
       move ! (2 ∷ 0 ∷ []) $ fjoin ! $ frame ! $ done !
 
   module _ (C : Calls 𝓤 H) (Λ : Loops 𝓤 H) (fm : FmC 𝓤 H (W .laws) C) (known-read : Triple 𝓤 (C #read) (ReadAt 𝓤 H A mem run)) (known : Triple 𝓤 (C #callee) (Callee 𝓤 H A mem run)) where
@@ -157,7 +160,7 @@ module _ {M : Type 1} (𝓤 : URA M) (H : Heap 𝓤) (A : Atoms 𝓤) (W : Given
         move ! (15 ∷ []) $ fsplit ! $ move ! (1 ∷ []) $ fsplit ! $ drop ! $ fsplit ! $ drop ! $ fsplit ! $ move ! (1 ∷ []) $ drop ! $
         move ! (16 ∷ []) $ split ! $ move ! (1 ∷ []) $ split ! $ move ! (2 ∷ 4 ∷ 0 ∷ 3 ∷ []) $
         -- [the pool's token; what the slice owns; the table's token; what the table owns; true; _6; …; _0; …]
-        reads-record 𝓤 H A mem run κ q s i W ! fm known-read gi (and-then ! (load ! (from ! (stop !)) (look ! 15 refl)) (and-then ! (load ! (from ! (stop !)) (look ! 13 refl)) (no-more !))) (λ r e is.
+        reads-record 𝓤 H A mem run κ q s i W ! fm known-read gi (and-then ! (value ! 15 refl) (and-then ! (value ! 13 refl) (no-more !))) (λ r e is.
         land ! (from ! (stop !)) (init ! 5 refl (found-typed 𝓤 H A W r is)) $
         move ! (3 ∷ []) $ use1 W (‵ Own′ ⊛ ‵ Own′) (shr-slice-copy 𝓤 H A W (named 0) κ′ u32 .twice t (v′ ∷ [])) $ split ! $ move ! (4 ∷ 0 ∷ []) $
         use2 W (raw (Callee 𝓤 H A mem run .pre (to 𝓤 H A mem run κ′ q′ r n t bound))) (asked 𝓤 H A mem run κ′ q′ r n t bound W gn gb (numbers r is)) $
@@ -168,16 +171,13 @@ module _ {M : Type 1} (𝓤 : URA M) (H : Heap 𝓤) (A : Atoms 𝓤) (W : Given
         (and-then ! (load ! (from ! (fld ! refl (fld ! refl (stop !)))) (look-in ! 5 (sub ! 1 refl (sub ! 1 refl (whole !)))))
         (and-then ! (load ! (from ! (fld ! refl (fld ! refl (stop !)))) (look-in ! 5 (sub ! 4 refl (sub ! 1 refl (whole !)))))
         (and-then ! (load ! (from ! (fld ! refl (fld ! refl (stop !)))) (look-in ! 5 (sub ! 5 refl (sub ! 1 refl (whole !)))))
-        (and-then ! (load ! (from ! (stop !)) (look ! 11 refl)) (and-then ! (load ! (from ! (stop !)) (look ! 9 refl)) (and-then ! (load ! (from ! (stop !)) (look ! 7 refl)) (no-more !)))))))))
-        (λ u. use1 W (later (some (λ (w : Figures). ((‵ (flft κ′ q′) ⊛ ‵ ftrue) ⊛ ‵ (R.the-row .own w (u ∷ []))) ⊛ raw (ensured 𝓤 H A callee.ended (callee.clauses 𝓤 H A mem run) (κ′, tt) (to 𝓤 H A mem run κ′ q′ r n t bound .0 .3) tt w)))) (id⊢ 𝓤 _) $ await ! tt $ pick ! (λ w.
-        split ! $ move ! (1 ∷ []) $ use1 W (raw (fact 𝓤 (w ≡ answer 𝓤 H A mem run κ′ q′ r n t bound))) (said 𝓤 H A mem run κ′ q′ r n t bound w) $
-        heard ! (w ≡ answer 𝓤 H A mem run κ′ q′ r n t bound) (λ f. split ! $ move ! (1 ∷ []) $
+        (and-then ! (value ! 11 refl) (and-then ! (value ! 9 refl) (and-then ! (value ! 7 refl) (no-more !)))))))))
+        (λ u. hears ! tt R.the-row (‵ (flft κ′ q′) ⊛ ‵ ftrue) (Ensured 𝓤 H A mem run κ′ q′ r n t bound) (λ w. w ≡ answer 𝓤 H A mem run κ′ q′ r n t bound) (said 𝓤 H A mem run κ′ q′ r n t bound) u (id⊢ 𝓤 _) (λ w f is′.
         -- [the answer; the table's token; what the table owns; the pool's token; what the slice owns; true; _6; …; _0; …]
-        peeks ! R.the-row (Is R.the-row) (shows 𝓤 H A R.the-row) w (u ∷ []) (λ is′.
         land ! (from ! (stop !)) (init ! 18 refl (LL.lawful R.the-type R′.the-laws 𝓤 H A W .typed w _ is′ .0)) $
         returns ! (look ! 18 refl) $ forget ! 6 refl $ forget ! 8 refl $ forget ! 10 refl $ forget ! 12 refl $ forget ! 14 refl $ forget ! 16 refl $ forget ! 18 refl $
-        move ! (18 ∷ 19 ∷ 16 ∷ 17 ∷ 14 ∷ 15 ∷ 12 ∷ 13 ∷ 10 ∷ 11 ∷ 8 ∷ 9 ∷ 6 ∷ 7 ∷ []) $ free1 ! $ free1 ! $ free1 ! $ free1 ! $ free1 ! $ free1 ! $ free1 ! $ free0 ! $
-        keep ! (0 ∷ 1 ∷ 2 ∷ 3 ∷ 4 ∷ []) $ by ! (exits w u gi gn gb (f ∙ figures-found (s .now) i r e n (t .now) bound))))))))))))))
+        move ! (18 ∷ 19 ∷ 16 ∷ 17 ∷ 14 ∷ 15 ∷ 12 ∷ 13 ∷ 10 ∷ 11 ∷ 8 ∷ 9 ∷ 6 ∷ 7 ∷ []) $ frees-all ! $
+        keep ! (0 ∷ 1 ∷ 2 ∷ 3 ∷ 4 ∷ []) $ by ! (exits w u gi gn gb (f ∙ figures-found (s .now) i r e n (t .now) bound))))))))))))
 
 module _ {M : Type 1} (𝓤 : URA M) (H : Heap 𝓤) (A : Atoms 𝓤) (W : Given 𝓤 H A) (mem : Memory → SProp 𝓤) (run : Routine → Fun 𝓤) where
   costs-walks :

@@ -15,19 +15,18 @@ use prog.Wp.{Heap, Calls, Loops, WpFn, Tables}
 use ghost.Atoms.{Atoms, sem}
 use contract.Monad.{Fun, fact}
 use contract.Running.{givenOf, tables, tablesOf}
-use types.Kit.{Given, ‵, raw, _⊛_, ⋆, some, later, _$_, _∵_, !, qed, by, move, keep, drop, use0, use1, split, join, pick, fsplit, fjoin, suffices, frame, await, done}
-use types.Run.{look, init, forget, stop, fld, from, load, and-then, no-more, land, returns, enter, alloc1, alloc0, params1, pass1, pass0, free1, free0}
+use types.Kit.{Given, ‵, raw, _⊛_, ⋆, _$_, _∵_, !, qed, by, move, keep, drop, use0, use1, split, join, fsplit, fjoin, suffices, frame, done}
+use types.Run.{look, init, forget, stop, fld, from, load, and-then, no-more, land, returns, enter, alloc1, alloc0, params1, pass1, pass0}
 use types.Part.{whole, sub, look-in}
 use sound.WpLaws.{FmC, fmOf, WpFn-mono}
 use denote.Exit.{yes}
 use denote.RattleType.{owns}
-use denote.Laws.{Is, shows}
-use denote.Plain.{Boolean, uint-vals, uint-tells, uint-makes, bool-makes}
+use denote.Plain.{uint-vals, uint-tells}
 use denote.Builtin.{u32, usize}
 use denote.Ref.{RefT}
 use denote.Signature.{plain}
 use denote.Slice.{ShrSlice, Room, slice-vals, shr-slice-tells}
-use denote.Steps.{owned, peeks, heard, nothing}
+use denote.Steps.{nothing}
 use denote.Struct.Laws as LL
 use denote.Triple.Statement.{Contract, Triple}
 use denote.Triple.Call.{calls-at}
@@ -45,6 +44,7 @@ use Rattle.node_records.specs.declared.Found.{Found}
 use Rattle.node_records.specs.declared.Verdict.{Verdict}
 use Rattle.node_records.proofs.Verdict as R
 use Rattle.node_records.proofs.Verdict.Laws as R′
+use Rattle.node_records.proofs.Walk.{value, frees-all, hears, own-u32, own-usize, own-bool}
 use Rattle.node_records.proofs.Reading.{mach, Numbers, numbers, found-typed, ReadAt, slice, owned-slice, reads-record}
 use Rattle.node_records.proofs.read.Symbol as read-def
 use Rattle.node_records.proofs.read.Symbol.{name as #read}
@@ -82,18 +82,21 @@ module _ {M : Type 1} (𝓤 : URA M) (H : Heap 𝓤) (A : Atoms 𝓤) (mem : Mem
   abbrev answer : Found → ℕ → Verdict
   answer r n = verdict (r .inside) (ofNumbers (r .node .size) (r .node .set) (r .node .first) (r .node .second)) n
 
-  said : (r : Found) (n : ℕ) (u : Verdict) → ent 𝓤 (ensured 𝓤 H A callee.ended (callee.clauses 𝓤 H A mem run) tt (to r n .0 .3) tt u) (fact 𝓤 (u ≡ answer r n))
+  abbrev Ensured : Found → ℕ → Verdict → SProp 𝓤
+  Ensured r n u = ensured 𝓤 H A callee.ended (callee.clauses 𝓤 H A mem run) tt (to r n .0 .3) tt u
+
+  said : (r : Found) (n : ℕ) (u : Verdict) → ent 𝓤 (Ensured r n u) (fact 𝓤 (u ≡ answer r n))
   said r n u = exE 𝓤 _ (λ ws. snd∗ 𝓤 (sem 𝓤 H A (lasts callee.ended tt (to r n .0 .3) ws)) (fact 𝓤 (u ≡ answer r n)))
 
   module _ (W : Given 𝓤 H A) where
     asked : (r : Found) (n : ℕ) → n < 2 ^ 32 → Numbers (r .node) → ent 𝓤 (emp 𝓤) (Callee .pre (to r n))
     asked r n gn x =
-        qed W [] ∵ nothing ! $ owned ! u32 (Is u32) (uint-makes 𝓤 H A W w32) n _ (refl, gn) $ fjoin ! $
-        owned ! u32 (Is u32) (uint-makes 𝓤 H A W w32) (r .node .second) _ (refl, x .second) $ fjoin ! $
-        owned ! u32 (Is u32) (uint-makes 𝓤 H A W w32) (r .node .first) _ (refl, x .first) $ fjoin ! $
-        owned ! u32 (Is u32) (uint-makes 𝓤 H A W w32) (r .node .set) _ (refl, x .set) $ fjoin ! $
-        owned ! u32 (Is u32) (uint-makes 𝓤 H A W w32) (r .node .size) _ (refl, x .size) $ fjoin ! $
-        owned ! Boolean (Is Boolean) (bool-makes 𝓤 H A W) (r .inside) _ refl $ fjoin ! $ nothing ! $ join ! $ frame ! $ done !
+        qed W [] ∵ nothing ! $ own-u32 ! n gn $ fjoin ! $
+        own-u32 ! (r .node .second) (x .second) $ fjoin ! $
+        own-u32 ! (r .node .first) (x .first) $ fjoin ! $
+        own-u32 ! (r .node .set) (x .set) $ fjoin ! $
+        own-u32 ! (r .node .size) (x .size) $ fjoin ! $
+        own-bool ! (r .inside) $ fjoin ! $ nothing ! $ join ! $ frame ! $ done !
 
 -- the answer is that of record i
 answers :
@@ -123,7 +126,7 @@ module _ {M : Type 1} (𝓤 : URA M) (H : Heap 𝓤) (A : Atoms 𝓤) (W : Given
       qed W (‵ (R.the-row .own r (u ∷ [])) ∷ ‵ (flft κ q) ∷ ‵ Own ∷ []) ∵
       suffices ! _ (ends-at 𝓤 H A is-node.ended stayed (is-node.clauses 𝓤 H A mem run) W (((κ, tt), (q, tt), tt, a, at), tt) u r (tt, (tt, (tt, tt))) (tt, (tt, (tt, tt)))) $ says ! e $
       move ! (1 ∷ []) $ nothing ! $ move ! (1 ∷ 0 ∷ []) $ join ! $ frame ! $
-      nothing ! $ owned ! u32 (Is u32) (uint-makes 𝓤 H A W w32) n _ (refl, gn) $ fjoin ! $ owned ! usize (Is usize) (uint-makes 𝓤 H A W w64) i _ (refl, gi) $ fjoin ! $ move ! (2 ∷ 0 ∷ []) $ fjoin ! $ frame ! $ done !
+      nothing ! $ own-u32 ! n gn $ fjoin ! $ own-usize ! i gi $ fjoin ! $ move ! (2 ∷ 0 ∷ []) $ fjoin ! $ frame ! $ done !
 
   module _ (C : Calls 𝓤 H) (Λ : Loops 𝓤 H) (fm : FmC 𝓤 H (W .laws) C) (known-read : Triple 𝓤 (C #read) (ReadAt 𝓤 H A mem run)) (known : Triple 𝓤 (C #callee) (Callee 𝓤 H A mem run)) where
     walk :
@@ -135,7 +138,7 @@ module _ {M : Type 1} (𝓤 : URA M) (H : Heap 𝓤) (A : Atoms 𝓤) (W : Given
         pass1 ! (init ! 6 refl (tt, (tt, (record { fits = room .0 }, tt)))) $ pass1 ! (init ! 4 refl (tt, record { fits = gi })) $ pass1 ! (init ! 2 refl (tt, record { fits = gn })) $ pass0 ! $
         move ! (11 ∷ []) $ fsplit ! $ move ! (1 ∷ []) $ drop ! $ move ! (11 ∷ []) $ split ! $ move ! (1 ∷ []) $ drop ! $
         -- [the token; what the slice owns; _4; …; _3; …; _2; …; _1; …; _0; …]
-        reads-record 𝓤 H A mem run κ q s i W ! fm known-read gi (and-then ! (load ! (from ! (stop !)) (look ! 8 refl)) (and-then ! (load ! (from ! (stop !)) (look ! 6 refl)) (no-more !))) (λ r e is.
+        reads-record 𝓤 H A mem run κ q s i W ! fm known-read gi (and-then ! (value ! 8 refl) (and-then ! (value ! 6 refl) (no-more !))) (λ r e is.
         land ! (from ! (stop !)) (init ! 2 refl (found-typed 𝓤 H A W r is)) $
         use0 W (raw (Callee 𝓤 H A mem run .pre (to 𝓤 H A mem run r n))) (asked 𝓤 H A mem run W r n gn (numbers r is)) $
         calls-at ! fm (Callee 𝓤 H A mem run) known (to 𝓤 H A mem run r n)
@@ -144,14 +147,12 @@ module _ {M : Type 1} (𝓤 : URA M) (H : Heap 𝓤) (A : Atoms 𝓤) (W : Given
         (and-then ! (load ! (from ! (fld ! refl (fld ! refl (stop !)))) (look-in ! 3 (sub ! 1 refl (sub ! 1 refl (whole !)))))
         (and-then ! (load ! (from ! (fld ! refl (fld ! refl (stop !)))) (look-in ! 3 (sub ! 4 refl (sub ! 1 refl (whole !)))))
         (and-then ! (load ! (from ! (fld ! refl (fld ! refl (stop !)))) (look-in ! 3 (sub ! 5 refl (sub ! 1 refl (whole !)))))
-        (and-then ! (load ! (from ! (stop !)) (look ! 5 refl)) (no-more !)))))))
-        (λ u. use1 W (later (some (λ (w : Verdict). (‵ ftrue ⊛ ‵ (R.the-row .own w (u ∷ []))) ⊛ raw (ensured 𝓤 H A callee.ended (callee.clauses 𝓤 H A mem run) tt (to 𝓤 H A mem run r n .0 .3) tt w)))) (id⊢ 𝓤 _) $ await ! tt $ pick ! (λ w.
-        split ! $ move ! (1 ∷ []) $ use1 W (raw (fact 𝓤 (w ≡ answer 𝓤 H A mem run r n))) (said 𝓤 H A mem run r n w) $ heard ! (w ≡ answer 𝓤 H A mem run r n) (λ f. split ! $ drop ! $
+        (and-then ! (value ! 5 refl) (no-more !)))))))
+        (λ u. hears ! tt R.the-row (‵ ftrue) (Ensured 𝓤 H A mem run r n) (λ w. w ≡ answer 𝓤 H A mem run r n) (said 𝓤 H A mem run r n) u (id⊢ 𝓤 _) (λ w f is′. move ! (1 ∷ []) $ drop ! $
         -- [the answer; the token; what the slice owns; _4; …; _0; …]
-        peeks ! R.the-row (Is R.the-row) (shows 𝓤 H A R.the-row) w (u ∷ []) (λ is′.
         land ! (from ! (stop !)) (init ! 11 refl (LL.lawful R.the-type R′.the-laws 𝓤 H A W .typed w _ is′ .0)) $
         returns ! (look ! 11 refl) $ forget ! 3 refl $ forget ! 5 refl $ forget ! 7 refl $ forget ! 9 refl $ forget ! 11 refl $
-        move ! (11 ∷ 12 ∷ 9 ∷ 10 ∷ 7 ∷ 8 ∷ 5 ∷ 6 ∷ 3 ∷ 4 ∷ []) $ free1 ! $ free1 ! $ free1 ! $ free1 ! $ free1 ! $ free0 ! $ by ! (exits w u gi gn (answers (s .now) i r n w e f))))))))))))
+        move ! (11 ∷ 12 ∷ 9 ∷ 10 ∷ 7 ∷ 8 ∷ 5 ∷ 6 ∷ 3 ∷ 4 ∷ []) $ frees-all ! $ by ! (exits w u gi gn (answers (s .now) i r n w e f))))))))))
 
 module _ {M : Type 1} (𝓤 : URA M) (H : Heap 𝓤) (A : Atoms 𝓤) (W : Given 𝓤 H A) (mem : Memory → SProp 𝓤) (run : Routine → Fun 𝓤) where
   is-node-walks :

@@ -28,7 +28,7 @@ use denote.Exit.{yes}
 use denote.RattleType.{owns}
 use denote.Shadow.{pureI}
 use denote.Laws.{Is, shows}
-use denote.Plain.{Boolean, uint-vals, uint-tells, uint-makes, bool-makes}
+use denote.Plain.{uint-vals, uint-tells}
 use denote.Builtin.{usize}
 use denote.Ref.{RefT, now}
 use denote.Slice.{sliceVal, ShrSlice, Room, slice-vals, shr-slice-tells, shr-slice-copy}
@@ -49,6 +49,7 @@ use Rattle.stops.proofs.node.Node as T
 use Rattle.stops.proofs.node.Node.Laws as T′
 use Rattle.node_records.proofs.Found as F
 use Rattle.node_records.proofs.Found.Laws as F′
+use Rattle.node_records.proofs.Walk.{value, frees-all, own-bool, val, vals, typed}
 use Rattle.node_records.proofs.Indices.{offset-fits, is-inside, is-outside, found-inside, found-outside}
 use Rattle.node_records.specs.Answers.{found}
 use Rattle.node_records.proofs.read.Key.{name as #read}
@@ -107,27 +108,27 @@ module _ {M : Type 1} (𝓤 : URA M) (H : Heap 𝓤) (A : Atoms 𝓤) (W : Given
         move ! (19 ∷ []) $ fsplit ! $ move ! (20 ∷ []) $ split ! $ move ! (0 ∷ 2 ∷ 3 ∷ []) $
         -- [the token; what the slice owns; what i owns; true; _8; …; _0; …]
         assigns ! (of-opd ! (load ! (from ! (fld ! refl (stop !))) (look-in ! 18 (sub ! 1 refl (whole !))))) (from ! (stop !)) (init ! 14 refl (tt, record { fits = room .0 })) $
-        assigns ! (bin ! (load ! (from ! (stop !)) (look ! 16 refl)) (load ! (from ! (stop !)) (look ! 14 refl)) tt) (from ! (stop !)) (init ! 12 refl (tt, tt)) $
-        first ! $ branches ! (load ! (from ! (stop !)) (look ! 12 refl))
+        assigns ! (bin ! (value ! 16 refl) (value ! 14 refl) tt) (from ! (stop !)) (init ! 12 refl (tt, tt)) $
+        first ! $ branches ! (value ! 12 refl)
         (λ inside.
-        assigns ! (bin ! (load ! (from ! (stop !)) (look ! 16 refl)) (lit ! tt) (record { fits = fits inside })) (from ! (stop !)) (init ! 10 refl (tt, record { fits = fits inside })) $
-        assigns ! (bin ! (load ! (from ! (fld ! refl (stop !))) (look-in ! 18 (sub ! 0 refl (whole !)))) (load ! (from ! (stop !)) (look ! 10 refl)) tt) (from ! (stop !)) (init ! 8 refl (tt, tt)) $
+        assigns ! (bin ! (value ! 16 refl) (lit ! tt) (record { fits = fits inside })) (from ! (stop !)) (init ! 10 refl (tt, record { fits = fits inside })) $
+        assigns ! (bin ! (load ! (from ! (fld ! refl (stop !))) (look-in ! 18 (sub ! 0 refl (whole !)))) (value ! 10 refl) tt) (from ! (stop !)) (init ! 8 refl (tt, tt)) $
         rewrite ! 8 (λ (p : ℕ). ‵ (fat fullShare tyPtr l₆ 0 (vptr b p))) (sym (place-is 24 o i)) refl $
         move ! (1 ∷ []) $ use1 W (‵ owned-slice ⊛ ‵ owned-slice) (shr-slice-copy 𝓤 H A W (named 0) κ T.the-row .twice (a .0) (at .0)) $ split ! $
         fsplit ! $ drop ! $ fsplit ! $ drop ! $ move ! (0 ∷ 2 ∷ []) $
-        looks-slice ! tt T.the-row (Is T.the-row) (shows 𝓤 H A T.the-row) (LL.vals T.the-type T′.the-laws) (LL.tells T.the-type T′.the-laws) (LL.copy T.the-type T′.the-copy 𝓤 H A W) ys b o (λ q′.
-        elem-out ! T.the-row (Is T.the-row) (shows 𝓤 H A T.the-row) (LL.vals T.the-type T′.the-laws) (LL.tells T.the-type T′.the-laws) q′ ys i emptyRecord b o (ltb→lt i (length ys) inside) (λ is.
+        looks-slice ! tt T.the-row (Is T.the-row) (shows 𝓤 H A T.the-row) (vals) (LL.tells T.the-type T′.the-laws) (LL.copy T.the-type T′.the-copy 𝓤 H A W) ys b o (λ q′.
+        elem-out ! T.the-row (Is T.the-row) (shows 𝓤 H A T.the-row) (vals) (LL.tells T.the-type T′.the-laws) q′ ys i emptyRecord b o (ltb→lt i (length ys) inside) (λ is.
         -- [record i; what it owns; the others; what shuts; the fractured borrow; what the slice owns; what i owns; true; _8; …; _0; …]
         assigns ! (of-opd ! (load ! (from ! (hop ! (look ! 12 refl) (stop !))) (look-raw ! 0 refl))) (from ! (stop !)) (init ! 10 refl (typed (getD ys i emptyRecord) is)) $
-        assigns ! (agg ! (and-then ! (true-lit !) (and-then ! (load ! (from ! (stop !)) (look ! 10 refl)) (no-more !)))) (from ! (stop !)) (init ! 24 refl (answer-typed true (getD ys i emptyRecord) is)) $
-        elem-back ! T.the-row q′ ys i emptyRecord (LL.vals T.the-type T′.the-laws (getD ys i emptyRecord)) b o (ltb→lt i (length ys) inside) $ shuts-slice ! tt T.the-row q′ ys b o $
+        assigns ! (agg ! (and-then ! (true-lit !) (and-then ! (value ! 10 refl) (no-more !)))) (from ! (stop !)) (init ! 24 refl (answer-typed true (getD ys i emptyRecord) is)) $
+        elem-back ! T.the-row q′ ys i emptyRecord (vals (getD ys i emptyRecord)) b o (ltb→lt i (length ys) inside) $ shuts-slice ! tt T.the-row q′ ys b o $
         returns-within ! Post refl (look ! 21 refl) $ forget ! 7 refl $ forget ! 9 refl $ forget ! 11 refl $ forget ! 13 refl $ forget ! 15 refl $ forget ! 17 refl $ forget ! 19 refl $ forget ! 21 refl $
         move ! (21 ∷ 22 ∷ 19 ∷ 20 ∷ 17 ∷ 18 ∷ 15 ∷ 16 ∷ 13 ∷ 14 ∷ 11 ∷ 12 ∷ 9 ∷ 10 ∷ 7 ∷ 8 ∷ 5 ∷ 6 ∷ []) $
-        free1 ! $ free1 ! $ free1 ! $ free1 ! $ free1 ! $ free1 ! $ free1 ! $ free1 ! $ free1 ! $ free0 ! $
+        frees-all ! $
         keep ! (0 ∷ 2 ∷ 3 ∷ []) $ by ! (exits _ (answered true (getD ys i emptyRecord) is) (found-inside ys i inside)))))
         (λ outside. skips ! $ exec ! C Λ _ none (atRet _ Post) $
         assigns ! (agg ! (and-then ! (lit ! tt) (and-then ! (lit ! tt) (and-then ! (lit ! tt) (and-then ! (lit ! tt) (and-then ! (lit ! tt) (and-then ! (lit ! tt) (no-more !)))))))) (from ! (stop !)) (init ! 4 refl (typed emptyRecord zeros)) $
-        assigns ! (agg ! (and-then ! (false-lit !) (and-then ! (load ! (from ! (stop !)) (look ! 4 refl)) (no-more !)))) (from ! (stop !)) (init ! 20 refl (answer-typed false emptyRecord zeros)) $
+        assigns ! (agg ! (and-then ! (false-lit !) (and-then ! (value ! 4 refl) (no-more !)))) (from ! (stop !)) (init ! 20 refl (answer-typed false emptyRecord zeros)) $
         returns ! (look ! 20 refl) $ forget ! 4 refl $ forget ! 12 refl $ forget ! 14 refl $ forget ! 16 refl $ forget ! 18 refl $ forget ! 20 refl $
         move ! (20 ∷ 21 ∷ 18 ∷ 19 ∷ 16 ∷ 17 ∷ 14 ∷ 15 ∷ 12 ∷ 13 ∷ 10 ∷ 11 ∷ 8 ∷ 9 ∷ 6 ∷ 7 ∷ 4 ∷ 5 ∷ []) $
         free1 ! $ free1 ! $ free1 ! $ free1 ! $ free1 ! $ free1 ! $ free1 ! $ free1 ! $ free1 ! $ free0 ! $
@@ -141,16 +142,16 @@ module _ {M : Type 1} (𝓤 : URA M) (H : Heap 𝓤) (A : Atoms 𝓤) (W : Given
             seq (assign (place 8 []) (aggregate (int w32 0 ∷ int w32 0 ∷ int w32 0 ∷ int w32 0 ∷ int w32 0 ∷ int w32 0 ∷ [])))
             (seq (assign (place 0 []) (aggregate (opdFalse ∷ copy (place 8 []) ∷ []))) return)
 
-        typed : (x : Record) → Is T.the-row x (LL.vals T.the-type T′.the-laws x) → T (hasTy T′.mir (LL.val T.the-type T′.the-laws x)) × WT (LL.val T.the-type T′.the-laws x)
-        typed x is = LL.lawful T.the-type T′.the-laws 𝓤 H A W .typed x (LL.vals T.the-type T′.the-laws x) is .0
+        typed : (x : Record) → Is T.the-row x (vals x) → T (hasTy T′.mir (val x)) × WT (val x)
+        typed x is = LL.lawful T.the-type T′.the-laws 𝓤 H A W .typed x (vals x) is .0
 
-        zeros : Is T.the-row emptyRecord (LL.vals T.the-type T′.the-laws emptyRecord)
+        zeros : Is T.the-row emptyRecord (vals emptyRecord)
         zeros = LL.owes T.the-type T′.the-laws emptyRecord ((refl, lit< tt), ((refl, lit< tt), ((refl, lit< tt), ((refl, lit< tt), ((refl, lit< tt), ((refl, lit< tt), tt))))))
 
-        answered : (inside : Bool) (x : Record) → Is T.the-row x (LL.vals T.the-type T′.the-laws x) → Is F.the-row (record { inside = inside; node = x }) (mach (record { inside = inside; node = x }) ∷ [])
+        answered : (inside : Bool) (x : Record) → Is T.the-row x (vals x) → Is F.the-row (record { inside = inside; node = x }) (mach (record { inside = inside; node = x }) ∷ [])
         answered inside x is = LL.owes F.the-type F′.the-laws (record { inside = inside; node = x }) (refl, (is, tt))
 
-        answer-typed : (inside : Bool) (x : Record) → Is T.the-row x (LL.vals T.the-type T′.the-laws x) → T (hasTy F′.mir (mach (record { inside = inside; node = x }))) × WT (mach (record { inside = inside; node = x }))
+        answer-typed : (inside : Bool) (x : Record) → Is T.the-row x (vals x) → T (hasTy F′.mir (mach (record { inside = inside; node = x }))) × WT (mach (record { inside = inside; node = x }))
         answer-typed inside x is = LL.lawful F.the-type F′.the-laws 𝓤 H A W .typed (record { inside = inside; node = x }) _ (answered inside x is) .0
 
 module _ {M : Type 1} (𝓤 : URA M) (H : Heap 𝓤) (A : Atoms 𝓤) (W : Given 𝓤 H A) (mem : Memory → SProp 𝓤) (run : Routine → Fun 𝓤) where

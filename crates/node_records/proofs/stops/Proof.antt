@@ -15,19 +15,18 @@ use prog.Wp.{Heap, Calls, Loops, WpFn, Tables}
 use ghost.Atoms.{Atoms, sem}
 use contract.Monad.{Fun, fact}
 use contract.Running.{givenOf, tables, tablesOf}
-use types.Kit.{Given, ‵, raw, _⊛_, ⋆, some, later, _$_, _∵_, !, qed, by, move, keep, drop, use0, use1, split, join, pick, fsplit, fjoin, suffices, frame, await, done}
-use types.Run.{look, init, forget, stop, fld, from, load, and-then, no-more, land, returns, enter, alloc1, alloc0, params1, pass1, pass0, free1, free0}
+use types.Kit.{Given, ‵, raw, _⊛_, ⋆, _$_, _∵_, !, qed, by, move, keep, drop, use0, use1, split, join, fsplit, fjoin, suffices, frame, done}
+use types.Run.{look, init, forget, stop, fld, from, load, and-then, no-more, land, returns, enter, alloc1, alloc0, params1, pass1, pass0}
 use types.Part.{whole, sub, look-in}
 use sound.WpLaws.{FmC, fmOf, WpFn-mono}
 use denote.Exit.{yes}
 use denote.RattleType.{owns}
-use denote.Laws.{Is, shows}
-use denote.Plain.{Boolean, uint-vals, uint-tells, uint-makes, bool-makes}
+use denote.Plain.{uint-vals, uint-tells}
 use denote.Builtin.{u32, usize}
 use denote.Ref.{RefT}
 use denote.Signature.{plain}
 use denote.Slice.{ShrSlice, Room, slice-vals, shr-slice-tells}
-use denote.Steps.{owned, peeks, heard, nothing}
+use denote.Steps.{nothing}
 use denote.Struct.Laws as LL
 use denote.Triple.Statement.{Contract, Triple}
 use denote.Triple.Call.{calls-at}
@@ -45,6 +44,7 @@ use Rattle.node_records.specs.declared.Found.{Found}
 use Rattle.node_records.specs.declared.Flown.{Flown}
 use Rattle.node_records.proofs.Flown as R
 use Rattle.node_records.proofs.Flown.Laws as R′
+use Rattle.node_records.proofs.Walk.{value, frees-all, hears, own-u32, own-usize, own-bool}
 use Rattle.node_records.proofs.Reading.{mach, Numbers, numbers, found-typed, ReadAt, slice, owned-slice, reads-record}
 use Rattle.node_records.proofs.read.Symbol as read-def
 use Rattle.node_records.proofs.read.Symbol.{name as #read}
@@ -82,16 +82,19 @@ module _ {M : Type 1} (𝓤 : URA M) (H : Heap 𝓤) (A : Atoms 𝓤) (mem : Mem
   abbrev answer : Found → Flown
   answer r = flownAt (r .inside) (ofNumbers (r .node .size) 0 (r .node .first) (r .node .second))
 
-  said : (r : Found) (u : Flown) → ent 𝓤 (ensured 𝓤 H A callee.ended (callee.clauses 𝓤 H A mem run) tt (to r .0 .3) tt u) (fact 𝓤 (u ≡ answer r))
+  abbrev Ensured : Found → Flown → SProp 𝓤
+  Ensured r u = ensured 𝓤 H A callee.ended (callee.clauses 𝓤 H A mem run) tt (to r .0 .3) tt u
+
+  said : (r : Found) (u : Flown) → ent 𝓤 (Ensured r u) (fact 𝓤 (u ≡ answer r))
   said r u = exE 𝓤 _ (λ ws. snd∗ 𝓤 (sem 𝓤 H A (lasts callee.ended tt (to r .0 .3) ws)) (fact 𝓤 (u ≡ answer r)))
 
   module _ (W : Given 𝓤 H A) where
     asked : (r : Found) → Numbers (r .node) → ent 𝓤 (emp 𝓤) (Callee .pre (to r))
     asked r n =
-        qed W [] ∵ nothing ! $ owned ! u32 (Is u32) (uint-makes 𝓤 H A W w32) (r .node .second) _ (refl, n .second) $ fjoin ! $
-        owned ! u32 (Is u32) (uint-makes 𝓤 H A W w32) (r .node .first) _ (refl, n .first) $ fjoin ! $
-        owned ! u32 (Is u32) (uint-makes 𝓤 H A W w32) (r .node .size) _ (refl, n .size) $ fjoin ! $
-        owned ! Boolean (Is Boolean) (bool-makes 𝓤 H A W) (r .inside) _ refl $ fjoin ! $ nothing ! $ join ! $ frame ! $ done !
+        qed W [] ∵ nothing ! $ own-u32 ! (r .node .second) (n .second) $ fjoin ! $
+        own-u32 ! (r .node .first) (n .first) $ fjoin ! $
+        own-u32 ! (r .node .size) (n .size) $ fjoin ! $
+        own-bool ! (r .inside) $ fjoin ! $ nothing ! $ join ! $ frame ! $ done !
 
 -- the answer is that of record i
 answers : (ys : List Record) (i : ℕ) (r : Found) (u : Flown) → r ≡ found ys i → u ≡ flownAt (r .inside) (ofNumbers (r .node .size) 0 (r .node .first) (r .node .second)) → u ≡ flownAt (isInside ys i) (recordAt ys i)
@@ -116,7 +119,7 @@ module _ {M : Type 1} (𝓤 : URA M) (H : Heap 𝓤) (A : Atoms 𝓤) (W : Given
       qed W (‵ (R.the-row .own r (u ∷ [])) ∷ ‵ (flft κ q) ∷ ‵ Own ∷ []) ∵
       suffices ! _ (ends-at 𝓤 H A stops.ended stayed (stops.clauses 𝓤 H A mem run) W (((κ, tt), (q, tt), tt, (s, (i, tt)), at), tt) u r (tt, (tt, tt)) (tt, (tt, tt))) $ says ! e $
       move ! (1 ∷ []) $ nothing ! $ move ! (1 ∷ 0 ∷ []) $ join ! $ frame ! $
-      nothing ! $ owned ! usize (Is usize) (uint-makes 𝓤 H A W w64) i _ (refl, gi) $ fjoin ! $ move ! (2 ∷ 0 ∷ []) $ fjoin ! $ frame ! $ done !
+      nothing ! $ own-usize ! i gi $ fjoin ! $ move ! (2 ∷ 0 ∷ []) $ fjoin ! $ frame ! $ done !
 
   module _ (C : Calls 𝓤 H) (Λ : Loops 𝓤 H) (fm : FmC 𝓤 H (W .laws) C) (known-read : Triple 𝓤 (C #read) (ReadAt 𝓤 H A mem run)) (known : Triple 𝓤 (C #callee) (Callee 𝓤 H A mem run)) where
     walk : Room T.the-row (length (s .now)) → i < 2 ^ 64 → ent 𝓤 (onEntry 𝓤 H A stops.signature (κ, tt) (q, tt) (s, (i, tt)) at) (WpFn 𝓤 H C Λ code.function (v ∷ vint w64 i ∷ []) Post)
@@ -126,7 +129,7 @@ module _ {M : Type 1} (𝓤 : URA M) (H : Heap 𝓤) (A : Atoms 𝓤) (W : Given
         pass1 ! (init ! 4 refl (tt, (tt, (record { fits = room .0 }, tt)))) $ pass1 ! (init ! 2 refl (tt, record { fits = gi })) $ pass0 ! $
         move ! (9 ∷ []) $ fsplit ! $ move ! (1 ∷ []) $ drop ! $ move ! (9 ∷ []) $ split ! $ move ! (1 ∷ []) $ drop ! $
         -- [the token; what the slice owns; _3; …; _2; …; _1; …; _0; …]
-        reads-record 𝓤 H A mem run κ q s i W ! fm known-read gi (and-then ! (load ! (from ! (stop !)) (look ! 6 refl)) (and-then ! (load ! (from ! (stop !)) (look ! 4 refl)) (no-more !))) (λ r e is.
+        reads-record 𝓤 H A mem run κ q s i W ! fm known-read gi (and-then ! (value ! 6 refl) (and-then ! (value ! 4 refl) (no-more !))) (λ r e is.
         land ! (from ! (stop !)) (init ! 2 refl (found-typed 𝓤 H A W r is)) $
         use0 W (raw (Callee 𝓤 H A mem run .pre (to 𝓤 H A mem run r))) (asked 𝓤 H A mem run W r (numbers r is)) $
         calls-at ! fm (Callee 𝓤 H A mem run) known (to 𝓤 H A mem run r)
@@ -134,13 +137,11 @@ module _ {M : Type 1} (𝓤 : URA M) (H : Heap 𝓤) (A : Atoms 𝓤) (W : Given
         (and-then ! (load ! (from ! (fld ! refl (fld ! refl (stop !)))) (look-in ! 3 (sub ! 0 refl (sub ! 1 refl (whole !)))))
         (and-then ! (load ! (from ! (fld ! refl (fld ! refl (stop !)))) (look-in ! 3 (sub ! 4 refl (sub ! 1 refl (whole !)))))
         (and-then ! (load ! (from ! (fld ! refl (fld ! refl (stop !)))) (look-in ! 3 (sub ! 5 refl (sub ! 1 refl (whole !))))) (no-more !)))))
-        (λ u. use1 W (later (some (λ (w : Flown). (‵ ftrue ⊛ ‵ (R.the-row .own w (u ∷ []))) ⊛ raw (ensured 𝓤 H A callee.ended (callee.clauses 𝓤 H A mem run) tt (to 𝓤 H A mem run r .0 .3) tt w)))) (id⊢ 𝓤 _) $ await ! tt $ pick ! (λ w.
-        split ! $ move ! (1 ∷ []) $ use1 W (raw (fact 𝓤 (w ≡ answer 𝓤 H A mem run r))) (said 𝓤 H A mem run r w) $ heard ! (w ≡ answer 𝓤 H A mem run r) (λ f. split ! $ drop ! $
+        (λ u. hears ! tt R.the-row (‵ ftrue) (Ensured 𝓤 H A mem run r) (λ w. w ≡ answer 𝓤 H A mem run r) (said 𝓤 H A mem run r) u (id⊢ 𝓤 _) (λ w f is′. move ! (1 ∷ []) $ drop ! $
         -- [the answer; the token; what the slice owns; _3; …; _0; …]
-        peeks ! R.the-row (Is R.the-row) (shows 𝓤 H A R.the-row) w (u ∷ []) (λ is′.
         land ! (from ! (stop !)) (init ! 9 refl (LL.lawful R.the-type R′.the-laws 𝓤 H A W .typed w _ is′ .0)) $
         returns ! (look ! 9 refl) $ forget ! 3 refl $ forget ! 5 refl $ forget ! 7 refl $ forget ! 9 refl $
-        move ! (9 ∷ 10 ∷ 7 ∷ 8 ∷ 5 ∷ 6 ∷ 3 ∷ 4 ∷ []) $ free1 ! $ free1 ! $ free1 ! $ free1 ! $ free0 ! $ by ! (exits w u gi (answers (s .now) i r w e f)))))))))))
+        move ! (9 ∷ 10 ∷ 7 ∷ 8 ∷ 5 ∷ 6 ∷ 3 ∷ 4 ∷ []) $ frees-all ! $ by ! (exits w u gi (answers (s .now) i r w e f)))))))))
 
 module _ {M : Type 1} (𝓤 : URA M) (H : Heap 𝓤) (A : Atoms 𝓤) (W : Given 𝓤 H A) (mem : Memory → SProp 𝓤) (run : Routine → Fun 𝓤) where
   stops-walks :

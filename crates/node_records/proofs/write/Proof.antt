@@ -28,7 +28,7 @@ use denote.Exit.{yes}
 use denote.RattleType.{owns}
 use denote.Shadow.{pureI}
 use denote.Laws.{Is, shows}
-use denote.Plain.{Boolean, uint-vals, uint-tells, uint-makes, bool-makes}
+use denote.Plain.{uint-vals, uint-tells}
 use denote.Builtin.{usize}
 use denote.Ref.{RefT, now}
 use denote.Slice.{sliceTy, sliceVal, MutSlice, heres, Room, slice-vals, mut-slice-tells, at-slice, codedHoleys}
@@ -45,6 +45,7 @@ use Rattle.stops.specs.declared.node.Node.{Node as Record}
 use Rattle.stops.proofs.node.Node as T
 use Rattle.stops.proofs.node.Node.Laws as T′
 use Rattle.node_records.specs.Answers.{isInside}
+use Rattle.node_records.proofs.Walk.{value, frees-all, own-bool, val, vals, typed}
 use Rattle.node_records.proofs.Indices.{set-outside, offset-fits, is-inside, is-outside}
 use Rattle.node_records.proofs.write.Key.{name as #write}
 use Rattle.node_records.proofs.write as write
@@ -62,7 +63,7 @@ module _ {M : Type 1} (𝓤 : URA M) (H : Heap 𝓤) (A : Atoms 𝓤) (W : Given
   a = (record { ptr = (b, o); name = γ; now = ys }, (i, (x, tt)))
 
   abbrev mach : Val
-  mach = LL.val T.the-type T′.the-laws x
+  mach = val x
 
   abbrev at : List Val × (List Val × (List Val × Unit {0}))
   at = (sliceVal (b, o) (length ys) ∷ [], (vint w64 i ∷ [], (mach ∷ [], tt)))
@@ -88,7 +89,7 @@ module _ {M : Type 1} (𝓤 : URA M) (H : Heap 𝓤) (A : Atoms 𝓤) (W : Given
       nothing ! $ move ! (3 ∷ 0 ∷ []) $ join ! $
       frame ! $ fjoin ! $ pureI ! (at-slice T.the-row (record { ptr = (b, o); name = γ; now = zs }) (at .0)) (tt, (tt, tt))
       (ap (λ (m : ℕ). sliceVal (b, o) m ∷ []) (sym e), subst (Room T.the-row) (sym e) room) $ fjoin ! $ fjoin ! $ frame ! $
-      owned ! Boolean (Is Boolean) (bool-makes 𝓤 H A W) r (vbool r ∷ []) refl $ done !
+      own-bool ! r $ done !
 
   module _ (C : Calls 𝓤 H) (Λ : Loops 𝓤 H) where
     walk :
@@ -103,27 +104,26 @@ module _ {M : Type 1} (𝓤 : URA M) (H : Heap 𝓤) (A : Atoms 𝓤) (W : Given
         move ! (17 ∷ []) $ fsplit ! $ fsplit ! $ move ! (1 ∷ []) $ fsplit ! $ move ! (20 ∷ []) $ split ! $ move ! (2 ∷ 3 ∷ 0 ∷ 5 ∷ []) $
         -- [obs; the borrow; the token; what i and x own; _7; …; _0; …]
         assigns ! (of-opd ! (load ! (from ! (fld ! refl (stop !))) (look-in ! 18 (sub ! 1 refl (whole !))))) (from ! (stop !)) (init ! 12 refl (tt, record { fits = room .0 })) $
-        assigns ! (bin ! (load ! (from ! (stop !)) (look ! 16 refl)) (load ! (from ! (stop !)) (look ! 12 refl)) tt) (from ! (stop !)) (init ! 10 refl (tt, tt)) $
-        first ! $ branches ! (load ! (from ! (stop !)) (look ! 10 refl))
+        assigns ! (bin ! (value ! 16 refl) (value ! 12 refl) tt) (from ! (stop !)) (init ! 10 refl (tt, tt)) $
+        first ! $ branches ! (value ! 10 refl)
         (λ inside.
-        assigns ! (bin ! (load ! (from ! (stop !)) (look ! 16 refl)) (lit ! tt) (record { fits = fits inside })) (from ! (stop !)) (init ! 8 refl (tt, record { fits = fits inside })) $
-        assigns ! (bin ! (load ! (from ! (fld ! refl (stop !))) (look-in ! 18 (sub ! 0 refl (whole !)))) (load ! (from ! (stop !)) (look ! 8 refl)) tt) (from ! (stop !)) (init ! 6 refl (tt, tt)) $
+        assigns ! (bin ! (value ! 16 refl) (lit ! tt) (record { fits = fits inside })) (from ! (stop !)) (init ! 8 refl (tt, record { fits = fits inside })) $
+        assigns ! (bin ! (load ! (from ! (fld ! refl (stop !))) (look-in ! 18 (sub ! 0 refl (whole !)))) (value ! 8 refl) tt) (from ! (stop !)) (init ! 6 refl (tt, tt)) $
         rewrite ! 6 (λ (p : ℕ). ‵ (fat fullShare tyPtr l₇ 0 (vptr b p))) (sym (place-is 24 o i)) refl $
-        opens-slice ! tt T.the-row ys b o $ elem-out ! T.the-row (Is T.the-row) (shows 𝓤 H A T.the-row) (LL.vals T.the-type T′.the-laws) (LL.tells T.the-type T′.the-laws) fullShare ys i x b o (ltb→lt i (length ys) inside) (λ _.
+        opens-slice ! tt T.the-row ys b o $ elem-out ! T.the-row (Is T.the-row) (shows 𝓤 H A T.the-row) (vals) (LL.tells T.the-type T′.the-laws) fullShare ys i x b o (ltb→lt i (length ys) inside) (λ _.
         -- [record i; what it owns; the others; the open borrow; obs; auth; what i and x own; true; the slice's fact; _7; …; _0; …]
-        assigns ! (of-opd ! (load ! (from ! (stop !)) (look ! 17 refl))) (from ! (hop ! (look ! 9 refl) (stop !))) (store-raw ! 0 refl wt) $
+        assigns ! (of-opd ! (value ! 17 refl)) (from ! (hop ! (look ! 9 refl) (stop !))) (store-raw ! 0 refl wt) $
         move ! (1 ∷ []) $ drop ! $ owned ! T.the-row (Is T.the-row) (LL.makes T.the-type T′.the-plain 𝓤 H A) x (mach ∷ []) is $ move ! (1 ∷ 0 ∷ []) $
         elem-put ! T.the-row fullShare ys i x (mach ∷ []) b o (ltb→lt i (length ys) inside) $ closes-slice ! tt T.the-row ys (set ys i x) (length-set ys i x) b o $
         assigns ! (of-opd ! (true-lit !)) (from ! (stop !)) (init ! 20 refl (tt, tt)) $
         returns-within ! Post refl (look ! 20 refl) $ forget ! 6 refl $ forget ! 8 refl $ forget ! 10 refl $ forget ! 12 refl $ forget ! 14 refl $ forget ! 16 refl $ forget ! 18 refl $ forget ! 20 refl $
-        move ! (20 ∷ 21 ∷ []) $ free1 ! $ move ! (18 ∷ 19 ∷ []) $ free1 ! $ move ! (16 ∷ 17 ∷ []) $ free1 ! $ move ! (14 ∷ 15 ∷ []) $ free1 ! $
-        move ! (12 ∷ 13 ∷ []) $ free1 ! $ move ! (10 ∷ 11 ∷ []) $ free1 ! $ move ! (8 ∷ 9 ∷ []) $ free1 ! $ move ! (6 ∷ 7 ∷ []) $ free1 ! $ free0 ! $
+        move ! (20 ∷ 21 ∷ 18 ∷ 19 ∷ 16 ∷ 17 ∷ 14 ∷ 15 ∷ 12 ∷ 13 ∷ 10 ∷ 11 ∷ 8 ∷ 9 ∷ 6 ∷ 7 ∷ []) $ frees-all ! $
         keep ! (0 ∷ 1 ∷ 2 ∷ 3 ∷ []) $ by ! (exits true (set ys i x) (length-set ys i x) room (sym (is-inside ys i inside), refl))))
         (λ outside. skips ! $ exec ! C Λ _ (seq (assign (place 0 []) (rvOpd opdFalse)) return) (atRet _ Post) $
         assigns ! (of-opd ! (false-lit !)) (from ! (stop !)) (init ! 20 refl (tt, tt)) $
         returns ! (look ! 20 refl) $ forget ! 10 refl $ forget ! 12 refl $ forget ! 14 refl $ forget ! 16 refl $ forget ! 18 refl $ forget ! 20 refl $
-        move ! (20 ∷ 21 ∷ []) $ free1 ! $ move ! (18 ∷ 19 ∷ []) $ free1 ! $ move ! (16 ∷ 17 ∷ []) $ free1 ! $ move ! (14 ∷ 15 ∷ []) $ free1 ! $
-        move ! (12 ∷ 13 ∷ []) $ free1 ! $ move ! (10 ∷ 11 ∷ []) $ free1 ! $ move ! (8 ∷ 9 ∷ []) $ free1 ! $ move ! (6 ∷ 7 ∷ []) $ free1 ! $ free0 ! $
+        move ! (20 ∷ 21 ∷ 18 ∷ 19 ∷ 16 ∷ 17 ∷ 14 ∷ 15 ∷ 12 ∷ 13 ∷ 10 ∷ 11 ∷ 8 ∷ 9 ∷ 6 ∷ 7 ∷ []) $
+        free1 ! $ free1 ! $ free1 ! $ free1 ! $ free1 ! $ free1 ! $ free1 ! $ free1 ! $ free0 ! $
         keep ! (0 ∷ 1 ∷ 2 ∷ 3 ∷ []) $ by ! (exits false ys refl room (sym (is-outside ys i outside), set-outside ys i x (nltb→le i (length ys) outside))))))))))))
       where
         wt : T (hasTy T′.mir mach) × WT mach
@@ -136,7 +136,7 @@ module _ {M : Type 1} (𝓤 : URA M) (H : Heap 𝓤) (A : Atoms 𝓤) (W : Given
   write-walks : (C : Calls 𝓤 H) (Λ : Loops 𝓤 H) → Walks 𝓤 H A write.ended stayed (WpFn 𝓤 H C Λ code.function) (write.clauses 𝓤 H A mem run)
   write-walks C Λ =
       walked 𝓤 H A write.ended stayed (write.clauses 𝓤 H A mem run) (WpFn 𝓤 H C Λ code.function)
-      (λ κs. (slice-vals, (uint-vals w64, (LL.vals T.the-type T′.the-laws, tt))))
+      (λ κs. (slice-vals, (uint-vals w64, (vals, tt))))
       (λ κs. (mut-slice-tells (named 0) (κs .0) T.the-row, (uint-tells w64, (LL.tells T.the-type T′.the-laws, tt))))
       (λ κs qs bounds a g are. via 𝓤 _ (fst∗ 𝓤 _ (emp 𝓤))
       (walk 𝓤 H A W mem run (κs .0) (qs .0) (a .0 .ptr .0) (a .0 .ptr .1) (a .0 .name) (a .0 .now) (a .1 .0) (a .1 .1 .0) C Λ (are .0 .0 .1) (are .1 .0 .1) (are .1 .1 .0)))

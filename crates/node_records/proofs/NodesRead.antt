@@ -1,0 +1,54 @@
+-- The records that the pool holds, read back: the record of a node passes `isNode`, and its stops are the node. With `NodeLaws`, whose
+-- `NodeRecord` is what every record that passes is, the records that pass are just those of nodes, whatever path cost and bound they hold.
+-- Assumes nothing.
+use mathlib.Core.Path.{_≡_, refl, ap, sym, _∙_, subst}
+use mathlib.Core.Logic.{_⊎_, inl, inr}
+use Prim.Native.Nat.{ℕ, _+_, _-_, _^_, _/_, _%_, _≤_, _<_, min}
+use native.Mathlib.Omega.{arith}
+use borrow.Author.Tests.{lt-ltb, le-ltb}
+use lib.Dec.{T}
+use lib.ListN.{length, getD}
+use lib.Seq.{ext-getD}
+use Rattle.lists.proofs.Tests.{ordered}
+use Rattle.orders.specs.Orders.{Node, size, Partial}
+use Rattle.orders.proofs.Sets.{size-left}
+use Rattle.orders.proofs.Partial.{partial-size}
+use Rattle.stops.specs.Legs.{Legs}
+use Rattle.stops.specs.declared.node.Node.{Node as Record}
+use Rattle.pool.specs.View.{encode}
+use Rattle.pool.proofs.OrderWords.{first-digit, second-digit}
+use Rattle.pool.proofs.Encode.{partial-digits}
+use Rattle.node_records.specs.Nodes.{stopAt, flownStops, isNode}
+use Rattle.node_records.proofs.OrderLaws.{stops-length, stop-here}
+use Rattle.node_records.proofs.NodeLaws.{NodeRecord, record-node}
+
+module _ (n : ℕ) (few : n ≤ 16) (L : Legs) (k : ℕ) (x : Node) (p : Partial n x) where
+  abbrev w : Record
+  w = encode n L k x
+
+  size-encode : w .size ≡ length x
+  unfolding encode
+  size-encode = partial-size n x p
+
+  short : length x ≤ 16
+  short = omega (arith, partial-size n x p, size-left n x)
+
+  stop-encode : (i : ℕ) → i < length x → stopAt w i ≡ getD x i 0
+  unfolding encode stopAt
+  stop-encode i h = go (ordered 8 i)
+    where
+      go : (8 ≤ i) ⊎ (i < 8) → stopAt w i ≡ getD x i 0
+      go (inl j) = rw (le-ltb i 8 j) (second-digit x (partial-digits n few x p) i h j)
+      go (inr j) = rw (lt-ltb i 8 j) (first-digit x (partial-digits n few x p) i h j)
+
+  long : length (flownStops w) ≡ length x
+  long = omega (arith, stops-length w, size-encode, short)
+
+  pub stops-encode : flownStops w ≡ x
+  stops-encode = ext-getD 0 (flownStops w) x long (λ i h. stop-here w i h ∙ stop-encode i (omega (arith, long)))
+
+  pub node-encode : 1 ≤ n → T (isNode n w)
+  unfolding encode
+  node-encode some =
+      record-node n w
+      (subst (NodeRecord n w) (sym stops-encode) (record { some = some; few = few; node = p; size-is = refl; set-is = refl; first-is = refl; second-is = refl }))
