@@ -10,7 +10,7 @@ use native.Mathlib.Omega.{arith}
 use lib.Dec.{T}
 use lib.ListN.{length}
 use lib.Pow.{pow-pos, pow-mono}
-use Rattle.lists.proofs.Tests.{to-true, to-false}
+use Rattle.lists.proofs.Tests.{to-true}
 use Rattle.orders.specs.Orders.{set, left, size}
 use Rattle.orders.proofs.Sets.{size-left}
 use Rattle.stops.specs.Legs.{Legs, rows, legs, path, last}
@@ -19,10 +19,10 @@ use Rattle.stops.specs.Record.{stopsIn, ahead, Within}
 use Rattle.stops.specs.declared.node.Node.{Node as Record}
 use Rattle.stops.proofs.LegTable.{legs-within}
 use Rattle.stops.proofs.Bounds.{bound-ahead}
-use Rattle.pool.specs.Records.{mask, recordsIn}
+use Rattle.pool.specs.Records.{recordsIn}
 use Rattle.pool.proofs.Mask.{mask-stops, stops-left}
-use Rattle.answer.specs.Call.{Call, callOf}
-use Rattle.answer.specs.Checks.{cause₆, orLater, jobCause, cause}
+use Rattle.answer.specs.Call.{callOf}
+use Rattle.answer.specs.Checks.{cause₆, jobCause}
 use Rattle.answer.proofs.Passes.{Passes, passes}
 use Rattle.checks.proofs.JobCause.{job-passes}
 use Rattle.node_records.specs.Numbers.{ofNumbers}
@@ -30,7 +30,6 @@ use Rattle.node_records.specs.Nodes.{stopAt, flownStops, isRecordOf, isN
 use Rattle.node_records.specs.Answers.{isInside, recordAt, found, noFigures, figuresBy, figures}
 use Rattle.node_records.specs.Examples
 use Rattle.node_records.specs.declared.Found.{Found}
-use Rattle.node_records.specs.declared.Figures.{Figures}
 use Rattle.node_records.proofs.NodeLaws.{NodeRecord, node-record}
 
 -- A job that no cause stops, with a pool of one record, is a call that every check lets pass.
@@ -130,7 +129,8 @@ figures-numbers true x n table bound = go (isNode n x) (jobCause (callOf n table
   where
     go :
         (b : Bool) (k : ℕ)
-        → figuresBy b k (ofNumbers (x .size) (x .set) (x .first) (x .second)) n (legs (rows n table)) bound ≡ figuresBy b k x n (legs (rows n table)) bound
+        → figuresBy b k (ofNumbers (x .size) (x .set) (x .first) (x .second)) n (legs (rows n table)) bound ≡ figuresBy b k x n
+        (legs (rows n table)) bound
     go true zero = refl
     go true (suc k) = refl
     go false k = refl

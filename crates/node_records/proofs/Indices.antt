@@ -1,23 +1,16 @@
 -- An index into a run of records: inside, or past the end. Assumes nothing.
-use mathlib.Core.Path.{_≡_, refl, ap, sym}
+use mathlib.Core.Path.{_≡_, refl}
 use mathlib.Core.Bool.{true, false, not}
 use mathlib.Core.List.{List, [], _∷_}
 use Prim.Native.Nat.{ℕ, zero, suc, _*_, _≤_, _<_, _^_}
 use native.Mathlib.Omega.{arith}
 use lib.Dec.{T, ltb, nltb→le}
-use lib.ListN.{length, getD, set}
+use lib.ListN.{length, getD}
 use Rattle.lists.proofs.Tests.{to-true, to-false}
 use Rattle.stops.specs.Record.{emptyRecord}
 use Rattle.stops.specs.declared.node.Node.{Node as Record}
-use Rattle.node_records.specs.declared.Found.{Found}
 use Rattle.node_records.specs.Answers.{isInside, recordAt, found}
 use Rattle.node_records.specs.Examples
-
--- past the end nothing is set
-pub set-outside : {X : Type 0} (ys : List X) (i : ℕ) (x : X) → length ys ≤ i → ys ≡ set ys i x
-set-outside [] i x l = refl
-set-outside (y ∷ ys) zero x l = absurd (omega arith)
-set-outside (y ∷ ys) (suc i) x l = ap (λ (zs : List _). y ∷ zs) (set-outside ys i x (omega arith))
 
 -- the byte offset of record i fits, and so does that of every record
 pub offset-fits : (i n : ℕ) → i < n → n * 24 < 2 ^ 63 → i * 24 < 2 ^ 64

@@ -1,14 +1,13 @@
 -- The records that pass `isNode` are just those of nodes. Assumes nothing.
-use mathlib.Core.Path.{_≡_, refl, ap, sym, _∙_, subst}
-use mathlib.Core.Bool.{Bool, true, false, not, _&&_}
-use mathlib.Core.List.{List, [], _∷_, List·Memᴰ·tail}
-use Prim.Native.Nat.{ℕ, zero, suc, _+_, _≤_, _<_, min}
-use native.Mathlib.Omega.{arith}
+use mathlib.Core.Path.{_≡_, sym}
+use mathlib.Core.Bool.{Bool, false, not, _&&_}
+use mathlib.Core.List.{[], _∷_}
+use Prim.Native.Nat.{ℕ, _≤_}
 use lib.Dec.{T, leb, eqb, leb→le, le→leb, eqb→eq, eqb-refl, T-not, not-T}
-use lib.ListN.{length, getD, take, drop}
-use Rattle.lists.specs.Lists.{In, all, Distinct, none, more}
+use lib.ListN.{take, drop}
+use Rattle.lists.specs.Lists.{all, Distinct, none, more}
 use Rattle.lists.proofs.Tests.{and-left, and-right, and-both, to-false}
-use Rattle.lists.proofs.Members.{in-head, all-in, in-all}
+use Rattle.lists.proofs.Members.{all-in, in-all}
 use Rattle.orders.specs.Orders.{Node, stops, flown, set, size, Partial}
 use Rattle.orders.proofs.Sets.{in-stops, stops-in, in-flown, flown-in}
 use Rattle.stops.specs.declared.node.Node.{Node as Record}
@@ -20,11 +19,13 @@ use Rattle.node_records.specs.Examples
 distinct-list : (x : Node) → T (distinct x) → Distinct x
 distinct-list [] h = none
 distinct-list (s ∷ x) h =
-    more (λ m. T-not (flown x s) (and-left (not (flown x s)) (distinct x) h) (in-flown x s m)) (distinct-list x (and-right (not (flown x s)) (distinct x) h))
+    more (λ m. T-not (flown x s) (and-left (not (flown x s)) (distinct x) h) (in-flown x s m))
+    (distinct-list x (and-right (not (flown x s)) (distinct x) h))
 
 list-distinct : {x : Node} → Distinct x → T (distinct x)
 list-distinct none = tt
-list-distinct (more {x = s} {xs = x} new d) = and-both (not (flown x s)) (distinct x) (not-T (flown x s) (λ f. new (flown-in x s f))) (list-distinct d)
+list-distinct (more {x = s} {xs = x} new d) =
+    and-both (not (flown x s)) (distinct x) (not-T (flown x s) (λ f. new (flown-in x s f))) (list-distinct d)
 
 -- what `isNode` says: the stops y of the order are a node for n stops, and the numbers are those of its record
 pub record NodeRecord (n : ℕ) (x : Record) (y : Node) : Type 0 where
@@ -42,8 +43,15 @@ module _ (a b c d e f : Bool) where
       let five : T (a && b && c && d && e) = and-left (a && b && c && d && e) f h in
       let four : T (a && b && c && d) = and-left (a && b && c && d) e five in
       let three : T (a && b && c) = and-left (a && b && c) d four in
-      let two : T (a && b) = and-left (a && b) c three in
-      (and-left a b two, and-right a b two, and-right (a && b) c three, and-right (a && b && c) d four, and-right (a && b && c && d) e five, and-right (a && b && c && d && e) f h)
+      let two : T (a && b) = and-left (a && b) c three in (
+        and-left a b two,
+        and-right a b two,
+        and-right (a && b) c three,
+        and-right (a && b && c) d four,
+        and-right
+            (a && b && c && d) e five,
+        and-right (a && b && c && d && e) f h,
+      )
 
   parts-six : T a → T b → T c → T d → T e → T f → T (a && b && c && d && e && f)
   parts-six ha hb hc hd he hf =
@@ -60,7 +68,8 @@ module _ (n : ℕ) (x : Record) (y : Node) where
       let r : T (leb 1 n && leb n 16) = and-left (leb 1 n && leb n 16) (isRecordOf n x y) h in
       let (d, o, s, m, e, f) =
       six-parts (distinct y) (all (flown (stops n)) y) (eqb (x .size) (size n y)) (eqb (x .set) (mask (set n y)))
-      (eqb (x .first) (orderWord (take 8 y))) (eqb (x .second) (orderWord (drop 8 y))) (and-right (leb 1 n && leb n 16) (isRecordOf n x y) h) in
+      (eqb (x .first) (orderWord (take 8 y))) (eqb (x .second) (orderWord (drop 8 y)))
+      (and-right (leb 1 n && leb n 16) (isRecordOf n x y) h) in
       record {
         some = leb→le 1 n (and-left (leb 1 n) (leb n 16) r);
         few = leb→le n 16 (and-right (leb 1 n) (leb n 16) r);

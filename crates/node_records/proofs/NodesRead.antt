@@ -1,9 +1,9 @@
 -- The records that the pool holds, read back: the record of a node passes `isNode`, and its stops are the node. With `NodeLaws`, whose
 -- `NodeRecord` is what every record that passes is, the records that pass are just those of nodes, whatever path cost and bound they hold.
 -- Assumes nothing.
-use mathlib.Core.Path.{_≡_, refl, ap, sym, _∙_, subst}
+use mathlib.Core.Path.{_≡_, refl, sym, _∙_, subst}
 use mathlib.Core.Logic.{_⊎_, inl, inr}
-use Prim.Native.Nat.{ℕ, _+_, _-_, _^_, _/_, _%_, _≤_, _<_, min}
+use Prim.Native.Nat.{ℕ, _-_, _≤_, _<_}
 use native.Mathlib.Omega.{arith}
 use borrow.Author.Tests.{lt-ltb, le-ltb}
 use lib.Dec.{T}
@@ -51,4 +51,5 @@ module _ (n : ℕ) (few : n ≤ 16) (L : Legs) (k : ℕ) (x : Node) (p : Partial
   unfolding encode
   node-encode some =
       record-node n w
-      (subst (NodeRecord n w) (sym stops-encode) (record { some = some; few = few; node = p; size-is = refl; set-is = refl; first-is = refl; second-is = refl }))
+      (subst (NodeRecord n w) (sym stops-encode)
+      (record { some = some; few = few; node = p; size-is = refl; set-is = refl; first-is = refl; second-is = refl }))

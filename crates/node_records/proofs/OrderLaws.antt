@@ -5,14 +5,13 @@
 -- Assumes nothing.
 use mathlib.Core.Path.{_≡_, refl, ap, sym, _∙_, subst}
 use mathlib.Core.Bool.{Bool, true, false, cond}
-use mathlib.Core.List.{List, [], _∷_, _++_, map}
-use Prim.Native.Nat.{ℕ, zero, suc, _+_, _-_, _^_, _/_, _%_, _≤_, _<_, min}
-use native.Mathlib.Nat.{mod-lt}
+use mathlib.Core.List.{List, [], _∷_}
+use Prim.Native.Nat.{ℕ, suc, _+_, _-_, _^_, _/_, _%_, _≤_, _<_, min}
 use native.Mathlib.Omega.{arith}
 use lib.Dec.{ltb}
 use lib.ListN.{length, getD, take, set, replicate, length-map, length-append}
 use lib.Seq.{take-suc, take-all, length-take-le, set-at, append-snoc}
-use Rattle.lists.specs.Lists.{In, from}
+use Rattle.lists.specs.Lists.{from}
 use Rattle.lists.proofs.Members.{in-map, length-from}
 use Rattle.orders.specs.Orders.{Node, extend}
 use Rattle.stops.specs.declared.node.Node.{Node as Record}
@@ -96,7 +95,8 @@ module _ {x : Record} {count : ℕ} where
         all = p .all;
         held =
             rw (p .held, e, stops-next x k inside)
-            (subst (λ (j : ℕ). set (padded orderPlaces (take k (flownStops x))) j (stopAt x k) ≡ padded orderPlaces (extend (take k (flownStops x)) (stopAt x k)))
+            (subst (λ (j : ℕ). set (padded orderPlaces (take k (flownStops x))) j (stopAt x k) ≡ padded orderPlaces
+            (extend (take k (flownStops x)) (stopAt x k)))
             long (places-more (take k (flownStops x)) (stopAt x k) (omega (arith, stops-length x))));
       }
 

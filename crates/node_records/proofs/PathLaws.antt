@@ -1,7 +1,6 @@
 -- The path cost of a record's stops, as the loop over them adds it up. Assumes nothing.
-use mathlib.Core.Path.{_≡_, refl, ap, sym, _∙_}
-use mathlib.Core.List.{[]}
-use Prim.Native.Nat.{ℕ, _+_, _*_, _^_, _≤_, _<_, min}
+use mathlib.Core.Path.{_≡_, refl, ap, _∙_}
+use Prim.Native.Nat.{ℕ, _+_, _*_, _^_, _≤_, _<_}
 use native.Mathlib.Omega.{arith}
 use lib.ListN.{length, take}
 use lib.Seq.{take-all, length-take-le}
@@ -26,7 +25,15 @@ module _ {L : Legs} {x : Record} {count : ℕ} where
   pub along-starts : count ≡ x .size → count ≤ 16 → Along L x count 0 0 0
   unfolding path last
   along-starts e h =
-      record { up-to = omega arith; few = h; all = omega (arith, stops-length x); spent-is = refl; place-is = refl; place-few = omega arith }
+      record {
+        up-to =
+            omega arith;
+        few = h;
+        all = omega (arith, stops-length x);
+        spent-is = refl;
+        place-is = refl;
+        place-few = omega arith;
+      }
 
   module _ {spent place k : ℕ} (a : Along L x count spent place k) where
     pub along-small : Within 1000000 L → spent ≤ k * 1000000

@@ -5,20 +5,20 @@ use mathlib.Core.Path.{_≡_, refl, ap, sym, _∙_, subst}
 use mathlib.Core.Bool.{Bool, true, false, not}
 use mathlib.Core.List.{List, [], _∷_, _++_, Memᴰ·append-right}
 use mathlib.Core.Logic.{_≢_}
-use Prim.Native.Nat.{ℕ, suc, _+_, _≤_, _<_, _^_, min}
+use Prim.Native.Nat.{ℕ, suc, _+_, _≤_, _<_}
 use native.Mathlib.Omega.{arith}
-use lib.Dec.{T, eqb, eqb→eq, eqb-refl, T-not, not-T}
-use lib.ListN.{length, getD, take, drop}
+use lib.Dec.{T, eqb, eqb→eq, eqb-refl}
+use lib.ListN.{length, take, drop}
 use lib.Seq.{take-all, split-at}
 use Rattle.lists.specs.Lists.{In, Distinct}
-use Rattle.lists.proofs.Tests.{same-tests, to-true}
+use Rattle.lists.proofs.Tests.{same-tests}
 use Rattle.lists.proofs.Members.{in-head, keep-in}
 use Rattle.lists.proofs.Empty.{no-members}
 use Rattle.lists.proofs.Distinct.{append-apart}
 use Rattle.orders.specs.Orders.{Node, stops, flown, set, left, size, extend, Partial}
 use Rattle.orders.proofs.Sets.{stops-in, in-set, in-flown, flown-in, left-in, extend-child}
 use Rattle.orders.proofs.Partial.{partial-root, partial-size, partial-child}
-use Rattle.stops.specs.Legs.{Legs, path, last}
+use Rattle.stops.specs.Legs.{Legs, path}
 use Rattle.stops.specs.Record.{stopsIn, emptyRecord, extended, Wide, Within}
 use Rattle.stops.proofs.Paths.{path-small}
 use Rattle.stops.specs.declared.node.Node.{Node as Record}
@@ -28,7 +28,7 @@ use Rattle.pool.proofs.Mask.{stops-set}
 use Rattle.pool.proofs.Encode.{unbounded, encode-extend, encode-wide}
 use Rattle.node_records.specs.Nodes.{stopAt, flownStops, isNode}
 use Rattle.node_records.proofs.OrderLaws.{stops-length, stops-next, stop-here, stop-range}
-use Rattle.node_records.proofs.NodeLaws.{NodeRecord, node-record, record-node, no-node}
+use Rattle.node_records.proofs.NodeLaws.{node-record, record-node, no-node}
 
 -- legs that cost nothing: what is built has no path cost
 abbrev free : Legs
@@ -108,7 +108,8 @@ module _ {n : ℕ} {x w : Record} {k : ℕ} (r : Retraced n x w k) where
     -- a stop above n: the record is no node's
     pub stop-above : n < stopAt x k → false ≡ isNode n x
     unfolding y z
-    stop-above h = no-node n x (λ q. absurd (let j : (1 ≤ stopAt x k) × (stopAt x k ≤ n) = q .node .only (stopAt x k) member in omega arith))
+    stop-above h =
+        no-node n x (λ q. absurd (let j : (1 ≤ stopAt x k) × (stopAt x k ≤ n) = q .node .only (stopAt x k) member in omega arith))
       where
         member : In (stopAt x k) (flownStops x)
         member = subst (λ (l : List ℕ). In (stopAt x k) l) (sym parts) (Memᴰ·append-right z in-head)
@@ -117,7 +118,8 @@ module _ {n : ℕ} {x w : Record} {k : ℕ} (r : Retraced n x w k) where
       -- a stop that is flown already: the record is no node's
       pub stop-again : true ≡ flown (stopsIn (w .set)) (stopAt x k) → false ≡ isNode n x
       unfolding y
-      stop-again h = no-node n x (λ q. append-apart z (stopAt x k ∷ drop (k + 1) y) (subst Distinct parts (q .node .once)) (stopAt x k) member in-head)
+      stop-again h =
+          no-node n x (λ q. append-apart z (stopAt x k ∷ drop (k + 1) y) (subst Distinct parts (q .node .once)) (stopAt x k) member in-head)
         where
           member : In (stopAt x k) z
           member = flown-in z (stopAt x k) (subst T (h ∙ held (stopAt x k) (stop-range x k .0) small) tt)
@@ -130,7 +132,9 @@ module _ {n : ℕ} {x w : Record} {k : ℕ} (r : Retraced n x w k) where
 
         pub stop-fits : Wide w (stopAt x k) 0
         unfolding y z
-        stop-fits = rw (r .same) (wide-unbounded (encode-wide n (r .few) free 0 z (r .node) (stopAt x k) free-stop 0 (omega (arith, path-small 0 free costless z))))
+        stop-fits =
+            rw (r .same) (wide-unbounded (encode-wide n (r .few) free 0 z (r .node) (stopAt x k) free-stop 0
+            (omega (arith, path-small 0 free costless z))))
 
         pub stop-added : Retraced n x (extended w (stopAt x k) 0) (k + 1)
         unfolding y z extended
@@ -139,7 +143,9 @@ module _ {n : ℕ} {x w : Record} {k : ℕ} (r : Retraced n x w k) where
           few = r .few;
           short = r .short;
           up-to = omega arith;
-          node = subst (Partial n) (sym (stops-next x k inside)) (partial-child n z (extend z (stopAt x k)) (r .node) (extend-child n z (stopAt x k) free-stop));
+          node =
+              subst (Partial n) (sym (stops-next x k inside)) (partial-child n z (extend z (stopAt x k)) (r .node)
+              (extend-child n z (stopAt x k) free-stop));
           same = rw (r .same, stops-next x k inside) (encode-extend n (r .few) free 0 z (r .node) (stopAt x k) free-stop);
         }
 
@@ -148,7 +154,9 @@ module _ {n : ℕ} {x w : Record} {k : ℕ} (r : Retraced n x w k) where
     all-stops = take-all k (flownStops x) (omega (arith, stops-length x))
 
     -- what is built has the set and the order of the stops
-    numbers : (w .set ≡ mask (set n (flownStops x))) × (w .first ≡ orderWord (take 8 (flownStops x))) × (w .second ≡ orderWord (drop 8 (flownStops x)))
+    numbers :
+        (w .set ≡ mask (set n (flownStops x))) × (w .first ≡ orderWord (take 8 (flownStops x)))
+        × (w .second ≡ orderWord (drop 8 (flownStops x)))
     unfolding encode
     numbers = rw (r .same, all-stops) (refl, refl, refl)
 

@@ -64,7 +64,8 @@ module _ {M : Type 1} {𝓤 : URA M} {H : Heap 𝓤} {A : Atoms 𝓤} {K : Type 
   -- ---- what a call ensures
   module _ {G : Goal 𝓤 H} where
     pub hears :
-        K → Soaks G → (R : RattleType) (tokens : Item 𝓤) (X : R .Denot → SProp 𝓤) (Φ : R .Denot → Type 0) → ((w : R .Denot) → ent 𝓤 (X w) (fact 𝓤 (Φ w)))
+        K → Soaks G → (R : RattleType) (tokens : Item 𝓤) (X : R .Denot → SProp 𝓤) (Φ : R .Denot → Type 0)
+        → ((w : R .Denot) → ent 𝓤 (X w) (fact 𝓤 (Φ w)))
         → {P : SProp 𝓤} (u : Val) → ent 𝓤 P (mean 𝓤 H A (later (some (λ (w : R .Denot). (tokens ⊛ ‵ (R .own w (u ∷ []))) ⊛ raw (X w)))))
         → ((w : R .Denot) → Φ w → Is R w (u ∷ []) → Seq K W (‵ (R .own w (u ∷ [])) ∷ tokens ∷ Γ) G)
         → Seq K W (raw P ∷ Γ) G

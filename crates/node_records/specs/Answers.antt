@@ -4,7 +4,7 @@
 --   flownAt     its stops in flown order, "zeros" behind
 --   figures     its path cost and its bound by a number, against a table; the number is that of the first of causes 1 to 4 that applies
 -- Assumes nothing.
-use mathlib.Core.Bool.{Bool, true, false, _&&_, cond}
+use mathlib.Core.Bool.{Bool, true, false, _&&_}
 use mathlib.Core.List.{List, []}
 use Prim.Native.Nat.{ℕ, zero, suc}
 use lib.Dec.{ltb}

@@ -3,8 +3,8 @@
 --   flownStops x     its stops in flown order
 --   isNode n x       whether it is a node's record at all, for n stops
 -- `proofs/` shows that the records that pass are just those of nodes, and that each node's stops are read back.
-use mathlib.Core.Bool.{Bool, true, false, not, _&&_, cond}
-use mathlib.Core.List.{List, [], _∷_, map}
+use mathlib.Core.Bool.{Bool, true, not, _&&_, cond}
+use mathlib.Core.List.{[], _∷_, map}
 use Prim.Native.Nat.{ℕ, _+_, _-_, _^_, _/_, _%_, min}
 use lib.Dec.{leb, ltb, eqb}
 use lib.ListN.{take, drop}

@@ -1,14 +1,15 @@
 -- `check::is_record` meets its contract. The loop's invariant is `Retraced`: what is built from the first k stops is the record of the node
 -- that they are. The measure is what is left of the size. Assumes nothing.
-use mathlib.Core.Path.{_≡_, refl, sym, _∙_}
-use Prim.Native.Nat.{_-_, _≤_, _<_}
+use mathlib.Core.Path.{_≡_, sym, _∙_}
+use Prim.Native.Nat.{_-_, _<_}
 use native.Mathlib.Omega.{arith}
 use Rattle.orders.proofs.Sets.{size-left}
 use Rattle.node_records.specs.Numbers.{ofNumbers}
 use Rattle.node_records.specs.Nodes.{stopAt, flownStops}
 use Rattle.node_records.proofs.OrderLaws.{stop-same, stop-range}
 use Rattle.node_records.proofs.NodeLaws.{no-node}
-use Rattle.node_records.proofs.Retrace.{Retraced, retraced-starts, stop-above, stop-again, stop-fits, stop-added, other-set, other-first, same-record}
+use Rattle.node_records.proofs.Retrace.{Retraced, retraced-starts, stop-above, stop-again, stop-fits, stop-added, other-set}
+use Rattle.node_records.proofs.Retrace.{other-first, same-record}
 use Rattle.node_records.proofs.check.is_record.Statement.{statement}
 use Rattle.node_records.proofs.check.is_record.Tie as tie
 
@@ -39,7 +40,11 @@ unfolding ofNumbers
 loop-holds c = rw (c .empty .ensures) (retraced-starts (omega arith) (omega arith) (omega arith))
 
 -- the loop goes on below the size
-below : (c : tie.In-loop Inv-loop μ-loop) → c .before .loop .k < ofNumbers (c .before .before .before .before .before .before .args .size) (c .before .before .before .before .before .before .args .set) (c .before .before .before .before .before .before .args .first) (c .before .before .before .before .before .before .args .second) .size
+below :
+    (c : tie.In-loop Inv-loop μ-loop)
+    → c .before .loop .k < ofNumbers (c .before .before .before .before .before .before .args .size)
+    (c .before .before .before .before .before .before .args .set) (c .before .before .before .before .before .before .args .first)
+    (c .before .before .before .before .before .before .args .second) .size
 unfolding ofNumbers
 below c = c .loop-test .taken
 
@@ -98,13 +103,15 @@ returns-6 c = other-set (c .before .before .before .loop .inv) (c .before .befor
 
 returns-7 : tie.Need-returns-7 Inv-loop μ-loop
 unfolding ofNumbers
-returns-7 c = other-first (c .before .before .before .before .before .loop .inv) (c .before .before .before .before .loop-test .left) (c .if7 .taken)
+returns-7 c =
+    other-first (c .before .before .before .before .before .loop .inv) (c .before .before .before .before .loop-test .left) (c .if7 .taken)
 
 returns-8 : tie.Need-returns-8 Inv-loop μ-loop
 unfolding ofNumbers
 returns-8 c =
     let l = c .before .before .before .before .before .before in
-    same-record (l .loop .inv) (c .before .before .before .before .before .loop-test .left) (c .before .before .before .if6 .left) (c .before .if7 .left)
+    same-record (l .loop .inv) (c .before .before .before .before .before .loop-test .left) (c .before .before .before .if6 .left)
+    (c .before .if7 .left)
 
 pub is-record-spec : {M : Type 1} → statement M
 is-record-spec =

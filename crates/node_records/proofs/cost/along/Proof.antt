@@ -1,6 +1,6 @@
 -- `cost::along` meets its contract. The loop's invariant is `Along`: the path cost and the last place are those of the first k stops. The
 -- measure is what is left of the size. Assumes nothing.
-use Prim.Native.Nat.{_-_, _≤_, _<_}
+use Prim.Native.Nat.{_-_}
 use mathlib.Core.Path.{sym, _∙_}
 use native.Mathlib.Omega.{arith}
 use Rattle.stops.specs.Legs.{rowLeg, legs}
@@ -57,7 +57,8 @@ unfolding legs rowLeg
 loop-again c =
     let s = c .before .before .before in
     let a = s .before .args in
-    along-more (s .loop .inv) (c .before .before .loop-test .taken) (c .before .stop-at .ensures .0 ∙ stop-same (a .size) 0 (a .first) (a .second) (s .loop .k))
+    along-more (s .loop .inv) (c .before .before .loop-test .taken) (c .before .stop-at .ensures .0 ∙ stop-same (a .size) 0 (a .first)
+    (a .second) (s .loop .k))
 
 returns : tie.Need-returns Inv-loop μ-loop
 returns c =

@@ -1,9 +1,7 @@
 -- `cost::figures_of` meets its contract: each `return` is the case of `figures` that its tests name (`FigureLaws`). Assumes nothing.
-use mathlib.Core.Path.{_≡_, refl, sym, _∙_}
-use mathlib.Core.Bool.{true, false}
+use mathlib.Core.Path.{sym, _∙_}
 use borrow.Author.Needs.{needs}
 use borrow.Author.Tests.{not-true, not-false}
-use lib.Dec.{T}
 use Rattle.stops.specs.declared.node.Node.{Node as Record}
 use Rattle.node_records.specs.Numbers.{ofNumbers}
 use Rattle.node_records.proofs.FigureLaws.{figures-outside, figures-refused, figures-other}
@@ -20,7 +18,8 @@ no-figures-requires c κs = tt
 returns : tie.Need-returns
 returns c =
     let s = c .before .before .before in
-    rw (not-true (s .args .inside) (c .before .if1 .taken)) (c .no-figures .ensures ∙ figures-outside (x s) (s .args .n) (s .args .table .now) (s .args .bound))
+    rw (not-true (s .args .inside) (c .before .if1 .taken)) (c .no-figures .ensures ∙ figures-outside (x s) (s .args .n)
+    (s .args .table .now) (s .args .bound))
 
 slice-aggregate-job-cause : tie.Need-slice-aggregate-job-cause
 slice-aggregate-job-cause c = search needs
@@ -37,7 +36,8 @@ returns-2 c =
     let s = j .before .before .before .before in
     rw (not-false (s .args .inside) (j .before .before .if1 .left))
     (c .no-figures2 .ensures
-    ∙ figures-refused (x s) (s .args .n) (s .args .table .now) (s .args .bound) (j .job-cause .result) (j .job-cause .ensures) (c .before .if2 .taken))
+    ∙ figures-refused (x s) (s .args .n) (s .args .table .now) (s .args .bound) (j .job-cause .result) (j .job-cause .ensures)
+    (c .before .if2 .taken))
 
 is-record-requires : tie.Need-is-record-requires
 is-record-requires c κs = tt
@@ -51,13 +51,17 @@ returns-3 c =
     let s = j .before .before .before .before in
     rw (not-false (s .args .inside) (j .before .before .if1 .left))
     (c .no-figures3 .ensures
-    ∙ figures-other (x s) (s .args .n) (s .args .table .now) (s .args .bound) (sym (j .job-cause .ensures) ∙ c .before .before .before .if2 .left)
+    ∙ figures-other (x s) (s .args .n) (s .args .table .now) (s .args .bound)
+    (sym (j .job-cause .ensures) ∙ c .before .before .before .if2 .left)
     (sym (c .before .before .is-record .ensures) ∙ not-true (c .before .before .is-record .result) (c .before .if3 .taken)))
 
 reckoned-requires : tie.Need-reckoned-requires
 reckoned-requires c κs =
-    let j = c .before .before .before in
-    (rw (← c .before .is-record .ensures, not-false (c .before .is-record .result) (c .if3 .left)) tt, sym (j .job-cause .ensures) ∙ c .before .before .if2 .left)
+    let j = c .before .before .before in (
+      rw (← c .before .is-record .ensures, not-false (c .before .is-record .result) (c .if3 .left)) tt,
+      sym
+          (j .job-cause .ensures) ∙ c .before .before .if2 .left,
+    )
 
 returns-4 : tie.Need-returns-4
 returns-4 c =

@@ -1,6 +1,7 @@
--- `cost::reckoned` meets its contract: the rows are the table's, the path cost is that of the stops, and what the bound adds is over the stops
--- that the set leaves (`FigureLaws`). Nothing wraps: a path cost is at most 16,000,000, and a bound adds at most 17,000,000. Assumes nothing.
-use mathlib.Core.Path.{_≡_, refl, ap, sym, _∙_, subst}
+-- `cost::reckoned` meets its contract: the rows are the table's, the path cost is that of the stops, and what the bound adds is over the
+-- stops that the set leaves (`FigureLaws`). Nothing wraps: a path cost is at most 16,000,000, and a bound adds at most 17,000,000.
+-- Assumes nothing.
+use mathlib.Core.Path.{_≡_, refl}
 use Prim.Native.Nat.{ℕ, _*_, _-_, _^_, _%_, _≤_, _<_}
 use native.Mathlib.Omega.{arith}
 use lib.Pow.{pow-pos}
@@ -11,7 +12,8 @@ use Rattle.stops.proofs.SetBits.{stopsIn-few}
 use Rattle.stops.proofs.SetLoops.{ahead-small}
 use Rattle.node_records.specs.Numbers.{ofNumbers}
 use Rattle.node_records.proofs.OrderLaws.{stops-same}
-use Rattle.node_records.proofs.FigureLaws.{job-few, job-square, job-bound, job-within, one-shifted, node-short, set-within, rest-small, bound-sum, figures-node}
+use Rattle.node_records.proofs.FigureLaws.{job-few, job-square, job-bound, job-within, one-shifted, node-short, set-within}
+use Rattle.node_records.proofs.FigureLaws.{rest-small, bound-sum, figures-node}
 use Rattle.node_records.proofs.cost.reckoned.Statement.{statement}
 use Rattle.node_records.proofs.cost.reckoned.Tie as tie
 
@@ -61,7 +63,8 @@ unfolding ofNumbers
 rest-few c = rw (shifted c) (rest-small (c .args .n) (x c) (c .pre .0))
 
 ahead-requires : tie.Need-ahead-requires
-ahead-requires c κs = (c .before .along .ensures .1 .1 .1, (rest-few (c .before .before .before .before .before), within (c .before .before .before)))
+ahead-requires c κs =
+    (c .before .along .ensures .1 .1 .1, (rest-few (c .before .before .before .before .before), within (c .before .before .before)))
 
 add-t15 : tie.Need-add-t15
 add-t15 c =
@@ -72,7 +75,8 @@ add-t15 c =
       arith,
       w .along .ensures .1 .1 .0,
       c .before .ahead .ensures,
-      ahead-small 1000000 (legs (w .before .before .rows .result)) (within (w .before .before)) (w .along .result .place) 16 (s .args .bound) (stopsIn rest) (stopsIn-few rest (rest-few s)),
+      ahead-small 1000000 (legs (w .before .before .rows .result)) (within (w .before .before)) (w .along .result .place) 16
+          (s .args .bound) (stopsIn rest) (stopsIn-few rest (rest-few s)),
     )
 
 returns : tie.Need-returns
@@ -84,7 +88,8 @@ returns c =
     let same = stops-same (a .size) (a .set) (a .first) (a .second) in
     rw (
       figures-node (a .n) (x s) (s .pre .0) (a .table .now) (a .bound) (s .pre .1),
-      ← bound-sum (a .n) (x s) (s .pre .0) (legs (rows (a .n) (a .table .now))) (a .bound) (job-bound (a .n) (a .table .now) (a .bound) (s .pre .1)),
+      ← bound-sum (a .n) (x s) (s .pre .0) (legs (rows (a .n) (a .table .now))) (a .bound)
+          (job-bound (a .n) (a .table .now) (a .bound) (s .pre .1)),
       c .before .ahead .ensures,
       w .along .ensures .0,
       w .along .ensures .1 .0,

@@ -1,7 +1,7 @@
 -- `order::flown_of` meets its contract. The loop's invariant is `Placed`: the first k places hold the first k stops, with zeros behind. The
 -- measure is what is left of the count. Assumes nothing.
-use mathlib.Core.Path.{_≡_, refl, _∙_}
-use Prim.Native.Nat.{_≤_, _<_, _-_}
+use mathlib.Core.Path.{refl, _∙_}
+use Prim.Native.Nat.{_<_, _-_}
 use native.Mathlib.Omega.{arith}
 use Rattle.node_records.specs.Numbers.{ofNumbers}
 use Rattle.node_records.specs.Answers.{flownAt}

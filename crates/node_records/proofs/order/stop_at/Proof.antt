@@ -9,8 +9,6 @@ use Rattle.node_records.specs.Nodes.{stopAt}
 use borrow.Author.Needs.{needs}
 use Rattle.node_records.proofs.order.stop_at.Statement.{statement}
 use Rattle.node_records.proofs.order.stop_at.Tie as tie
-use Rattle.node_records.proofs.order.stop_at.Reads as reads
-use Rattle.node_records.proofs.order.stop_at.Lts as lts
 
 mul-result : tie.Need-mul-result
 mul-result c = search needs
