@@ -1,13 +1,13 @@
 // Node records in a run that a host holds: thin functions over `&[Node]` and `&mut [Node]`, open to a host. Each takes a record apart and
-// calls a covered function (`order`, `check`, `cost`) on its numbers, which carries the meaning (specs/Answers). Nothing is asked of the
-// arguments: an index past the end gives an answer that says so, and changes nothing.
+// calls a covered function of this crate (`order`, `check`, `cost`) on its numbers, which carries the meaning (specs/Answers). Nothing is
+// asked of the arguments: an index past the end gives an answer that says so, and changes nothing.
 ghost use mathlib.Core.Path.{_≡_};
 ghost use lib.ListN.{set};
 ghost use Rattle.node_records.specs.Answers.{isInside, recordAt, found, verdict, flownAt, figures};
 
-pub mod check;
-pub mod cost;
-pub mod order;
+mod check;
+mod cost;
+mod order;
 
 use crate::check::verdict_of;
 use crate::cost::figures_of;
