@@ -19,8 +19,8 @@ use Rattle.stops.specs.Record.{stopsIn, ahead, Within}
 use Rattle.stops.specs.declared.node.Node.{Node as Record}
 use Rattle.stops.proofs.LegTable.{legs-within}
 use Rattle.stops.proofs.Bounds.{bound-ahead}
-use Rattle.pool.specs.Records.{recordsIn}
-use Rattle.pool.proofs.Mask.{mask-stops, stops-left}
+use Rattle.records.specs.Records.{recordsIn}
+use Rattle.records.proofs.Mask.{mask-stops, stops-left}
 use Rattle.answer.specs.Call.{callOf}
 use Rattle.answer.specs.Checks.{cause₆, jobCause}
 use Rattle.answer.proofs.Passes.{Passes, passes}

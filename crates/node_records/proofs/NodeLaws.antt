@@ -11,7 +11,7 @@ use Rattle.lists.proofs.Members.{all-in, in-all}
 use Rattle.orders.specs.Orders.{Node, stops, flown, set, size, Partial}
 use Rattle.orders.proofs.Sets.{in-stops, stops-in, in-flown, flown-in}
 use Rattle.stops.specs.declared.node.Node.{Node as Record}
-use Rattle.pool.specs.Records.{mask, orderWord}
+use Rattle.records.specs.Records.{mask, orderWord}
 use Rattle.node_records.specs.Nodes.{flownStops, distinct, isRecordOf, isNode}
 use Rattle.node_records.specs.Examples
 

@@ -15,9 +15,9 @@ use Rattle.orders.proofs.Sets.{size-left}
 use Rattle.orders.proofs.Partial.{partial-size}
 use Rattle.stops.specs.Legs.{Legs}
 use Rattle.stops.specs.declared.node.Node.{Node as Record}
-use Rattle.pool.specs.View.{encode}
-use Rattle.pool.proofs.OrderWords.{first-digit, second-digit}
-use Rattle.pool.proofs.Encode.{partial-digits}
+use Rattle.records.specs.View.{encode}
+use Rattle.records.proofs.OrderWords.{first-digit, second-digit}
+use Rattle.records.proofs.Encode.{partial-digits}
 use Rattle.node_records.specs.Nodes.{stopAt, flownStops, isNode}
 use Rattle.node_records.proofs.OrderLaws.{stops-length, stop-here}
 use Rattle.node_records.proofs.NodeLaws.{NodeRecord, record-node}

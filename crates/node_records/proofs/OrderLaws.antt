@@ -16,8 +16,8 @@ use Rattle.lists.proofs.Members.{in-map, length-from}
 use Rattle.orders.specs.Orders.{Node, extend}
 use Rattle.stops.specs.declared.node.Node.{Node as Record}
 use Rattle.stops.proofs.LegTable.{getD-from}
-use Rattle.pool.specs.Records.{padded}
-use Rattle.pool.proofs.OrderWords.{Digits}
+use Rattle.records.specs.Records.{padded}
+use Rattle.records.proofs.OrderWords.{Digits}
 use Rattle.answer.specs.Call.{orderPlaces}
 use Rattle.node_records.specs.Numbers.{ofNumbers}
 use Rattle.node_records.specs.Nodes.{stopAt, flownStops}

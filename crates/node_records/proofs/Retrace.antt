@@ -22,10 +22,10 @@ use Rattle.stops.specs.Legs.{Legs, path}
 use Rattle.stops.specs.Record.{stopsIn, emptyRecord, extended, Wide, Within}
 use Rattle.stops.proofs.Paths.{path-small}
 use Rattle.stops.specs.declared.node.Node.{Node as Record}
-use Rattle.pool.specs.Records.{mask, orderWord}
-use Rattle.pool.specs.View.{encode}
-use Rattle.pool.proofs.Mask.{stops-set}
-use Rattle.pool.proofs.Encode.{unbounded, encode-extend, encode-wide}
+use Rattle.records.specs.Records.{mask, orderWord}
+use Rattle.records.specs.View.{encode}
+use Rattle.records.proofs.Mask.{stops-set}
+use Rattle.records.proofs.Encode.{unbounded, encode-extend, encode-wide}
 use Rattle.node_records.specs.Nodes.{stopAt, flownStops, isNode}
 use Rattle.node_records.proofs.OrderLaws.{stops-length, stops-next, stop-here, stop-range}
 use Rattle.node_records.proofs.NodeLaws.{node-record, record-node, no-node}

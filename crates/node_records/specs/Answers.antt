@@ -13,7 +13,7 @@ use Rattle.stops.specs.Legs.{Legs, rows, legs, path}
 use Rattle.stops.specs.Bounds.{boundBy}
 use Rattle.stops.specs.Record.{emptyRecord}
 use Rattle.stops.specs.declared.node.Node.{Node as Record}
-use Rattle.pool.specs.Records.{padded}
+use Rattle.records.specs.Records.{padded}
 use Rattle.answer.specs.Call.{callOf, orderPlaces}
 use Rattle.answer.specs.Checks.{jobCause}
 use Rattle.node_records.specs.Nodes.{flownStops, isNode}

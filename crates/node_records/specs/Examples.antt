@@ -9,7 +9,7 @@ use Rattle.stops.specs.Legs.{entry, rows, rowLeg, legs, path, last, cost}
 use Rattle.stops.specs.Bounds.{plain, cheapestInto, remainder, close, boundBy}
 use Rattle.stops.specs.Record.{emptyRecord}
 use Rattle.stops.specs.declared.node.Node.{Node as Record}
-use Rattle.pool.specs.Records.{mask, padded}
+use Rattle.records.specs.Records.{mask, padded}
 use Rattle.answer.specs.Call.{callOf}
 use Rattle.answer.specs.Checks.{cause₁, cause₂, cause₃, cause₄, cause₅, jobCause}
 use Rattle.node_records.specs.Nodes.{stopAt, flownStops, isRecordOf, isNode}

@@ -11,7 +11,7 @@ use lib.ListN.{take, drop}
 use Rattle.lists.specs.Lists.{all, from}
 use Rattle.orders.specs.Orders.{Node, stops, flown, set, size}
 use Rattle.stops.specs.declared.node.Node.{Node as Record}
-use Rattle.pool.specs.Records.{mask, orderWord}
+use Rattle.records.specs.Records.{mask, orderWord}
 
 -- "two for the order (s-1 in four bits each, eight stops a number, first stop lowest ..)"
 unfoldable pub stopAt : Record → ℕ → ℕ
