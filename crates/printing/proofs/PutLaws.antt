@@ -33,18 +33,14 @@ put-then {l} {m} {o} {xs} {ys} {a} {b} {c} p q = record {
 pub put-one : (l : List ℕ) (a y : ℕ) → Put l a (y ∷ []) (set l a y) (a + 1)
 put-one l a y = record { written = refl; behind = omega arith }
 
-pub put-none : (l : List ℕ) (a : ℕ) → Put l a [] l (a + 0)
-put-none l a = record { written = refl; behind = omega arith }
+pub put-none : (l : List ℕ) (a b : ℕ) → b ≡ a → Put l a [] l b
+put-none l a b e = record { written = refl; behind = omega arith }
 
 pub put-length : {l m xs : List ℕ} {a b : ℕ} → Put l a xs m b → length m ≡ length l
 put-length {l} {m} {xs} {a} p = ap length (p .written) ∙ length-sets l a xs
 
 pub put-last : {l m xs : List ℕ} {a b : ℕ} → Put l a xs m b → (y : ℕ) → Put l a (xs ++ (y ∷ [])) (set m b y) (b + 1)
 put-last {m = m} {b = b} p y = put-then p (put-one m b y)
-
-pub put-nothing : (l : List ℕ) (a : ℕ) → Put l a (numbered []) l a
-unfolding numbered
-put-nothing l a = record { written = refl; behind = omega arith }
 
 -- one turn of the loop that writes bytes
 pub put-next :

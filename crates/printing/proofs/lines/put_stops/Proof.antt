@@ -7,7 +7,7 @@ use lib.ListN.{length, take}
 use lib.Seq.{take-all}
 use Rattle.printing.specs.Text.{numbered}
 use Rattle.printing.specs.Code.{Put, numberRoom}
-use Rattle.printing.proofs.PutLaws.{put-nothing, put-then, put-length, numbered-next}
+use Rattle.printing.proofs.PutLaws.{put-none, put-then, put-length, numbered-next}
 use Rattle.printing.proofs.lines.put_stops.Statement.{statement}
 use Rattle.printing.proofs.lines.put_stops.Tie as tie
 
@@ -19,7 +19,8 @@ abbrev μ-loop : tie.MeasureT-loop
 μ-loop buffer₀ at stops end₀ k₀ buffer end k = length stops - k
 
 loop-holds : tie.Need-loop-holds Inv-loop μ-loop
-loop-holds c = (omega arith, refl, omega arith, put-nothing _ _)
+unfolding numbered
+loop-holds c = (omega arith, refl, omega arith, put-none _ _ _ refl)
 
 shared-slice-read-wide : tie.Need-shared-slice-read-wide Inv-loop μ-loop
 shared-slice-read-wide c = omega arith
