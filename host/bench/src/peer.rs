@@ -27,6 +27,7 @@ fn at(records: &[Record], i: usize) -> &Record {
 }
 
 /// The first place from `from` on whose record passes the test, or the number of records.
+#[cfg(not(feature = "unrolled"))]
 #[inline(always)]
 fn find(records: &[Record], from: usize, test: impl Fn(&Record) -> bool) -> usize {
     let mut i = from;
@@ -34,6 +35,13 @@ fn find(records: &[Record], from: usize, test: impl Fn(&Record) -> bool) -> usiz
         i += 1;
     }
     i
+}
+
+/// The same as an iterator, which the compiler unrolls.
+#[cfg(feature = "unrolled")]
+#[inline(always)]
+fn find(records: &[Record], from: usize, test: impl Fn(&Record) -> bool) -> usize {
+    records[from..].iter().position(test).map_or(records.len(), |k| from + k)
 }
 
 /// Goes from one better bound to the next, of which there are few.
