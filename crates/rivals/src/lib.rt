@@ -147,7 +147,8 @@ fn unrivalled_with(
 }
 
 // Rules 2 and 4 on children that are all near base: keeps those of the first m that no record of w, from `from` to `to`, with a bound up
-// to limit dominates. One walk of w gathers the records that can dominate a child, some at a time, for the walk over the children.
+// to limit dominates. One walk of w gathers the records that can dominate a child, some at a time, for the walk over the children; where
+// no child is left there is none.
 pub fn unrivalled(
     kids: &mut [u32],
     m: usize,
@@ -161,6 +162,9 @@ pub fn unrivalled(
     requires { ⌜ ((m ≤ length (records (now kids))) × AllNear size base (take m (records (now kids)))) × ((from ≤ to) × (to ≤ length (records (now w)))) ⌝ }
     ensures { λ r. ⌜ Sifted (isFree limit (slice from to (records (now (w .entry))))) (records (now (kids .entry))) 0 m 0 (records (now (kids .exit))) r ⌝ }
 {
+    if m == 0 {
+        return 0;
+    }
     let mut buffer = [0u32; 192];
     unrivalled_with(kids, m, w, from, to, size, base, limit, &mut buffer)
 }
