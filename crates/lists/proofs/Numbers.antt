@@ -1,5 +1,5 @@
 -- Laws of lengths, sums and least values: `keep` parts a list in two, `sum` of a part and of joined lists, `least` is attained and
--- is below each. Assumes nothing.
+-- is below each, and is the same of lists with the same elements. Assumes nothing.
 use mathlib.Core.Path.{_≡_, refl, ap, _∙_}
 use mathlib.Core.Bool.{Bool, true, false, not}
 use mathlib.Core.List.{List, [], _∷_, _++_, map, List·Memᴰ·tail, List·Memᴰ·cases-cons, List·Memᴰ·not-nil}
@@ -71,6 +71,16 @@ module _ {A : Type 0} where
           → (x : A) × In x (y ∷ z ∷ zs) × (f x ≡ min (f y) (least f (z ∷ zs)))
       go (inl h) w = (y, in-head, omega arith)
       go (inr h) (x, m, e) = (x, List·Memᴰ·tail m, omega arith)
+
+  pub least-same :
+      (f : A → ℕ) (x y : A) (xs ys : List A) → ((z : A) → In z (x ∷ xs) → In z (y ∷ ys)) → ((z : A) → In z (y ∷ ys) → In z (x ∷ xs))
+      → least f (x ∷ xs) ≡ least f (y ∷ ys)
+  least-same f x y xs ys there back =
+      let (a, i, e) = least-in f x xs in
+      let (b, j, g) = least-in f y ys in
+      let below = least-le f (y ∷ ys) a (there a i) in
+      let above = least-le f (x ∷ xs) b (back b j) in
+      omega arith
 
 module _ {A B : Type 0} where
   pub length-each : (k : A → List B) (xs : List A) → length (each k xs) ≡ sum (λ x. length (k x)) xs

@@ -3,27 +3,34 @@
 -- holds at a partial index holds at the next: none of the first k passes a test (`free-more`), so many records pass
 -- (`count-passes`, `count-fails`), the first k kids are written (`write-more`). Last, what a part of the pool's words that is lent on is
 -- as records (`lent-records`, `lent-back`). Assumes nothing.
-use mathlib.Core.Path.{_≡_, refl, ap, sym, _∙_}
+use mathlib.Core.Path.{_≡_, refl, ap, sym, subst, _∙_}
 use mathlib.Core.Bool.{Bool, true, false, _||_}
 use mathlib.Core.List.{List, [], _∷_, _++_, append-nil}
 use Prim.Native.Nat.{ℕ, zero, suc, _+_, _*_, _-_, _≤_, _<_}
 use native.Mathlib.Numerals.{add-one}
 use native.Mathlib.Nat.{zero-add}
 use native.Mathlib.Omega.{arith}
+use lib.Dec.{T, ltb}
 use lib.ListN.{length, getD, take, drop, set, length-append, length-drop}
 use lib.Seq.{take-all, drop-length, drop-drop, slice, slice-empty, length-slice, getD-drop, paste, paste-suc, length-paste, drop-paste}
 use borrow.Rule.Slice.PartMut.{midOf, putMid, post-is}
-use borrow.Author.Tests.{le-leb, lt-leb}
-use Rattle.lists.specs.Lists.{keep, any}
+use borrow.Author.Tests.{le-leb, lt-leb, ltb-false}
+use Rattle.lists.specs.Lists.{put, keep, any}
 use Rattle.lists.proofs.Numbers.{keep-parts}
 use Rattle.stops.specs.Record.{emptyRecord, recDominates}
 use Rattle.stops.specs.declared.node.Node.{Node as Record}
 use Rattle.records.specs.View.{records}
 use Rattle.records.specs.Passes.{Sifted, always}
-use Rattle.pool.specs.Staying.{isStaying}
+use Rattle.rivals.specs.Rivals.{near, AllNear}
+use Rattle.pool.specs.Staying.{isStaying, isSuspect}
 use Rattle.records.proofs.ViewLaws.{length-records, records-drop, records-join}
-use Rattle.records.proofs.SliceLaws.{keep-slice-more, any-slice-more}
+use Rattle.records.proofs.SliceLaws.{keep-append, keep-slice-more, any-slice-more, slice-join, AllSo}
 use Rattle.records.proofs.SiftLaws.{taken-out}
+use Rattle.rivals.proofs.RivalLaws.{apart}
+
+neither : (b c : Bool) → (b || c) ≡ false → (b ≡ false) × (c ≡ false)
+neither true c e = absurd (subst T e tt)
+neither false c e = (refl, e)
 
 or-right-true : (b c : Bool) → c ≡ true → (b || c) ≡ true
 or-right-true true c e = refl
@@ -47,6 +54,33 @@ module _ (limit : ℕ) (kids : List Record) (x : Record) where
   pub stays-free : (r : ℕ) → x .bound ≤ limit → any (λ y. recDominates y x) (take r kids) ≡ false → isStaying limit (take r kids) x ≡ true
   unfolding isStaying
   stays-free r h e = rw (le-leb (x .bound) limit h, e)
+
+-- kids that are all near a set dominate no record that is not: without suspects all stay
+module _ (limit size base : ℕ) (kids : List Record) (r : ℕ) (family : AllNear size base (take r kids)) where
+  no-suspect : (x : Record) → isSuspect limit size base x ≡ false → isStaying limit (take r kids) x ≡ true
+  unfolding isSuspect
+  no-suspect x e =
+      let none = neither (ltb limit (x .bound)) (near size base x) e in
+      stays-free limit kids x r (ltb-false limit (x .bound) (none .0)) (apart size base (take r kids) x family (none .1))
+
+  all-stay : (xs : List Record) → keep (isSuspect limit size base) xs ≡ [] → keep (isStaying limit (take r kids)) xs ≡ xs
+  all-stay [] e = refl
+  all-stay (x ∷ xs) e = go (isSuspect limit size base x) (no-suspect x) (all-stay xs) e
+    where
+      go :
+          (b : Bool) → (b ≡ false → isStaying limit (take r kids) x ≡ true)
+          → (keep (isSuspect limit size base) xs ≡ [] → keep (isStaying limit (take r kids)) xs ≡ xs)
+          → put b x (keep (isSuspect limit size base) xs) ≡ []
+          → put (isStaying limit (take r kids) x) x (keep (isStaying limit (take r kids)) xs) ≡ x ∷ xs
+      go true stays ih e′ = let long : suc (length (keep (isSuspect limit size base) xs)) ≡ 0 = ap length e′ in absurd (omega arith)
+      go false stays ih e′ = rw (stays refl, ih e′)
+
+  pub stay-on :
+      (l : List Record) (from mid to : ℕ) → from ≤ mid → mid ≤ to → to ≤ length l
+      → AllSo (isStaying limit (take r kids)) emptyRecord l from true mid → keep (isSuspect limit size base) (slice mid to l) ≡ []
+      → AllSo (isStaying limit (take r kids)) emptyRecord l from true to
+  stay-on l from mid to h k inside so none =
+      rw (← slice-join l from mid to h k inside, keep-append, so, all-stay (slice mid to l) none)
 
 -- none of the first k passes, and the next does not
 pub free-more :

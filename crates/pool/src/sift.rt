@@ -1,6 +1,6 @@
 // The passes of the rules. Each keeps, of some records, those that pass a test, in their order.
 ghost use mathlib.Core.Path.{_≡_};
-ghost use mathlib.Core.Bool.{true, not, cond};
+ghost use mathlib.Core.Bool.{true, false, not, cond};
 ghost use Prim.Native.Nat.{_+_, _≤_, _<_};
 ghost use lib.Dec.{ltb};
 ghost use lib.ListN.{length, take};
@@ -9,7 +9,7 @@ ghost use Rattle.lists.specs.Lists.{keep, any};
 ghost use Rattle.stops.specs.Record.{recDominates};
 ghost use Rattle.records.specs.View.{records};
 ghost use Rattle.records.specs.Passes.{Sifted, RunsTo, always};
-ghost use Rattle.pool.specs.Staying.{isWithin, isStaying};
+ghost use Rattle.pool.specs.Staying.{isWithin, isStaying, isSuspect};
 ghost use Rattle.rivals.specs.Rivals.{AllNear};
 use records::load;
 use records::store;
@@ -89,7 +89,52 @@ pub fn staying(
     count
 }
 
-// The first of the records from `from` to `to` that does not stay active, or `to`.
+// Whether x can be one that goes: its bound is above limit, or it is near base.
+fn suspect(x: Node, limit: u32, size: u32, base: u32) -> bool
+    ensures { λ b. ⌜ b ≡ isSuspect limit size base x ⌝ }
+{
+    if limit < x.bound {
+        return true;
+    }
+    near(x, size, base)
+}
+
+// Whether one of the four records from i on is a suspect.
+fn four_suspect(w: &[u32], i: usize, limit: u32, size: u32, base: u32) -> bool
+    requires { ⌜ i + 4 ≤ length (records (now w)) ⌝ }
+    ensures { λ b. ⌜ b ≡ any (isSuspect limit size base) (slice i (i + 4) (records (now (w .entry)))) ⌝ }
+{
+    if suspect(load(w, i), limit, size, base) {
+        return true;
+    }
+    if suspect(load(w, i + 1), limit, size, base) {
+        return true;
+    }
+    if suspect(load(w, i + 2), limit, size, base) {
+        return true;
+    }
+    suspect(load(w, i + 3), limit, size, base)
+}
+
+// The first of the records from `from` to `to` that is a suspect, or `to`. Four records a turn, up to four of which one is.
+fn next_suspect(w: &[u32], from: usize, to: usize, limit: u32, size: u32, base: u32) -> usize
+    requires { ⌜ (from ≤ to) × (to ≤ length (records (now w))) ⌝ }
+    ensures { λ e. ⌜ RunsTo (isSuspect limit size base) false (records (now (w .entry))) from to e ⌝ }
+{
+    let mut i = from;
+    while 4 <= to - i && !four_suspect(w, i, limit, size, base) {
+        i += 4;
+    }
+    while i < to {
+        if suspect(load(w, i), limit, size, base) {
+            return i;
+        }
+        i += 1;
+    }
+    to
+}
+
+// The first of the records from `from` to `to` that does not stay active, or `to`. Only a suspect can be it.
 fn next_gone(
     w: &[u32],
     from: usize,
@@ -103,12 +148,12 @@ fn next_gone(
     requires { ⌜ (from ≤ to) × ((to ≤ length (records (now w))) × ((r ≤ length (records (now kids))) × AllNear size base (take r (records (now kids))))) ⌝ }
     ensures { λ e. ⌜ RunsTo (isStaying limit (take r (records (now (kids .entry))))) true (records (now (w .entry))) from to e ⌝ }
 {
-    let mut i = from;
+    let mut i = next_suspect(w, from, to, limit, size, base);
     while i < to {
         if !stays(load(w, i), limit, size, base, kids, r) {
             return i;
         }
-        i += 1;
+        i = next_suspect(w, i + 1, to, limit, size, base);
     }
     to
 }

@@ -6,11 +6,11 @@ use mathlib.Core.Path.{_≡_, refl, ap, sym, subst, _∙_}
 use mathlib.Core.Bool.{Bool, true, false, not, _&&_, _||_, and-false}
 use mathlib.Core.List.{List, [], _∷_, _++_, append-nil}
 use mathlib.Core.Logic.{_⊎_, inl, inr, _≢_}
-use Prim.Native.Nat.{ℕ, _+_, _-_, _≤_, _<_}
+use Prim.Native.Nat.{ℕ, _+_, _-_, _*_, _%_, _^_, _≤_, _<_}
 use native.Mathlib.Numerals.{add-one}
 use native.Mathlib.Omega.{arith}
 use borrow.Author.Tests.{ne-eqb}
-use lib.Bits.{bitOr, bitXor, xor-self, or-add-and, xor-add-and, and-le-l, and-le-r}
+use lib.Bits.{bitAnd, and-block, and-mask}
 use lib.Dec.{T, leb, eqb, eqb→eq, eqb-refl, not-T}
 use lib.ListN.{length, getD, take, drop, set, length-set}
 use lib.Seq.{slice, slice-empty, take-suc-set, take-add, drop-append-le, drop-at, length-take-le}
@@ -25,29 +25,31 @@ use Rattle.rivals.specs.Rivals.{isFree, near, AllNear, Gathering}
 use Rattle.records.proofs.SliceLaws.{keep-append, keep-slice-more, slice-join, AllSo}
 use Rattle.records.proofs.SiftLaws.{sifted-all, sifted-twice, sifted-same}
 
--- two pairs of numbers are the same if and only if no digit differs in either
-no-digit-differs : (a b c d : ℕ) → bitOr (bitXor a b) (bitXor c d) ≡ 0 → (a ≡ b) × (c ≡ d)
-no-digit-differs a b c d e =
-    let none = or-add-and (bitXor a b) (bitXor c d) in
-    let within = and-le-l (bitXor a b) (bitXor c d) in
-    let within′ = and-le-r (bitXor a b) (bitXor c d) in (
-      omega (arith, none, within, within′, xor-add-and a b, and-le-l a b, and-le-r a b),
-      omega (arith, none, within, within′, xor-add-and c d, and-le-l c d, and-le-r c d),
-    )
-
-pub both-same : (a b c d : ℕ) → eqb (bitOr (bitXor a b) (bitXor c d)) 0 ≡ (eqb a b && eqb c d)
-both-same a b c d = same-tests (eqb (bitOr (bitXor a b) (bitXor c d)) 0) (eqb a b && eqb c d) there back
+-- two numbers of 32 digits side by side, of which one may lack digits, are the same if and only if each is
+pub side-by-side :
+    (a b c d : ℕ)
+    → c < 2 ^ 32 → d < 2 ^ 32
+    → eqb (bitAnd (a * 4_294_967_296 + c) (b * 4_294_967_296 + 4_294_967_295)) (b * 4_294_967_296 + d) ≡ (eqb (bitAnd a b) b && eqb c d)
+side-by-side a b c d p q = rw halves (same-tests (eqb (held * 4_294_967_296 + c) (b * 4_294_967_296 + d)) (eqb held b && eqb c d) there back)
   where
-    there : T (eqb (bitOr (bitXor a b) (bitXor c d)) 0) → T (eqb a b && eqb c d)
-    there h =
-        let same = no-digit-differs a b c d (eqb→eq (bitOr (bitXor a b) (bitXor c d)) 0 h) in
-        rw (same .0, same .1) (and-both (eqb b b) (eqb d d) (eqb-refl b) (eqb-refl d))
+    held : ℕ
+    held = bitAnd a b
 
-    back : T (eqb a b && eqb c d) → T (eqb (bitOr (bitXor a b) (bitXor c d)) 0)
+    halves : bitAnd (a * 4_294_967_296 + c) (b * 4_294_967_296 + 4_294_967_295) ≡ held * 4_294_967_296 + c
+    halves = let low : c % 2 ^ 32 ≡ c = omega arith in rw (and-block 32 a b c 4_294_967_295 p (omega arith), and-mask c 32, low)
+
+    there : T (eqb (held * 4_294_967_296 + c) (b * 4_294_967_296 + d)) → T (eqb held b && eqb c d)
+    there h =
+        let same = eqb→eq (held * 4_294_967_296 + c) (b * 4_294_967_296 + d) h in
+        let high : held ≡ b = omega arith in
+        let low : c ≡ d = omega arith in
+        rw (high, low) (and-both (eqb b b) (eqb d d) (eqb-refl b) (eqb-refl d))
+
+    back : T (eqb held b && eqb c d) → T (eqb (held * 4_294_967_296 + c) (b * 4_294_967_296 + d))
     back h =
-        let first : a ≡ b = eqb→eq a b (and-left (eqb a b) (eqb c d) h) in
-        let second : c ≡ d = eqb→eq c d (and-right (eqb a b) (eqb c d) h) in
-        rw (first, second, xor-self b, xor-self d) tt
+        let first : held ≡ b = eqb→eq held b (and-left (eqb held b) (eqb c d) h) in
+        let second : c ≡ d = eqb→eq c d (and-right (eqb held b) (eqb c d) h) in
+        rw (first, second) (eqb-refl (b * 4_294_967_296 + d))
 
 -- records of other sizes or sets do not dominate
 sizes-apart : (y z : Record) → (y .size ≡ z .size → ⊥) → false ≡ recDominates y z

@@ -6,6 +6,7 @@ ghost use Prim.Native.Nat.{_+_, _≤_, _<_};
 ghost use lib.Dec.{leb};
 ghost use lib.ListN.{length, getD, take};
 ghost use lib.Seq.{slice};
+ghost use Rattle.lists.specs.Lists.{any};
 ghost use Rattle.stops.specs.Record.{emptyRecord, recDominates};
 ghost use Rattle.records.specs.View.{records};
 ghost use Rattle.records.specs.Passes.{Sifted, RunsTo};
@@ -59,21 +60,42 @@ fn undominated(kids: &mut [u32], m: usize, w: &[u32], from: usize, to: usize, li
     r
 }
 
-// Whether a record has some size and its set holds every stop of base: one test, since which of the two fails follows no pattern.
+// Whether a record has some size and its set holds every stop of base. Size and set are tested as one number, since they stand side by
+// side and which of the two fails follows no pattern.
 pub fn near(x: Node, size: u32, base: u32) -> bool
     ensures { λ r. ⌜ r ≡ near size base x ⌝ }
 {
-    let missing = (x.set & base) ^ base;
-    let other = x.size ^ size;
-    missing | other == 0
+    let high = base as u64 * 4294967296;
+    let key = x.set as u64 * 4294967296 + x.size as u64;
+    key & (high + 4294967295) == high + size as u64
 }
 
-// The first of the records from `from` to `to` that is near base, or `to`.
+// Whether one of the four records from i on is near base.
+fn four_near(w: &[u32], i: usize, size: u32, base: u32) -> bool
+    requires { ⌜ i + 4 ≤ length (records (now w)) ⌝ }
+    ensures { λ r. ⌜ r ≡ any (near size base) (slice i (i + 4) (records (now (w .entry)))) ⌝ }
+{
+    if near(load(w, i), size, base) {
+        return true;
+    }
+    if near(load(w, i + 1), size, base) {
+        return true;
+    }
+    if near(load(w, i + 2), size, base) {
+        return true;
+    }
+    near(load(w, i + 3), size, base)
+}
+
+// The first of the records from `from` to `to` that is near base, or `to`. Four records a turn, up to four of which one is.
 fn next_near(w: &[u32], from: usize, to: usize, size: u32, base: u32) -> usize
     requires { ⌜ (from ≤ to) × (to ≤ length (records (now w))) ⌝ }
     ensures { λ r. ⌜ RunsTo (near size base) false (records (now (w .entry))) from to r ⌝ }
 {
     let mut i = from;
+    while 4 <= to - i && !four_near(w, i, size, base) {
+        i += 4;
+    }
     while i < to {
         if near(load(w, i), size, base) {
             return i;

@@ -17,8 +17,6 @@ use borrow.Author.Tests.{
   ne-eqb,
   ltb-true,
   ltb-false,
-  leb-true,
-  leb-false,
 }
 use lib.Dec.{leb, ltb, eqb}
 use lib.ListN.{length, getD, take, drop, length-append}
@@ -32,9 +30,10 @@ use Rattle.search.proofs.PlainSelection.{select-is-pick, lateBy, rankBy}
 use Rattle.stops.specs.Record.{emptyRecord}
 use Rattle.stops.specs.declared.node.Node.{Node as Record}
 use Rattle.records.specs.View.{records}
-use Rattle.selection.specs.Choosing.{Chosen, Ahead, NextAhead, boundAt}
-use Rattle.records.specs.Passes.{dropAt}
+use Rattle.selection.specs.Choosing.{Chosen, Ahead, NextAhead, boundAt, isBelow}
+use Rattle.records.specs.Passes.{dropAt, RunsTo}
 use Rattle.records.proofs.ViewLaws.{records-at}
+use Rattle.records.proofs.SliceLaws.{all-so-each}
 
 ahead-le : (late : Bool) (a b : ℕ) → Ahead late a b → a ≤ b
 ahead-le true a b h = h
@@ -48,14 +47,28 @@ ahead-trans false a b c h k = omega arith
 pub bound-at : (w : List ℕ) (i : ℕ) → i < length (records w) → boundAt (records w) i ≡ getD w (6 * i + 3) 0
 bound-at w i h = ap (λ (x : Record). x .bound) (records-at w i h)
 
--- what the test of a side says
-pub ahead-met : (late : Bool) (a b : ℕ) → true ≡ cond late (leb a b) (ltb a b) → Ahead late a b
-ahead-met true a b e = leb-true a b (sym e)
-ahead-met false a b e = ltb-true a b (sym e)
+-- below the edge is what goes before
+below-met : (late : Bool) (b least : ℕ) → ltb b (cond late (least + 1) least) ≡ true → Ahead late b least
+below-met true b least e = let h = ltb-true b (least + 1) e in omega arith
+below-met false b least e = ltb-true b least e
 
-pub ahead-missed : (late : Bool) (a b : ℕ) → false ≡ cond late (leb a b) (ltb a b) → Ahead (not late) b a
-ahead-missed true a b e = leb-false a b (sym e)
-ahead-missed false a b e = ltb-false a b (sym e)
+below-missed : (late : Bool) (b least : ℕ) → ltb b (cond late (least + 1) least) ≡ false → Ahead (not late) least b
+below-missed true b least e = let h = ltb-false b (least + 1) e in omega arith
+below-missed false b least e = ltb-false b least e
+
+pub runs-ahead :
+    (late : Bool) (l : List Record) (from a least r : ℕ) → a ≤ length l
+    → RunsTo (isBelow (cond late (least + 1) least)) false l from a r → NextAhead late (boundAt l) from a least r
+unfolding isBelow
+runs-ahead late l from a least r inside run =
+    let test = isBelow (cond late (least + 1) least) in
+    let up = run .up-to in
+    record {
+      from-there = run .from-there;
+      up-to = run .up-to;
+      passed = λ k h j. below-missed late (boundAt l k) least (all-so-each test emptyRecord l from r k (omega arith) (run .all-so) h j);
+      met = λ h. below-met late (boundAt l r) least (run .met h);
+    }
 
 -- of n places, i is the one that a side picks
 pub record Leads (late : Bool) (rank : ℕ → ℕ) (n i : ℕ) : Type 0 where

@@ -3,7 +3,7 @@ use mathlib.Core.Path.{_≡_}
 use mathlib.Core.Bool.{Bool, true, false, not}
 use mathlib.Core.List.{List}
 use Prim.Native.Nat.{ℕ, _≤_, _<_}
-use lib.Dec.{eqb}
+use lib.Dec.{ltb, eqb}
 use lib.ListN.{length, getD}
 use Rattle.search.specs.Problem.{Problem}
 use Rattle.search.specs.Selection.{chosen, selectBy}
@@ -35,6 +35,10 @@ pub record NextAhead (late : Bool) (rank : ℕ → ℕ) (from a least r : ℕ) :
 -- the bound of the record at k
 abbrev pub boundAt : List Record → ℕ → ℕ
 boundAt xs k = getD xs k emptyRecord .bound
+
+-- the record's bound is below a limit
+unfoldable pub isBelow : ℕ → Record → Bool
+isBelow limit x = ltb (x .bound) limit
 
 -- a selection above 3 is refused with 4
 abbrev pub Chose : ℕ → List Record → ℕ → Place → Type 0

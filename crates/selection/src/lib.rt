@@ -1,11 +1,14 @@
 // Which active node is branched. `choose` is public for the crates above and not for hosts; what it requires, those crates meet.
 ghost use mathlib.Core.Path.{_≡_};
-ghost use mathlib.Core.Bool.{cond};
-ghost use Prim.Native.Nat.{ℕ, _≤_, _<_};
-ghost use lib.Dec.{leb, ltb};
-ghost use lib.ListN.{length, take};
+ghost use mathlib.Core.Bool.{false, cond};
+ghost use Prim.Native.Nat.{ℕ, _+_, _≤_, _<_};
+ghost use lib.ListN.{length, getD, take};
+ghost use lib.Seq.{slice};
+ghost use Rattle.lists.specs.Lists.{any};
+ghost use Rattle.stops.specs.Record.{emptyRecord};
 ghost use Rattle.records.specs.View.{records};
-ghost use Rattle.selection.specs.Choosing.{Chose, Chosen, NextAhead, boundAt};
+ghost use Rattle.records.specs.Passes.{RunsTo};
+ghost use Rattle.selection.specs.Choosing.{Chose, Chosen, NextAhead, boundAt, isBelow};
 
 // Where the chosen node stands, or the number of a refusal.
 pub enum Place {
@@ -13,29 +16,65 @@ pub enum Place {
     Refused(u32),
 }
 
-// Whether a bound goes before the least one of the records before it: at an equal one too if the side is late.
-fn goes_before(bound: u32, least: u32, late: bool) -> bool
-    ensures { λ r. ⌜ r ≡ cond late (leb bound least) (ltb bound least) ⌝ }
+// The number below which a bound goes before a least one: at an equal bound too if the side is late.
+fn edge(least: u32, late: bool) -> u64
+    ensures { λ r. ⌜ r ≡ cond late (least + 1) least ⌝ }
 {
     if late {
-        return bound <= least;
+        return least as u64 + 1;
     }
-    bound < least
+    least as u64
 }
 
-// The first of the records from i to a whose bound goes before a least one, or a.
-fn next_before(w: &[u32], from: usize, a: usize, least: u32, late: bool) -> usize
+// Whether the bound of record i is below limit.
+fn below(w: &[u32], i: usize, limit: u64) -> bool
+    requires { ⌜ i < length (records (now w)) ⌝ }
+    ensures { λ r. ⌜ r ≡ isBelow limit (getD (records (now (w .entry))) i emptyRecord) ⌝ }
+{
+    (w[6 * i + 3] as u64) < limit
+}
+
+// Whether one of the four records from i on has a bound below limit.
+fn four_below(w: &[u32], i: usize, limit: u64) -> bool
+    requires { ⌜ i + 4 ≤ length (records (now w)) ⌝ }
+    ensures { λ r. ⌜ r ≡ any (isBelow limit) (slice i (i + 4) (records (now (w .entry)))) ⌝ }
+{
+    if below(w, i, limit) {
+        return true;
+    }
+    if below(w, i + 1, limit) {
+        return true;
+    }
+    if below(w, i + 2, limit) {
+        return true;
+    }
+    below(w, i + 3, limit)
+}
+
+// The first of the records from `from` to a whose bound is below limit, or a. Four records a turn, up to four of which one is.
+fn next_below(w: &[u32], from: usize, a: usize, limit: u64) -> usize
     requires { ⌜ (from ≤ a) × (a ≤ length (records (now w))) ⌝ }
-    ensures { λ r. ⌜ NextAhead late (boundAt (records (now (w .entry)))) from a least r ⌝ }
+    ensures { λ r. ⌜ RunsTo (isBelow limit) false (records (now (w .entry))) from a r ⌝ }
 {
     let mut i = from;
+    while 4 <= a - i && !four_below(w, i, limit) {
+        i += 4;
+    }
     while i < a {
-        if goes_before(w[6 * i + 3], least, late) {
+        if below(w, i, limit) {
             return i;
         }
         i += 1;
     }
     a
+}
+
+// The first of the records from `from` to a whose bound goes before a least one, or a.
+fn next_before(w: &[u32], from: usize, a: usize, least: u32, late: bool) -> usize
+    requires { ⌜ (from ≤ a) × (a ≤ length (records (now w))) ⌝ }
+    ensures { λ r. ⌜ NextAhead late (boundAt (records (now (w .entry)))) from a least r ⌝ }
+{
+    next_below(w, from, a, edge(least, late))
 }
 
 // The earliest, or if the side is late the latest, of the first a records that has the least bound.

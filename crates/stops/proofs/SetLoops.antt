@@ -2,20 +2,24 @@
 --   first-out, first-later    the first stop of a set, and the stops that are left without it
 --   Lowered, lowered-starts, lowered-again, lowered-ends    the invariant of a loop that looks for the least value over a set
 --   Summed, summed-starts, summed-again, summed-ends    the same for a sum; summed-most: no sum on the way is above the last
---   into-set, ahead-none, ahead-plain, ahead-close    the cheapest leg into a stop, and what a bound adds, of sets that are numbers
+--   into-set, into-pair, pair-in, ahead-none, ahead-plain, ahead-close    the cheapest leg into a stop, and what a bound adds, of sets that are numbers
 --   remainder-small, ahead-small    what a bound adds is small where the legs are
 -- Assumes nothing.
-use mathlib.Core.Path.{_≡_, refl, ap, _∙_}
-use mathlib.Core.List.{List, [], _∷_, List·Memᴰ·tail}
+use mathlib.Core.Path.{_≡_, refl, ap, sym, _∙_}
+use mathlib.Core.Bool.{not}
+use mathlib.Core.List.{List, [], _∷_, List·Memᴰ·tail, List·Memᴰ·cases-cons}
+use mathlib.Core.Logic.{_⊎_, inl, inr, _≢_}
 use Prim.Native.Nat.{ℕ, zero, suc, _+_, _-_, _*_, _^_, _≤_, _<_, min}
 use native.Mathlib.Nat.{mul-le-mul-right, suc-mul}
 use native.Mathlib.Omega.{arith}
 use lib.Count.{trailingZeros}
+use lib.Dec.{eqb}
 use lib.ListN.{length}
 use lib.Pow.{pow-pos}
 use Rattle.lists.specs.Lists.{In, sum, least}
-use Rattle.lists.proofs.Members.{in-head}
-use Rattle.lists.proofs.Numbers.{sum-mono, sum-const, least-le}
+use Rattle.lists.proofs.Tests.{compared, neq, ne-neqb}
+use Rattle.lists.proofs.Members.{in-head, in-keep, keep-in}
+use Rattle.lists.proofs.Numbers.{sum-mono, sum-const, least-le, least-same}
 use Rattle.stops.specs.Legs.{Legs, rowLeg, legs}
 use Rattle.stops.specs.Bounds.{without, cheapestInto, remainder}
 use Rattle.stops.specs.Record.{stopsIn, ahead, Within}
@@ -72,7 +76,12 @@ pub record Lowered (f : ℕ → ℕ) (goal low left : ℕ) : Type 0 where
 pub lowered-starts : (f : ℕ → ℕ) (x left : ℕ) → left < 2 ^ 16 → Lowered f (least f (x ∷ stopsIn left)) (f x) left
 lowered-starts f x left h = record { small = h; same = lower-least f x (stopsIn left) }
 
--- the loop may start from the first stop of the set, too
+-- the loop may start from two values, too
+pub lowered-starts-two :
+    (f : ℕ → ℕ) (x y left : ℕ) → left < 2 ^ 16 → Lowered f (least f (x ∷ y ∷ stopsIn left)) (min (f x) (f y)) left
+lowered-starts-two f x y left h = record { small = h; same = lower-least f x (y ∷ stopsIn left) }
+
+-- and from the first stop of the set
 pub lowered-starts-first :
     (f : ℕ → ℕ) (set r left : ℕ) → set < 2 ^ 16 → First set r → left ≡ set - 2 ^ (r - 1) → Lowered f (least f (stopsIn set)) (f r) left
 lowered-starts-first f set r left h o e = rw (o .others, e) (lowered-starts f r (set - 2 ^ (r - 1)) (omega arith))
@@ -112,12 +121,66 @@ module _ {f : ℕ → ℕ} {rest goal total left : ℕ} (l : Summed f rest goal 
   pub summed-ends : left ≡ 0 → total ≡ goal
   summed-ends e = omega (arith, rw (e, stopsIn-zero) at (l .same))
 
+-- the least over some legs is no longer than the longest leg
+pub leg-small :
+    (t : List (List ℕ)) (m s : ℕ) (places : List ℕ) → Within m (legs t) → least (λ p. rowLeg t p s) places ≤ m
+unfolding legs
+leg-small t m s places w = least-small (λ p. rowLeg t p s) m (λ p. w .leg p s) places
+
 -- the cheapest leg into a stop of a set, from the others as a set
 pub into-set :
     (t : List (List ℕ)) (place rest others s : ℕ) → rest < 2 ^ 16 → In s (stopsIn rest) → others ≡ rest - 2 ^ (s - 1)
     → least (λ p. rowLeg t p s) (place ∷ stopsIn others) ≡ cheapestInto (legs t) place (stopsIn rest) s
 unfolding legs cheapestInto
 into-set t place rest others s h i e = rw (e, stopsIn-without rest h s i .1)
+
+-- a stop of a set may stand before the others
+taken-first : (x u : ℕ) (xs : List ℕ) → In u xs → (f : ℕ → ℕ) → least f (x ∷ u ∷ without u xs) ≡ least f (x ∷ xs)
+taken-first x u xs i f = least-same f x x (u ∷ without u xs) xs there back
+  where
+    other : (z : ℕ) → (u ≡ z) ⊎ (u ≢ z) → In z xs → In z (u ∷ without u xs)
+    other z (inl e) m = rw e in-head
+    other z (inr n) m = List·Memᴰ·tail (keep-in (λ r. not (eqb u r)) xs z m (ne-neqb u z n))
+
+    back : (z : ℕ) → In z (x ∷ xs) → In z (x ∷ u ∷ without u xs)
+    back z m = go (List·Memᴰ·cases-cons m)
+      where
+        go : (z ≡ x) ⊎ In z xs → In z (x ∷ u ∷ without u xs)
+        go (inl e) = rw e in-head
+        go (inr k) = List·Memᴰ·tail (other z (compared u z) k)
+
+    there : (z : ℕ) → In z (x ∷ u ∷ without u xs) → In z (x ∷ xs)
+    there z m = go (List·Memᴰ·cases-cons m)
+      where
+        last : (z ≡ u) ⊎ In z (without u xs) → In z xs
+        last (inl e) = rw e i
+        last (inr k) = in-keep (λ r. not (eqb u r)) xs z k .0
+
+        go : (z ≡ x) ⊎ In z (u ∷ without u xs) → In z (x ∷ xs)
+        go (inl e) = rw e in-head
+        go (inr k) = List·Memᴰ·tail (last (List·Memᴰ·cases-cons k))
+
+-- and into one of two stops of a set, from the other one and the rest as a set
+pub into-pair :
+    (t : List (List ℕ)) (place rest others s u : ℕ) → rest < 2 ^ 16 → In s (stopsIn rest) → In u (stopsIn (rest - 2 ^ (s - 1)))
+    → others ≡ rest - 2 ^ (s - 1) - 2 ^ (u - 1)
+    → least (λ p. rowLeg t p s) (place ∷ u ∷ stopsIn others) ≡ cheapestInto (legs t) place (stopsIn rest) s
+into-pair t place rest others s u h i j e =
+    let f : ℕ → ℕ = λ p. rowLeg t p s in
+    rw (e, stopsIn-without (rest - 2 ^ (s - 1)) (omega arith) u j .1)
+    (taken-first place u (stopsIn (rest - 2 ^ (s - 1))) j f ∙ into-set t place rest (rest - 2 ^ (s - 1)) s h i refl)
+
+-- two stops of a part of a set, one after the other: each is of the set without the other
+pub pair-in :
+    (rest left s u : ℕ) → rest < 2 ^ 16 → left < 2 ^ 16 → ((x : ℕ) → In x (stopsIn left) → In x (stopsIn rest)) → In s (stopsIn left)
+    → In u (stopsIn (left - 2 ^ (s - 1))) → In u (stopsIn (rest - 2 ^ (s - 1))) × In s (stopsIn (rest - 2 ^ (u - 1)))
+pair-in rest left s u h k part i j =
+    let (m, n) = in-keep (λ r. not (eqb s r)) (stopsIn left) u (rw (stopsIn-without left k s i .1) at j) in
+    let apart = neq s u n in (
+      rw (stopsIn-without rest h s (part s i) .1) (keep-in (λ r. not (eqb s r)) (stopsIn rest) u (part u m) n),
+      rw (stopsIn-without rest h u (part u m) .1)
+          (keep-in (λ r. not (eqb u r)) (stopsIn rest) s (part s i) (ne-neqb u s (λ e. apart (sym e)))),
+    )
 
 module _ (m : ℕ) (L : Legs) (w : Within m L) (place : ℕ) where
   into-small : (rest : List ℕ) (s : ℕ) → cheapestInto L place rest s ≤ m

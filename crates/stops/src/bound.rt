@@ -38,19 +38,45 @@ pub fn without(set: u32, stop: u32) -> u32
     set - (1u32 << (stop - 1))
 }
 
+// The leg from one place to another.
+fn leg(t: &[[u32; 17]; 17], from: u32, to: u32) -> u32
+    requires { ⌜ (from ≤ 16) × (to ≤ 16) ⌝ }
+    ensures { λ r. ⌜ r ≡ rowLeg (now (t .entry)) from to ⌝ }
+{
+    t[from as usize][to as usize]
+}
+
 // The cheapest leg into s from a place or one of some other stops.
 fn into(t: &[[u32; 17]; 17], place: u32, others: u32, s: u32) -> u32
     requires { ⌜ (place ≤ 16) × ((others < 2 ^ 16) × (s ≤ 16)) ⌝ }
     ensures { λ r. ⌜ r ≡ least (λ p. rowLeg (now (t .entry)) p s) (place ∷ stopsIn others) ⌝ }
 {
-    let mut least = t[place as usize][s as usize];
+    let mut least = leg(t, place, s);
     let mut left = others;
     while left != 0 {
         let r = next(left);
         left = later(left);
-        least = lesser(least, t[r as usize][s as usize]);
+        least = lesser(least, leg(t, r, s));
     }
     least
+}
+
+// The cheapest legs into s and u, together: from a place, from one of some other stops, or from u into s and from s into u. One walk of
+// the other stops finds both.
+fn into_two(t: &[[u32; 17]; 17], place: u32, others: u32, s: u32, u: u32) -> u32
+    requires { ⌜ (place ≤ 16) × ((others < 2 ^ 16) × ((s ≤ 16) × ((u ≤ 16) × Within 1000000 (legs (now t))))) ⌝ }
+    ensures { λ r. ⌜ r ≡ least (λ p. rowLeg (now (t .entry)) p s) (place ∷ u ∷ stopsIn others) + least (λ p. rowLeg (now (t .entry)) p u) (place ∷ s ∷ stopsIn others) ⌝ }
+{
+    let mut a = lesser(leg(t, place, s), leg(t, u, s));
+    let mut b = lesser(leg(t, place, u), leg(t, s, u));
+    let mut left = others;
+    while left != 0 {
+        let r = next(left);
+        left = later(left);
+        a = lesser(a, leg(t, r, s));
+        b = lesser(b, leg(t, r, u));
+    }
+    a + b
 }
 
 // The cheapest leg home from one of some stops.
@@ -59,17 +85,17 @@ fn home(t: &[[u32; 17]; 17], rest: u32) -> u32
     ensures { λ r. ⌜ r ≡ least (λ s. rowLeg (now (t .entry)) s 0) (stopsIn rest) ⌝ }
 {
     let first = next(rest);
-    let mut least = t[first as usize][0];
+    let mut least = leg(t, first, 0);
     let mut left = later(rest);
     while left != 0 {
         let r = next(left);
         left = later(left);
-        least = lesser(least, t[r as usize][0]);
+        least = lesser(least, leg(t, r, 0));
     }
     least
 }
 
-// For each stop to come the cheapest leg into it, and the cheapest leg home.
+// For each stop to come the cheapest leg into it, two stops at a time, and the cheapest leg home.
 fn remainder(t: &[[u32; 17]; 17], place: u32, rest: u32) -> u32
     requires { ⌜ (place ≤ 16) × ((0 < rest) × ((rest < 2 ^ 16) × Within 1000000 (legs (now t)))) ⌝ }
     ensures { λ r. ⌜ r ≡ remainder (legs (now (t .entry))) place (stopsIn rest) ⌝ }
@@ -79,7 +105,13 @@ fn remainder(t: &[[u32; 17]; 17], place: u32, rest: u32) -> u32
     while left != 0 {
         let s = next(left);
         left = later(left);
-        sum += into(t, place, without(rest, s), s);
+        let others = without(rest, s);
+        if left == 0 {
+            return sum + into(t, place, others, s);
+        }
+        let u = next(left);
+        left = later(left);
+        sum += into_two(t, place, without(others, u), s, u);
     }
     sum
 }
@@ -90,7 +122,7 @@ pub fn ahead(t: &[[u32; 17]; 17], number: u32, place: u32, rest: u32) -> u32
     ensures { λ r. ⌜ r ≡ ahead number (legs (now (t .entry))) place (stopsIn rest) ⌝ }
 {
     if rest == 0 {
-        return t[place as usize][0];
+        return leg(t, place, 0);
     }
     if number == 0 {
         return 0;

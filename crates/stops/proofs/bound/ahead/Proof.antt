@@ -3,25 +3,16 @@
 use mathlib.Core.Path.{_∙_}
 use native.Mathlib.Omega.{arith}
 use borrow.Author.Needs.{needs}
-use Rattle.stops.specs.Legs.{rowLeg, legs}
+use Rattle.stops.specs.Legs.{legs}
 use Rattle.stops.proofs.SetLoops.{ahead-none, ahead-plain, ahead-close}
 use Rattle.stops.proofs.bound.ahead.Statement.{statement}
 use Rattle.stops.proofs.bound.ahead.Tie as tie
 
-mul-result : tie.Need-mul-result
-mul-result c = search needs
-
-index-1-result : tie.Need-index-1-result
-index-1-result c = search needs
-
-index-2-result : tie.Need-index-2-result
-index-2-result c = search needs
-
 returns : tie.Need-returns
-unfolding legs rowLeg
+unfolding legs
 returns c =
     let a = c .before .before .args in
-    ahead-none (a .number) (legs (a .t .now)) (a .place) (a .rest) (omega arith)
+    c .leg .ensures ∙ ahead-none (a .number) (legs (a .t .now)) (a .place) (a .rest) (omega arith)
 
 returns-2 : tie.Need-returns-2
 returns-2 c =
@@ -41,9 +32,7 @@ pub ahead-spec : {M : Type 1} → statement M
 ahead-spec =
     tie.close
     (tie.spec
-    mul-result
-    index-1-result
-    index-2-result
+    (λ c κs. search needs)
     returns
     returns-2
     remainder-requires

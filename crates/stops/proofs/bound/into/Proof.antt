@@ -1,6 +1,8 @@
 -- `stops::bound::into` meets its contract. The loop's invariant: the least of what it has and of the legs from the stops left is the
 -- cheapest leg into s. The measure is the set of the stops left, as a number. Assumes nothing.
+use mathlib.Core.Path.{ap, _∙_}
 use mathlib.Core.List.{_∷_}
+use Prim.Native.Nat.{min}
 use native.Mathlib.Omega.{arith}
 use borrow.Author.Needs.{needs}
 use Rattle.lists.specs.Lists.{least}
@@ -22,47 +24,10 @@ first c =
     let l = c .before .before .loop in
     first-out (l .left) (c .next .result) (omega arith) (l .inv .small) (c .next .ensures .0)
 
-mul-least : tie.Need-mul-least Inv-loop μ-loop
-mul-least c = omega arith
-
-mul-least-2 : tie.Need-mul-least-2 Inv-loop μ-loop
-mul-least-2 c = omega arith
-
-index-1-least : tie.Need-index-1-least Inv-loop μ-loop
-index-1-least c = omega arith
-
-index-2-least : tie.Need-index-2-least Inv-loop μ-loop
-index-2-least c = omega arith
-
 loop-holds : tie.Need-loop-holds Inv-loop μ-loop
-unfolding rowLeg
 loop-holds c =
     let a = c .before .args in
-    lowered-starts (λ p. rowLeg (a .t .now) p (a .s)) (a .place) (a .others) (c .before .pre .1 .0)
-
-next-requires : tie.Need-next-requires Inv-loop μ-loop
-next-requires c κs = search needs
-
-later-requires : tie.Need-later-requires Inv-loop μ-loop
-later-requires c κs = search needs
-
-cast-lesser : tie.Need-cast-lesser Inv-loop μ-loop
-cast-lesser c = omega arith
-
-mul-lesser : tie.Need-mul-lesser Inv-loop μ-loop
-mul-lesser c = omega arith
-
-mul-lesser-2 : tie.Need-mul-lesser-2 Inv-loop μ-loop
-mul-lesser-2 c = omega arith
-
-index-1-lesser : tie.Need-index-1-lesser Inv-loop μ-loop
-index-1-lesser c = omega arith
-
-index-2-lesser : tie.Need-index-2-lesser Inv-loop μ-loop
-index-2-lesser c = omega arith
-
-lesser-requires : tie.Need-lesser-requires Inv-loop μ-loop
-lesser-requires c κs = search needs
+    rw (c .leg .ensures) (lowered-starts (λ p. rowLeg (a .t .now) p (a .s)) (a .place) (a .others) (c .before .pre .1 .0))
 
 loop-less : tie.Need-loop-less Inv-loop μ-loop
 loop-less c =
@@ -70,11 +35,11 @@ loop-less c =
     omega (arith, first n .less, first-later _ _ _ (n .next .ensures .0) (c .before .before .later .ensures))
 
 loop-again : tie.Need-loop-again Inv-loop μ-loop
-unfolding rowLeg
 loop-again c =
     let n = c .before .before .before in
+    let l = n .before .before .loop in
     let rest = first-later _ _ _ (n .next .ensures .0) (c .before .before .later .ensures) in
-    lowered-again (n .next .result) (n .before .before .loop .inv) (first n) rest (c .lesser .ensures)
+    lowered-again (n .next .result) (l .inv) (first n) rest (c .lesser .ensures ∙ ap (min (l .least)) (c .before .leg2 .ensures))
 
 returns : tie.Need-returns Inv-loop μ-loop
 returns c = lowered-ends (c .before .loop .inv) (omega arith)
@@ -85,19 +50,12 @@ into-spec =
     (tie.spec
     Inv-loop
     μ-loop
-    mul-least
-    mul-least-2
-    index-1-least
-    index-2-least
+    (λ c κs. omega arith)
     loop-holds
-    next-requires
-    later-requires
-    cast-lesser
-    mul-lesser
-    mul-lesser-2
-    index-1-lesser
-    index-2-lesser
-    lesser-requires
+    (λ c κs. search needs)
+    (λ c κs. search needs)
+    (λ c κs. omega arith)
+    (λ c κs. search needs)
     loop-less
     loop-again
     returns)

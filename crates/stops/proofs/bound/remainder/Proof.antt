@@ -1,8 +1,8 @@
 -- `stops::bound::remainder` meets its contract. The loop's invariant: the sum so far and the cheapest legs into the stops left make the
 -- remainder, and the stops left are of the set. The remainder is at most 17,000,000, so no sum on the way wraps. The measure is the
 -- set of the stops left, as a number. Assumes nothing.
-use mathlib.Core.Path.{_≡_, ap}
-use Prim.Native.Nat.{ℕ, _+_}
+use mathlib.Core.Path.{_≡_, refl, ap, _∙_}
+use Prim.Native.Nat.{ℕ, _+_, _-_, _^_, _≤_}
 use native.Mathlib.Omega.{arith}
 use borrow.Author.Needs.{needs}
 use Rattle.lists.specs.Lists.{In}
@@ -10,16 +10,29 @@ use Rattle.stops.specs.Legs.{legs}
 use Rattle.stops.specs.Bounds.{cheapestInto, remainder}
 use Rattle.stops.specs.Record.{stopsIn}
 use Rattle.stops.proofs.SetBits.{stopsIn-few}
-use Rattle.stops.proofs.SetLoops.{First, first-out, first-later, Summed, summed-starts, summed-most, summed-again, summed-ends, into-set, remainder-small}
+use Rattle.stops.proofs.SetLoops.{
+  First,
+  first-out,
+  first-later,
+  Summed,
+  summed-starts,
+  summed-most,
+  summed-again,
+  summed-ends,
+  into-set,
+  into-pair,
+  pair-in,
+  remainder-small,
+}
 use Rattle.stops.proofs.bound.remainder.Statement.{statement}
 use Rattle.stops.proofs.bound.remainder.Tie as tie
 
 abbrev Inv-loop : tie.InvT-loop
-Inv-loop t place rest total₀ left₀ total left =
-    Summed (cheapestInto (legs t) place (stopsIn rest)) rest (remainder (legs t) place (stopsIn rest)) total left
+Inv-loop t place rest sum₀ left₀ sum left =
+    Summed (cheapestInto (legs t) place (stopsIn rest)) rest (remainder (legs t) place (stopsIn rest)) sum left
 
 abbrev μ-loop : tie.MeasureT-loop
-μ-loop t place rest total₀ left₀ total left = left
+μ-loop t place rest sum₀ left₀ sum left = left
 
 -- what `next` gives is the first of the stops left
 first : (c : tie.After-next Inv-loop μ-loop) → First (c .before .before .loop .left) (c .next .result)
@@ -31,18 +44,93 @@ first c =
 first-in : (c : tie.After-next Inv-loop μ-loop) → In (c .next .result) (stopsIn (c .before .before .before .before .args .rest))
 first-in c = c .before .before .loop .inv .part (c .next .result) (first c .member)
 
--- what `into` gives is the cheapest leg into it
-into-value :
+left-is : (c : tie.After-later Inv-loop μ-loop) → c .later .result ≡ c .before .before .before .loop .left - 2 ^ (c .before .next .result - 1)
+left-is c = first-later _ _ _ (c .before .next .ensures .0) (c .later .ensures)
+
+-- what is left without it
+passed :
+    (c : tie.After-later Inv-loop μ-loop) →
+    let a = c .before .before .before .before .before .args in
+    let f = cheapestInto (legs (a .t .now)) (a .place) (stopsIn (a .rest)) in
+    Summed f (a .rest) (remainder (legs (a .t .now)) (a .place) (stopsIn (a .rest))) (c .before .before .before .loop .sum + f (c .before .next .result)) (c .later .result)
+passed c =
+    let n = c .before in
+    let a = c .before .before .before .before .before .args in
+    let f = cheapestInto (legs (a .t .now)) (a .place) (stopsIn (a .rest)) in
+    let l = n .before .before .loop in
+    let more : l .sum + f (n .next .result) ≡ l .sum + f (n .next .result) = refl in
+    summed-again (l .inv) (n .next .result) (first n) (left-is c) more
+
+-- where it is the last one, what `into` gives is the cheapest leg into it
+last-value :
     (c : tie.After-into Inv-loop μ-loop) →
-    let n = c .before .before .before in
+    let n = c .before .before .before .before in
     let a = n .before .before .before .before .args in
     c .into .result ≡ cheapestInto (legs (a .t .now)) (a .place) (stopsIn (a .rest)) (n .next .result)
-into-value c =
-    let n = c .before .before .before in
+last-value c =
+    let n = c .before .before .before .before in
     let b = n .before .before .before .before in
     let a = b .args in
-    let o = c .before .without in
-    rw (c .into .ensures) (into-set (a .t .now) (a .place) (a .rest) (o .result) (n .next .result) (b .pre .1 .1 .0) (first-in n) (o .ensures))
+    let o = c .before .before .without in
+    c .into .ensures ∙ into-set (a .t .now) (a .place) (a .rest) (o .result) (n .next .result) (b .pre .1 .1 .0) (first-in n) (o .ensures)
+
+-- else there is a second one
+second : (c : tie.After-next2 Inv-loop μ-loop) → First (c .before .before .before .later .result) (c .next2 .result)
+second c =
+    let q = c .before .before .before in
+    first-out (q .later .result) (c .next2 .result) (omega arith) (passed q .small) (c .next2 .ensures .0)
+
+pair :
+    (c : tie.After-next2 Inv-loop μ-loop) →
+    let n = c .before .before .before .before in
+    let rest = n .before .before .before .before .args .rest in
+    let s = n .next .result in
+    let u = c .next2 .result in
+    In u (stopsIn (rest - 2 ^ (s - 1))) × In s (stopsIn (rest - 2 ^ (u - 1)))
+pair c =
+    let q = c .before .before .before in
+    let n = q .before in
+    let l = n .before .before .loop in
+    let b = n .before .before .before .before in
+    pair-in (b .args .rest) (l .left) (n .next .result) (c .next2 .result) (b .pre .1 .1 .0) (l .inv .small) (l .inv .part) (first n .member)
+    (rw (← left-is q) (second c .member))
+
+-- and what `into_two` gives is the two cheapest legs
+two-values :
+    (c : tie.After-into-two Inv-loop μ-loop) →
+    let d = c .before .before .before in
+    let n = d .before .before .before .before in
+    let a = n .before .before .before .before .args in
+    let f = cheapestInto (legs (a .t .now)) (a .place) (stopsIn (a .rest)) in
+    c .into-two .result ≡ f (n .next .result) + f (d .next2 .result)
+two-values c =
+    let d = c .before .before .before in
+    let q = d .before .before .before in
+    let n = q .before in
+    let b = n .before .before .before .before in
+    let a = b .args in
+    let s = n .next .result in
+    let u = d .next2 .result in
+    let others = c .before .without2 .result in
+    let e : others ≡ a .rest - 2 ^ (s - 1) - 2 ^ (u - 1) = rw (← d .before .before .without .ensures) (c .before .without2 .ensures) in
+    let e′ : others ≡ a .rest - 2 ^ (u - 1) - 2 ^ (s - 1) = omega arith in
+    let both = pair d in
+    let small = b .pre .1 .1 .0 in
+    let u-in = passed q .part u (second d .member) in
+    rw (c .into-two .ensures, into-pair (a .t .now) (a .place) (a .rest) others s u small (first-in n) (both .0) e)
+    (ap (λ (v : ℕ). cheapestInto (legs (a .t .now)) (a .place) (stopsIn (a .rest)) s + v)
+    (into-pair (a .t .now) (a .place) (a .rest) others u s small u-in (both .1) e′))
+
+-- the remainder is small
+most :
+    (c : tie.Start Inv-loop μ-loop) → remainder (legs (c .args .t .now)) (c .args .place) (stopsIn (c .args .rest)) ≤ 17000000
+most c =
+    let a = c .args in
+    omega (
+      arith,
+      remainder-small 1000000 (legs (a .t .now)) (c .pre .1 .1 .1) (a .place) (stopsIn (a .rest)),
+      stopsIn-few (a .rest) (c .pre .1 .1 .0),
+    )
 
 home-requires : tie.Need-home-requires Inv-loop μ-loop
 home-requires c κs = search needs
@@ -51,45 +139,58 @@ loop-holds : tie.Need-loop-holds Inv-loop μ-loop
 unfolding legs remainder
 loop-holds c = summed-starts (c .before .pre .1 .1 .0) (rw (c .home .ensures))
 
-next-requires : tie.Need-next-requires Inv-loop μ-loop
-next-requires c κs = search needs
-
-later-requires : tie.Need-later-requires Inv-loop μ-loop
-later-requires c κs = search needs
-
 without-requires : tie.Need-without-requires Inv-loop μ-loop
 without-requires c κs = (c .before .before .before .before .before .pre .1 .1 .0, first-in (c .before))
 
-into-requires : tie.Need-into-requires Inv-loop μ-loop
-into-requires c κs = omega arith
+add-result : tie.Need-add-result Inv-loop μ-loop
+add-result c =
+    let n = c .before .before .before .before in
+    omega (arith, last-value c, summed-most (n .before .before .loop .inv) (n .next .result) (first n), most (n .before .before .before .before))
+
+returns : tie.Need-returns Inv-loop μ-loop
+returns c =
+    let q = c .before .before .before in
+    ap (λ (v : ℕ). q .before .before .before .loop .sum + v) (last-value c) ∙ summed-ends (passed q) (omega arith)
+
+without-requires-2 : tie.Need-without-requires-2 Inv-loop μ-loop
+without-requires-2 c κs =
+    let d = c .before in
+    let o = d .before .before in
+    let small = o .before .before .before .before .before .before .pre .1 .1 .0 in
+    (omega (arith, o .without .ensures), rw (o .without .ensures) (pair d .0))
+
+into-two-requires : tie.Need-into-two-requires Inv-loop μ-loop
+into-two-requires c κs =
+    let b = c .before .before .before .before .before .before .before .before .before .before in
+    (b .pre .0, (omega (arith, c .without2 .ensures, c .before .before .before .before .without .ensures), (omega arith, (omega arith, b .pre .1 .1 .1))))
 
 add-sum : tie.Need-add-sum Inv-loop μ-loop
 add-sum c =
-    let n = c .before .before .before in
-    let b = n .before .before .before .before in
-    let a = b .args in
-    omega (
-      arith,
-      into-value c,
-      summed-most (n .before .before .loop .inv) (n .next .result) (first n),
-      remainder-small 1000000 (legs (a .t .now)) (b .pre .1 .1 .1) (a .place) (stopsIn (a .rest)),
-      stopsIn-few (a .rest) (b .pre .1 .1 .0),
-    )
+    let d = c .before .before .before in
+    let q = d .before .before .before in
+    omega (arith, two-values c, summed-most (passed q) (d .next2 .result) (second d), most (q .before .before .before .before .before))
 
 loop-less : tie.Need-loop-less Inv-loop μ-loop
 loop-less c =
-    let n = c .before .before .before in
-    omega (arith, first n .less, first-later _ _ _ (n .next .ensures .0) (c .before .before .later .ensures))
+    let d = c .before .before .before in
+    let q = d .before .before .before in
+    omega (
+      arith,
+      first (q .before) .less,
+      left-is q,
+      second d .less,
+      first-later _ _ _ (d .next2 .ensures .0) (c .before .before .later2 .ensures),
+    )
 
 loop-again : tie.Need-loop-again Inv-loop μ-loop
 loop-again c =
-    let n = c .before .before .before in
-    let l = n .before .before .loop in
-    let rest = first-later _ _ _ (n .next .ensures .0) (c .before .before .later .ensures) in
-    summed-again (l .inv) (n .next .result) (first n) rest (ap (λ (v : ℕ). l .sum + v) (into-value c))
+    let d = c .before .before .before in
+    let q = d .before .before .before in
+    let rest = first-later _ _ _ (d .next2 .ensures .0) (c .before .before .later2 .ensures) in
+    summed-again (passed q) (d .next2 .result) (second d) rest (omega (arith, two-values c))
 
-returns : tie.Need-returns Inv-loop μ-loop
-returns c = summed-ends (c .before .loop .inv) (omega arith)
+returns-2 : tie.Need-returns-2 Inv-loop μ-loop
+returns-2 c = summed-ends (c .before .loop .inv) (omega arith)
 
 pub remainder-spec : {M : Type 1} → statement M
 remainder-spec =
@@ -99,11 +200,17 @@ remainder-spec =
     μ-loop
     home-requires
     loop-holds
-    next-requires
-    later-requires
+    (λ c κs. search needs)
+    (λ c κs. search needs)
     without-requires
-    into-requires
+    (λ c κs. omega arith)
+    add-result
+    returns
+    (λ c κs. (omega arith, passed (c .before .before) .small))
+    (λ c κs. (omega arith, passed (c .before .before .before) .small))
+    without-requires-2
+    into-two-requires
     add-sum
     loop-less
     loop-again
-    returns)
+    returns-2)

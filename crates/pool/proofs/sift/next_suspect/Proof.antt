@@ -1,0 +1,92 @@
+-- `next_suspect` meets its contract. The invariant of both loops: no record from `from` to i is a suspect. Assumes nothing.
+use mathlib.Core.Path.{_≡_}
+use mathlib.Core.Bool.{true, false, not}
+use Prim.Native.Nat.{_+_, _-_, _≤_}
+use native.Mathlib.Omega.{arith}
+use borrow.Author.Needs.{needs}
+use lib.ListN.{getD}
+use lib.Seq.{slice}
+use Rattle.lists.specs.Lists.{any}
+use Rattle.stops.specs.Record.{emptyRecord}
+use Rattle.records.specs.View.{records}
+use Rattle.pool.specs.Staying.{isSuspect}
+use Rattle.records.proofs.SliceLaws.{AllSo, all-so-none, all-so-four, all-so-more}
+use Rattle.pool.proofs.sift.next_suspect.Statement.{statement}
+use Rattle.pool.proofs.sift.next_suspect.Tie as tie
+
+abbrev Inv-loop : tie.InvT-loop
+Inv-loop w from to limit size base i₀ i = ((from ≤ i) × (i ≤ to)) × AllSo (isSuspect limit size base) emptyRecord (records w) from false i
+
+abbrev μ-loop : tie.MeasureT-loop
+μ-loop w from to limit size base i₀ i = to - i
+
+abbrev Inv-loop2 : tie.InvT-loop2
+Inv-loop2 w from to limit size base i₀ i = Inv-loop w from to limit size base i₀ i
+
+abbrev μ-loop2 : tie.MeasureT-loop2
+μ-loop2 w from to limit size base i₀ i = to - i
+
+loop-holds : tie.Need-loop-holds Inv-loop μ-loop Inv-loop2 μ-loop2
+loop-holds c =
+    let a = c .before .args in
+    (omega arith, all-so-none (isSuspect (a .limit) (a .size) (a .base)) emptyRecord (records (a .w .now)) (a .from) false)
+
+loop-again : tie.Need-loop-again Inv-loop μ-loop Inv-loop2 μ-loop2
+loop-again c =
+    let loop = c .before .before .before .loop in
+    let a = c .before .before .before .before .before .args in
+    let test = isSuspect (a .limit) (a .size) (a .base) in
+    let l = records (a .w .now) in
+    let none : not (any test (slice (loop .i) (loop .i + 4) l)) ≡ true = rw (← c .before .four-suspect .ensures) (c .if1 .taken) in
+    (omega arith, all-so-four test emptyRecord l (a .from) (loop .i) (omega arith) (omega arith) (loop .inv .1) none)
+
+loop2-holds : tie.Need-loop2-holds Inv-loop μ-loop Inv-loop2 μ-loop2
+loop2-holds c = c .before .loop .inv
+
+returns : tie.Need-returns Inv-loop μ-loop Inv-loop2 μ-loop2
+returns c =
+    let loop = c .before .before .before .before .loop2 in
+    record {
+      from-there = omega arith;
+      up-to = omega arith;
+      all-so = loop .inv .1;
+      met = λ h. rw (← c .before .before .load .ensures, ← c .before .suspect .ensures) (c .if2 .taken);
+    }
+
+loop2-again : tie.Need-loop2-again Inv-loop μ-loop Inv-loop2 μ-loop2
+loop2-again c =
+    let loop = c .before .before .before .before .loop2 in
+    let a = c .before .before .before .before .before .before .before .before .args in
+    let test = isSuspect (a .limit) (a .size) (a .base) in
+    let l = records (a .w .now) in
+    let missed : test (getD l (loop .i) emptyRecord) ≡ false =
+    rw (← c .before .before .load .ensures, ← c .before .suspect .ensures) (c .if2 .left) in
+    (omega arith, all-so-more test emptyRecord l (a .from) false (loop .i) (omega arith) (omega arith) (loop .inv .1) missed)
+
+returns-2 : tie.Need-returns-2 Inv-loop μ-loop Inv-loop2 μ-loop2
+returns-2 c =
+    let all : c .before .loop2 .i ≡ c .before .before .before .before .before .args .to = omega arith in
+    record { from-there = omega arith; up-to = omega arith; all-so = rw all at (c .before .loop2 .inv .1); met = λ h. absurd (omega arith) }
+
+pub next-suspect-spec : {M : Type 1} → statement M
+next-suspect-spec =
+    tie.close
+    (tie.spec
+    Inv-loop
+    μ-loop
+    Inv-loop2
+    μ-loop2
+    loop-holds
+    (λ c. omega arith)
+    (λ c κs. omega arith)
+    (λ c. omega arith)
+    (λ c. omega arith)
+    loop-again
+    loop2-holds
+    (λ c κs. omega arith)
+    (λ c κs. search needs)
+    returns
+    (λ c. omega arith)
+    (λ c. omega arith)
+    loop2-again
+    returns-2)
