@@ -74,6 +74,11 @@ impl Kin {
     }
 }
 
+#[inline(always)]
+fn first(set: u32) -> usize {
+    set.trailing_zeros() as usize + 1
+}
+
 /// The stops of a set, lowest first.
 struct Stops(u32);
 
@@ -84,13 +89,13 @@ impl Iterator for Stops {
         if self.0 == 0 {
             return None;
         }
-        let s = self.0.trailing_zeros();
+        let s = first(self.0);
         self.0 &= self.0 - 1;
-        Some(s as usize + 1)
+        Some(s)
     }
 }
 
-/// What the bound adds to the path cost.
+/// What the bound adds to the path cost: the cheapest legs into two stops at a time, and the cheapest leg home.
 #[inline(always)]
 pub fn ahead(job: &Job, place: usize, rest: u32) -> u32 {
     if rest == 0 {
@@ -99,16 +104,24 @@ pub fn ahead(job: &Job, place: usize, rest: u32) -> u32 {
     if job.bound == 0 {
         return 0;
     }
-    let (mut sum, mut home) = (0, NONE);
-    for s in Stops(rest) {
-        let mut into = job.leg(place, s);
-        for r in Stops(rest & !(1 << (s - 1))) {
-            into = into.min(job.leg(r, s));
+    let (mut sum, mut left) = (0, rest);
+    while left & left.wrapping_sub(1) != 0 {
+        let s = first(left);
+        left &= left - 1;
+        let u = first(left);
+        left &= left - 1;
+        let mut into = (job.leg(place, s).min(job.leg(u, s)), job.leg(place, u).min(job.leg(s, u)));
+        for r in Stops(rest & !(1 << (s - 1)) & !(1 << (u - 1))) {
+            into.0 = into.0.min(job.leg(r, s));
+            into.1 = into.1.min(job.leg(r, u));
         }
-        sum += into;
-        home = home.min(job.leg(s, 0));
+        sum += into.0 + into.1;
     }
-    sum + home
+    if left != 0 {
+        let s = first(left);
+        sum += Stops(rest & !(1 << (s - 1))).fold(job.leg(place, s), |into, r| into.min(job.leg(r, s)));
+    }
+    sum + Stops(rest).fold(NONE, |home, s| home.min(job.leg(s, 0)))
 }
 
 /// Writes b's children and says how many there are.
