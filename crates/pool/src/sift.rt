@@ -93,7 +93,7 @@ pub fn staying(
 fn suspect(x: Node, limit: u32, size: u32, base: u32) -> bool
     ensures { λ b. ⌜ b ≡ isSuspect limit size base x ⌝ }
 {
-    if limit < x.bound {
+    if x.bound > limit {
         return true;
     }
     near(x, size, base)
