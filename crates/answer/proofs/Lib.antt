@@ -1,4 +1,5 @@
 pub mod Passes
+pub mod JobCause
 pub mod Instance
 pub mod Ending
 pub mod Counting

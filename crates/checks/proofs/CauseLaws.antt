@@ -17,7 +17,7 @@ use Rattle.orders.specs.Orders.{isOrder}
 use Rattle.stops.specs.Legs.{entry}
 use Rattle.answer.specs.Call.{Call, callOf}
 use Rattle.answer.specs.Checks.{cause₁, cause₂, cause₃, cause₄, cause₅, isEmpty, orLater, jobCause}
-use Rattle.checks.proofs.JobCause.{First, first-later, first-or}
+use Rattle.answer.proofs.JobCause.{First, first-later, first-or}
 
 -- some leg is above 1,000,000; some entry of the diagonal is not 0
 abbrev large : Call → Bool

@@ -1,3 +1,2 @@
-pub mod JobCause
 pub mod OrderLaws
 pub mod CauseLaws

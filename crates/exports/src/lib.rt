@@ -3,7 +3,7 @@
 ghost use mathlib.Core.Path.{_≡_};
 ghost use Rattle.answer.specs.Call.{callOf};
 ghost use Rattle.planner.specs.Promise.{Promised};
-ghost use Rattle.job_file.specs.Reader.{read};
+ghost use Rattle.job_format.specs.Reader.{read};
 ghost use Rattle.job_file.specs.Promise.{returned, jobOf, Promised as PromisedFile};
 use job_file::reader::Reading;
 use job_file::writer::Written;

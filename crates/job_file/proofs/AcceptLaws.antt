@@ -1,9 +1,11 @@
 -- The job of a file whose length and places are those of the layout, as `accept` finds it.
+--   layout-laid           such a file is long enough
 --   Found                 what the code has read is what the trailer and the file say
 --   found-short           a starting order that the checks let pass has at most sixteen stops
 --   accept-refuses, accept-returns    the two answers
 -- Assumes nothing.
 use mathlib.Core.Path.{_≡_, refl, ap, sym, _∙_}
+use mathlib.Core.Bool.{false}
 use mathlib.Core.List.{List, []}
 use mathlib.Core.Logic.{_≢_}
 use Prim.Native.Nat.{ℕ, zero, suc, _+_, _*_, _-_, _≤_}
@@ -12,14 +14,25 @@ use lib.ListN.{length, getD, take, drop, length-drop}
 use lib.Seq.{length-take-le}
 use Rattle.records.specs.Records.{padded}
 use Rattle.answer.specs.Call.{Call, callOf, orderPlaces}
-use Rattle.answer.specs.Checks.{jobCause}
-use Rattle.job_file.specs.Job.{Job, callFor, area, startPlaceOf}
-use Rattle.job_file.specs.Reader.{numbersIn, trailerFrom, jobBy, refusal, readingBy}
+use Rattle.answer.specs.Checks.{cause₁, jobCause}
+use Rattle.job_format.specs.Job.{Job, callFor, trailerLength, area, startPlaceOf, fileLength}
+use Rattle.job_format.specs.Reader.{numbersIn, trailerFrom, jobBy, misplaced, refusal, readingBy}
 use Rattle.job_file.specs.Promise.{tablePlaces, returned}
 use Rattle.job_file.specs.Code.{checked, Laid}
 use Rattle.job_file.specs.declared.reader.Reading.{Reading as Returned}
-use Rattle.job_file.proofs.ByteLaws.{length-numbers, take-padded}
-use Rattle.job_file.proofs.JobLaws.{passed}
+use Rattle.job_format.proofs.ByteLaws.{length-numbers, take-padded}
+use Rattle.job_format.proofs.JobLaws.{passed}
+use Rattle.job_format.proofs.LayoutLaws.{layout-of}
+use Rattle.job_format.proofs.ReadLaws.{few-stops, length-last}
+
+pub layout-laid :
+    (file trailer : List ℕ) → trailer ≡ drop (length file - trailerLength) file → trailerLength ≤ length file
+    → (n : ℕ) → n ≡ getD trailer 8 0 → cause₁ (callOf n [] 0 0 0 [] []) ≡ false → misplaced (trailerFrom trailer) (length file) ≡ false
+    → Laid file trailer n
+unfolding trailerFrom
+layout-laid file trailer last long n e f g =
+    let fits : length file ≡ fileLength (getD trailer 8 0) (getD trailer 9 0) = layout-of (trailerFrom trailer) (length file) g .whole in
+    record { whole = length-last file trailer last long; stands = e; few = few-stops n f; inside = rw e (omega arith) }
 
 -- the part of the file that the code takes for the starting order
 abbrev orderPart : ℕ → ℕ → List ℕ → List ℕ

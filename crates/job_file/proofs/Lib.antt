@@ -1,11 +1,3 @@
-pub mod ByteLaws
-pub mod JobLaws
-pub mod LayoutLaws
 pub mod AcceptLaws
 pub mod WriterLaws
-pub mod ReadLaws
-pub mod FileLaws
-pub mod Accepted
-pub mod Returned
-pub mod RoundTrip
-pub mod Refusals
+pub mod Returns

@@ -3,29 +3,22 @@
 --   table-small        the starting order's place fits 32 bits
 --   lent-written       a part of the buffer, behind what is written, is lent and comes back written
 --   parts-written      the three parts of a file
---   cause-refuses, buffer-refuses, file-written    what each test of the writer decides
 -- Assumes nothing.
-use mathlib.Core.Path.{_≡_, refl, ap, sym, _∙_}
+use mathlib.Core.Path.{_≡_, refl, ap, _∙_}
 use mathlib.Core.List.{List, [], _++_, append-nil}
-use mathlib.Core.Logic.{_≢_}
-use Prim.Native.Nat.{ℕ, zero, suc, _+_, _*_, _-_, _≤_, _<_}
+use Prim.Native.Nat.{ℕ, _+_, _*_, _-_, _≤_}
 use native.Mathlib.Omega.{arith}
-use lib.Dec.{ltb}
-use lib.ListN.{length, drop, set, length-append}
+use lib.ListN.{length, set, length-append}
 use lib.Seq.{sets, drop-length}
-use borrow.Author.Tests.{lt-ltb, le-ltb}
 use borrow.Rule.Slice.PartMut.{midOf, putMid, post-is}
 use Rattle.stops.proofs.RowLaws.{part-from}
 use Rattle.lists.specs.Lists.{each}
-use Rattle.answer.specs.Checks.{orLater, jobCause}
-use Rattle.checks.proofs.JobCause.{job-first}
-use Rattle.job_file.specs.Bytes.{number, overwrite}
-use Rattle.job_file.specs.Job.{Job, callFor, area, trailerOf, trailerBytes, bytesOf}
-use Rattle.job_file.specs.Writer.{Writing, writeCause, writingBy, write}
+use Rattle.job_format.specs.Bytes.{number, overwrite}
+use Rattle.job_format.specs.Job.{area, trailerOf, trailerBytes, bytesOf}
 use Rattle.job_file.specs.Promise.{jobOf}
 use Rattle.job_file.specs.Code.{trailerBy, Fits}
-use Rattle.job_file.proofs.ByteLaws.{overwrite-next, overwrite-behind, length-overwrite, length-each-number}
-use Rattle.job_file.proofs.LayoutLaws.{area-small}
+use Rattle.job_format.proofs.ByteLaws.{overwrite-next, overwrite-behind, length-overwrite, length-each-number}
+use Rattle.job_format.proofs.LayoutLaws.{area-small}
 
 pub trailer-written :
     (buffer : List ℕ) (place n len selection rules bound : ℕ) → 13 ≤ length buffer
@@ -74,31 +67,3 @@ module _ (n : ℕ) (table : List ℕ) (selection rules bound : ℕ) (start buffe
       let both : length (t ++ start) ≡ end = omega (arith, length-append t start) in
       let written : w′ ≡ overwrite (t ++ start) buffer = g ∙ lent-written t start buffer w v place long (omega arith) e f in
       lent-written (t ++ start) _ buffer w′ v′ end both room written (h ∙ rw (trailer-is (fits .square)))
-
-module _ (j : Job) (buffer : List ℕ) where
-  by-number : (k : ℕ) → writeCause j buffer ≡ k → write j buffer ≡ writingBy k j buffer
-  unfolding write
-  by-number k e = rw e
-
-  pub cause-refuses :
-      (k : ℕ) → k ≡ jobCause (callFor j) 0 → k ≢ 0
-      → _≡_ {A = Writing} (record { number = k; length = 0; buffer = buffer }) (write j buffer)
-  unfolding writeCause writingBy
-  cause-refuses zero e h = absurd (h refl)
-  cause-refuses (suc k) e h = sym (by-number (suc k) (sym (job-first (callFor j) .own (λ z. h (e ∙ z)) _) ∙ sym e))
-
-  module _ (e : jobCause (callFor j) 0 ≡ 0) where
-    later : writeCause j buffer ≡ orLater (ltb (length buffer) (length (bytesOf j))) 10 0
-    unfolding writeCause
-    later = job-first (callFor j) .none e _
-
-    pub buffer-refuses :
-        length buffer < length (bytesOf j) → _≡_ {A = Writing} (record { number = 10; length = 0; buffer = buffer }) (write j buffer)
-    unfolding writingBy
-    buffer-refuses h = sym (by-number 10 (later ∙ rw (lt-ltb _ _ h)))
-
-    pub file-written :
-        (len : ℕ) (left : List ℕ) → len ≡ length (bytesOf j) → len ≤ length buffer → left ≡ overwrite (bytesOf j) buffer
-        → _≡_ {A = Writing} (record { number = 0; length = len; buffer = left }) (write j buffer)
-    unfolding writingBy
-    file-written len left l h same = rw (l, same) (sym (by-number 0 (later ∙ rw (le-ltb (length buffer) (length (bytesOf j)) (omega arith)))))

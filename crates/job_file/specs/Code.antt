@@ -10,8 +10,8 @@ use mathlib.Core.List.{List}
 use Prim.Native.Nat.{ℕ, _+_, _≤_, _<_}
 use lib.ListN.{length, getD}
 use Rattle.answer.specs.Checks.{jobCause}
-use Rattle.job_file.specs.Job.{Job, callFor, Trailer, trailerLength, area, startPlaceOf, fileLength}
-use Rattle.job_file.specs.Reader.{Reading, readingBy}
+use Rattle.job_format.specs.Job.{Job, callFor, Trailer, trailerLength, area, startPlaceOf, fileLength}
+use Rattle.job_format.specs.Reader.{Reading, readingBy}
 
 unfoldable pub checked : Job → Reading
 checked j = readingBy (jobCause (callFor j) 0) j

@@ -1,7 +1,2 @@
-pub mod Bytes
-pub mod Job
-pub mod Reader
-pub mod Writer
 pub mod Promise
 pub mod Code
-pub mod Cases

@@ -6,9 +6,9 @@ use Prim.Native.Nat.{ℕ}
 use lib.ListN.{length, take}
 use Rattle.records.specs.Records.{padded}
 use Rattle.answer.specs.Call.{orderPlaces}
-use Rattle.job_file.specs.Job.{Job, area}
-use Rattle.job_file.specs.Reader.{Reading}
-use Rattle.job_file.specs.Writer.{Writing, write}
+use Rattle.job_format.specs.Job.{Job, area}
+use Rattle.job_format.specs.Reader.{Reading}
+use Rattle.job_format.specs.Writer.{Writing, write}
 use Rattle.job_file.specs.declared.reader.Reading.{Reading as Returned}
 use Rattle.job_file.specs.declared.writer.Written.{Written}
 

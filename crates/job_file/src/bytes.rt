@@ -3,7 +3,7 @@ ghost use mathlib.Core.Path.{_≡_};
 ghost use Prim.Native.Nat.{_+_, _≤_, _<_};
 ghost use lib.ListN.{length};
 ghost use lib.Seq.{sets};
-ghost use Rattle.job_file.specs.Bytes.{numberBytes, number, numberAt, overwrite};
+ghost use Rattle.job_format.specs.Bytes.{numberBytes, number, numberAt, overwrite};
 
 // A byte as a number of 32 bits.
 pub fn wide(x: u8) -> u32

@@ -24,7 +24,7 @@ use Rattle.records.proofs.Mask.{mask-stops, stops-left}
 use Rattle.answer.specs.Call.{callOf}
 use Rattle.answer.specs.Checks.{cause₆, jobCause}
 use Rattle.answer.proofs.Passes.{Passes, passes}
-use Rattle.checks.proofs.JobCause.{job-passes}
+use Rattle.answer.proofs.JobCause.{job-passes}
 use Rattle.node_records.specs.Numbers.{ofNumbers}
 use Rattle.node_records.specs.Nodes.{stopAt, flownStops, isRecordOf, isNode}
 use Rattle.node_records.specs.Answers.{isInside, recordAt, found, noFigures, figuresBy, figures}

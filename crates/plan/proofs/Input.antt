@@ -9,7 +9,7 @@ use lib.Dec.{ltb}
 use lib.ListN.{length, take, length-take}
 use lib.Seq.{take-all}
 use borrow.Author.Tests.{ltb-true, ltb-false}
-use Rattle.job_file.specs.Job.{longest}
+use Rattle.job_format.specs.Job.{longest}
 use Rattle.plan.specs.Output.{output}
 use Rattle.plan.proofs.OutputLaws.{long-output}
 

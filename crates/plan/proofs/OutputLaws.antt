@@ -14,13 +14,13 @@ use borrow.Author.Tests.{lt-ltb, le-ltb}
 use Rattle.records.specs.Records.{padded}
 use Rattle.answer.specs.Call.{Report, Answer, callOf, orderPlaces}
 use Rattle.answer.specs.Answer.{answer}
-use Rattle.job_file.specs.Job.{Job, area, longest}
-use Rattle.job_file.specs.Reader.{read}
+use Rattle.job_format.specs.Job.{Job, area, longest}
+use Rattle.job_format.specs.Reader.{read}
 use Rattle.job_file.specs.Promise.{tablePlaces, returned, jobOf, jobFrom}
 use Rattle.job_file.specs.declared.reader.Reading.{Reading as Returned}
-use Rattle.job_file.proofs.JobLaws.{Passed, passed}
-use Rattle.job_file.proofs.Accepted.{accepted-passes}
-use Rattle.job_file.proofs.Returned.{job-returned}
+use Rattle.job_format.proofs.JobLaws.{Passed, passed}
+use Rattle.job_format.proofs.Accepted.{accepted-passes}
+use Rattle.job_file.proofs.Returns.{job-returned}
 use Rattle.printing.specs.Printed.{refusedLine, printed}
 use Rattle.printing.specs.Promise.{textPlaces, textOf}
 use Rattle.printing.specs.declared.Text.{Text}

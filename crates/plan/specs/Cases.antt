@@ -7,9 +7,9 @@ use lib.ListN.{replicate}
 use Rattle.lists.specs.Lists.{each}
 use Rattle.answer.specs.Call.{callOf}
 use Rattle.answer.specs.Cases.{computed, tableT}
-use Rattle.job_file.specs.Bytes.{number, numberAt}
-use Rattle.job_file.specs.Job.{callFor}
-use Rattle.job_file.specs.Reader.{trailerFrom, trailerIn, numbersIn, jobBy, jobIn, misplaced, fileCause, refusal, readingBy, read}
+use Rattle.job_format.specs.Bytes.{number, numberAt}
+use Rattle.job_format.specs.Job.{callFor}
+use Rattle.job_format.specs.Reader.{trailerFrom, trailerIn, numbersIn, jobBy, jobIn, misplaced, fileCause, refusal, readingBy, read}
 use Rattle.printing.specs.Text.{ascii, decimal, numbered, line}
 use Rattle.printing.specs.Printed.{refusedLine, sevenLines, printedBy, printed}
 use Rattle.plan.specs.Output.{callBy, answered, output}

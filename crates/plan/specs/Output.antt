@@ -7,8 +7,8 @@ use lib.ListN.{length, replicate}
 use Rattle.records.specs.Records.{recordWords}
 use Rattle.answer.specs.Call.{Call, callOf}
 use Rattle.answer.specs.Answer.{answer}
-use Rattle.job_file.specs.Job.{Job, longest}
-use Rattle.job_file.specs.Reader.{read}
+use Rattle.job_format.specs.Job.{Job, longest}
+use Rattle.job_format.specs.Reader.{read}
 use Rattle.printing.specs.Printed.{refusedLine, printed}
 
 -- "with a pool of 2,000 records"

@@ -1,6 +1,6 @@
 // What is printed for an input: the text of its job's report, or of a refusal. specs/Output says it for every input.
 ghost use mathlib.Core.Path.{_≡_};
-ghost use Rattle.job_file.specs.Reader.{read};
+ghost use Rattle.job_format.specs.Reader.{read};
 ghost use Rattle.printing.specs.Promise.{textOf};
 ghost use Rattle.plan.specs.Output.{answered, output};
 use job_file::LONGEST;

@@ -11,8 +11,8 @@ use native.Mathlib.Omega.{arith}
 use lib.ListN.{length, getD, set, take, replicate, length-append, length-replicate}
 use lib.Seq.{sets, sets-eq, length-sets}
 use Rattle.records.specs.Records.{padded}
-use Rattle.job_file.specs.Bytes.{overwrite}
-use Rattle.job_file.proofs.ByteLaws.{padded-overwrite, take-next, each-append}
+use Rattle.job_format.specs.Bytes.{overwrite}
+use Rattle.job_format.proofs.ByteLaws.{padded-overwrite, take-next, each-append}
 use Rattle.printing.specs.Text.{ascii, decimal, numbered}
 use Rattle.printing.specs.Promise.{textPlaces, textOf}
 use Rattle.printing.specs.Code.{Put}

@@ -1,7 +1,7 @@
 //! The proved stop-order planner, and the proved reader and writer of job
 //! files, safe to call with anything. What they answer is, over all inputs,
 //! that of `answer` (crates/answer/specs/Answer.antt), of `read` and of `write`
-//! (crates/job_file/specs/Reader.antt and Writer.antt).
+//! (crates/job_format/specs/Reader.antt and Writer.antt).
 
 mod border;
 

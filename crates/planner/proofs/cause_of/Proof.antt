@@ -3,7 +3,7 @@ use mathlib.Core.Path.{_≡_, sym, _∙_}
 use borrow.Author.Needs.{needs}
 use Rattle.answer.specs.Call.{Call, callOf}
 use Rattle.answer.specs.Checks.{cause₆, orLater, cause}
-use Rattle.checks.proofs.JobCause.{job-refuses, job-passes}
+use Rattle.answer.proofs.JobCause.{job-refuses, job-passes}
 use Rattle.planner.proofs.CauseLaws.{no-record, part-record, pool-passes}
 use Rattle.planner.proofs.cause_of.Statement.{statement}
 use Rattle.planner.proofs.cause_of.Tie as tie

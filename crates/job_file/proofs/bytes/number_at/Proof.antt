@@ -1,5 +1,5 @@
 use native.Mathlib.Omega.{arith}
-use Rattle.job_file.proofs.ByteLaws.{four-bytes}
+use Rattle.job_format.proofs.ByteLaws.{four-bytes}
 use Rattle.job_file.proofs.bytes.number_at.Statement.{statement}
 use Rattle.job_file.proofs.bytes.number_at.Tie as tie
 

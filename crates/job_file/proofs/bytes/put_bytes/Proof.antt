@@ -5,8 +5,8 @@ use Prim.Native.Nat.{_-_, _≤_}
 use native.Mathlib.Omega.{arith}
 use lib.ListN.{length, take, length-set}
 use lib.Seq.{length-take-le, take-all}
-use Rattle.job_file.specs.Bytes.{overwrite}
-use Rattle.job_file.proofs.ByteLaws.{overwrite-none, overwrite-one, take-next}
+use Rattle.job_format.specs.Bytes.{overwrite}
+use Rattle.job_format.proofs.ByteLaws.{overwrite-none, overwrite-one, take-next}
 use Rattle.job_file.proofs.bytes.put_bytes.Statement.{statement}
 use Rattle.job_file.proofs.bytes.put_bytes.Tie as tie
 

@@ -1,7 +1,7 @@
 use native.Mathlib.Numerals.{towards-suc}
 use native.Mathlib.Omega.{arith}
 use lib.ListN.{length-set}
-use Rattle.job_file.specs.Bytes.{number}
+use Rattle.job_format.specs.Bytes.{number}
 use borrow.Author.Needs.{needs}
 use Rattle.job_file.proofs.bytes.put_number.Statement.{statement}
 use Rattle.job_file.proofs.bytes.put_number.Tie as tie

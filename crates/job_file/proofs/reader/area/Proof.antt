@@ -1,6 +1,6 @@
 -- `area` meets its contract. Assumes nothing.
 use native.Mathlib.Omega.{arith}
-use Rattle.job_file.proofs.LayoutLaws.{area-small}
+use Rattle.job_format.proofs.LayoutLaws.{area-small}
 use borrow.Author.Needs.{needs}
 use Rattle.job_file.proofs.reader.area.Statement.{statement}
 use Rattle.job_file.proofs.reader.area.Tie as tie

@@ -1,7 +1,7 @@
 -- `misplaced` meets its contract, test by test. Assumes nothing.
 use mathlib.Core.Path.{sym, _∙_}
 use native.Mathlib.Omega.{arith}
-use Rattle.job_file.proofs.LayoutLaws.{table-elsewhere, start-elsewhere, other-length, layout-fits}
+use Rattle.job_format.proofs.LayoutLaws.{table-elsewhere, start-elsewhere, other-length, layout-fits}
 use Rattle.job_file.proofs.reader.misplaced.Statement.{statement}
 use Rattle.job_file.proofs.reader.misplaced.Tie as tie
 

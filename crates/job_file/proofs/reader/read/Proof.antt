@@ -6,10 +6,12 @@ use native.Mathlib.Omega.{arith}
 use lib.ListN.{length, take, drop}
 use Rattle.stops.proofs.RowLaws.{part-from}
 use Rattle.answer.specs.Checks.{cause₁}
-use Rattle.job_file.specs.Job.{callFor, trailerLength}
-use Rattle.job_file.specs.Reader.{trailerFrom, jobBy}
+use Rattle.job_format.specs.Job.{callFor, trailerLength}
+use Rattle.job_format.specs.Reader.{trailerFrom, jobBy}
 use Rattle.job_file.specs.Promise.{returned}
-use Rattle.job_file.proofs.ReadLaws.{few-stops, short-file, wrong-stops, wrong-layout, right-layout, same-stops, length-last, layout-laid}
+use Rattle.job_file.specs.Code.{checked}
+use Rattle.job_format.proofs.ReadLaws.{few-stops, short-file, wrong-stops, wrong-layout, right-layout, same-stops, length-last}
+use Rattle.job_file.proofs.AcceptLaws.{layout-laid}
 use Rattle.job_file.proofs.reader.read.Statement.{statement}
 use Rattle.job_file.proofs.reader.read.Tie as tie
 
@@ -94,6 +96,7 @@ accept-requires c κs =
     (sym (m .misplaced .ensures) ∙ c .if3 .left)
 
 returns-4 : tie.Need-returns-4
+unfolding checked
 returns-4 c =
     let m = c .before .before in
     let w = m .before .before in

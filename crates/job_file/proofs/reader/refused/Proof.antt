@@ -1,6 +1,6 @@
 use mathlib.Core.Path.{refl}
 use Rattle.records.specs.Records.{padded}
-use Rattle.job_file.specs.Reader.{refusal}
+use Rattle.job_format.specs.Reader.{refusal}
 use Rattle.job_file.specs.Promise.{returned}
 use Rattle.job_file.proofs.reader.refused.Statement.{statement}
 use Rattle.job_file.proofs.reader.refused.Tie as tie

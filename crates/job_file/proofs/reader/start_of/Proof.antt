@@ -1,7 +1,7 @@
 -- `start_of` meets its contract: an array of zeros whose front is written. Assumes nothing.
 use mathlib.Core.Path.{sym, _∙_}
 use borrow.Author.Needs.{needs}
-use Rattle.job_file.proofs.ByteLaws.{padded-overwrite}
+use Rattle.job_format.proofs.ByteLaws.{padded-overwrite}
 use Rattle.job_file.proofs.reader.start_of.Statement.{statement}
 use Rattle.job_file.proofs.reader.start_of.Tie as tie
 

@@ -5,9 +5,9 @@ use mathlib.Core.List.{[], _∷_, _++_}
 use Prim.Native.Nat.{ℕ, _-_, _≤_}
 use native.Mathlib.Omega.{arith}
 use Rattle.records.specs.Records.{padded}
-use Rattle.job_file.specs.Reader.{numbersIn}
+use Rattle.job_format.specs.Reader.{numbersIn}
 use Rattle.job_file.specs.Promise.{tablePlaces}
-use Rattle.job_file.proofs.ByteLaws.{padded-one, numbers-next, length-numbers}
+use Rattle.job_format.proofs.ByteLaws.{padded-one, numbers-next, length-numbers}
 use Rattle.job_file.proofs.reader.table_of.Statement.{statement}
 use Rattle.job_file.proofs.reader.table_of.Tie as tie
 

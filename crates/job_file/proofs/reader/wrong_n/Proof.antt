@@ -1,5 +1,5 @@
 -- `wrong_n` meets its contract. Assumes nothing.
-use Rattle.job_file.proofs.ReadLaws.{first-cause}
+use Rattle.job_format.proofs.ReadLaws.{first-cause}
 use borrow.Author.Needs.{needs}
 use Rattle.job_file.proofs.reader.wrong_n.Statement.{statement}
 use Rattle.job_file.proofs.reader.wrong_n.Tie as tie

@@ -6,8 +6,8 @@ use native.Mathlib.Omega.{arith}
 use lib.ListN.{length, take}
 use lib.Seq.{length-sets, take-all}
 use Rattle.lists.specs.Lists.{each}
-use Rattle.job_file.specs.Bytes.{number, overwrite}
-use Rattle.job_file.proofs.ByteLaws.{overwrite-none, table-next}
+use Rattle.job_format.specs.Bytes.{number, overwrite}
+use Rattle.job_format.proofs.ByteLaws.{overwrite-none, table-next}
 use Rattle.job_file.proofs.writer.put_table.Statement.{statement}
 use Rattle.job_file.proofs.writer.put_table.Tie as tie
 

@@ -4,10 +4,11 @@ use Prim.Native.Nat.{_+_, _*_}
 use native.Mathlib.Omega.{arith}
 use lib.ListN.{length}
 use Rattle.answer.specs.Checks.{jobCause}
-use Rattle.job_file.specs.Job.{Job, callFor, trailerLength, bytesOf}
+use Rattle.job_format.specs.Job.{Job, callFor, trailerLength, bytesOf}
 use Rattle.job_file.specs.Promise.{jobOf}
-use Rattle.job_file.proofs.JobLaws.{Passed, passed, length-file}
-use Rattle.job_file.proofs.WriterLaws.{table-small, cause-refuses, buffer-refuses, file-written}
+use Rattle.job_format.proofs.JobLaws.{Passed, passed, length-file}
+use Rattle.job_format.proofs.WriteLaws.{cause-refuses, buffer-refuses, file-written}
+use Rattle.job_file.proofs.WriterLaws.{table-small}
 use Rattle.job_file.proofs.writer.write.Statement.{statement}
 use Rattle.job_file.proofs.writer.write.Tie as tie
 

@@ -3,8 +3,8 @@ use mathlib.Core.Path.{_≡_, ap, sym, _∙_}
 use Prim.Native.Nat.{ℕ, _+_, _*_}
 use native.Mathlib.Omega.{arith}
 use lib.Seq.{length-take-le}
-use Rattle.job_file.specs.Job.{area}
-use Rattle.job_file.proofs.LayoutLaws.{area-small}
+use Rattle.job_format.specs.Job.{area}
+use Rattle.job_format.proofs.LayoutLaws.{area-small}
 use Rattle.printing.specs.Promise.{textOf}
 use Rattle.plan.proofs.OutputLaws.{Accepted, accepted, file-refused, job-printed}
 use borrow.Author.Needs.{needs}

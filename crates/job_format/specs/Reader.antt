@@ -6,8 +6,8 @@ use lib.Dec.{ltb, eqb}
 use lib.ListN.{length, getD, take, drop}
 use Rattle.lists.specs.Lists.{from}
 use Rattle.answer.specs.Checks.{cause₁, cause₃, cause₄, cause₅, orLater}
-use Rattle.job_file.specs.Bytes.{numberBytes, numberAt}
-use Rattle.job_file.specs.Job.{Job, callFor, Trailer, trailerLength, area, startPlaceOf, fileLength, longest}
+use Rattle.job_format.specs.Bytes.{numberBytes, numberAt}
+use Rattle.job_format.specs.Job.{Job, callFor, Trailer, trailerLength, area, startPlaceOf, fileLength, longest}
 
 -- the trailer that some bytes make up
 unfoldable pub trailerFrom : List ℕ → Trailer

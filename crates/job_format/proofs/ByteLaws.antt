@@ -17,9 +17,9 @@ use lib.Seq.{sets, sets-eq, take-append-seam, drop-append-seam, drop-append-add,
 use Rattle.lists.specs.Lists.{from, each}
 use Rattle.lists.proofs.Members.{in-head, length-from}
 use Rattle.records.specs.Records.{padded}
-use Rattle.job_file.specs.Bytes.{leastFirst, valueOf, number, numberAt, overwrite, AllBytes}
-use Rattle.job_file.specs.Reader.{numbersIn}
-use Rattle.job_file.specs.Cases
+use Rattle.job_format.specs.Bytes.{leastFirst, valueOf, number, numberAt, overwrite, AllBytes}
+use Rattle.job_format.specs.Reader.{numbersIn}
+use Rattle.job_format.specs.Cases
 
 pub overwrite-none : (buffer : List ℕ) → buffer ≡ overwrite [] buffer
 unfolding overwrite

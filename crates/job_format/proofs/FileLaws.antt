@@ -11,13 +11,13 @@ use lib.ListN.{length, getD, take, drop, take-append-drop, length-drop, drop-of-
 use lib.Seq.{drop-cons, take-add, length-take-le}
 use Rattle.lists.specs.Lists.{In, from, each}
 use Rattle.lists.proofs.Members.{in-head}
-use Rattle.job_file.specs.Bytes.{leastFirst, valueOf, number, numberAt, AllBytes}
-use Rattle.job_file.specs.Job.{Trailer, trailerLength, trailerBytes}
-use Rattle.job_file.specs.Reader.{numbersIn, trailerFrom}
-use Rattle.job_file.proofs.ByteLaws.{value-bytes, bytes-value}
+use Rattle.job_format.specs.Bytes.{leastFirst, valueOf, number, numberAt, AllBytes}
+use Rattle.job_format.specs.Job.{Trailer, trailerLength, trailerBytes}
+use Rattle.job_format.specs.Reader.{numbersIn, trailerFrom}
+use Rattle.job_format.proofs.ByteLaws.{value-bytes, bytes-value}
 
 -- parts of a list of bytes are bytes
-pub front-bytes : (k : ℕ) (xs : List ℕ) → AllBytes xs → AllBytes (take k xs)
+front-bytes : (k : ℕ) (xs : List ℕ) → AllBytes xs → AllBytes (take k xs)
 front-bytes k xs h b m = h b (subst (In b) (take-append-drop k xs) (Memᴰ·append-left (drop k xs) m))
 
 pub rest-bytes : (k : ℕ) (xs : List ℕ) → AllBytes xs → AllBytes (drop k xs)

@@ -4,7 +4,7 @@ use Prim.Native.Nat.{ℕ, suc, _+_, _*_}
 use lib.ListN.{length}
 use Rattle.lists.specs.Lists.{each}
 use Rattle.answer.specs.Call.{Call, callOf}
-use Rattle.job_file.specs.Bytes.{numberBytes, number}
+use Rattle.job_format.specs.Bytes.{numberBytes, number}
 
 -- Each over its whole range; nothing is assumed of them.
 pub record Job : Type 0 where

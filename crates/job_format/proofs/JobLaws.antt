@@ -16,10 +16,10 @@ use Rattle.records.specs.Records.{recordsIn}
 use Rattle.answer.specs.Call.{Call, callOf}
 use Rattle.answer.specs.Checks.{cause₆, jobCause, cause}
 use Rattle.answer.proofs.Passes.{Passes, passes}
-use Rattle.checks.proofs.JobCause.{job-passes}
-use Rattle.job_file.specs.Bytes.{number, AllBytes}
-use Rattle.job_file.specs.Job.{Job, callFor, Trailer, trailerLength, area, trailerOf, trailerBytes, bytesOf, fileLength, longest}
-use Rattle.job_file.proofs.ByteLaws.{length-each-number}
+use Rattle.answer.proofs.JobCause.{job-passes}
+use Rattle.job_format.specs.Bytes.{number, AllBytes}
+use Rattle.job_format.specs.Job.{Job, callFor, Trailer, trailerLength, area, trailerOf, trailerBytes, bytesOf, fileLength, longest}
+use Rattle.job_format.proofs.ByteLaws.{length-each-number}
 
 pub record Passed (j : Job) : Type 0 where
   pub some : 1 ≤ j .n

@@ -14,15 +14,14 @@ use lib.Seq.{take-at, drop-at, take-add, length-take-le}
 use borrow.Author.Tests.{ltb-false}
 use Rattle.lists.specs.Lists.{each}
 use Rattle.answer.specs.Checks.{cause₁, orLater, jobCause}
-use Rattle.job_file.specs.Bytes.{number, AllBytes}
-use Rattle.job_file.specs.Job.{Job, callFor, Trailer, trailerLength, area, startPlaceOf, trailerOf, trailerBytes, bytesOf}
-use Rattle.job_file.specs.Reader.{numbersIn, trailerFrom, trailerIn, jobBy, jobIn, misplaced, fileCause, refusal, readingBy, read}
-use Rattle.job_file.specs.Code.{checked}
-use Rattle.job_file.proofs.ByteLaws.{length-each-number}
-use Rattle.job_file.proofs.JobLaws.{Passed, passed, length-trailer, length-file, file-short}
-use Rattle.job_file.proofs.LayoutLaws.{area-small, Layout, layout-of, of-layout}
-use Rattle.job_file.proofs.ReadLaws.{table-fits, right-layout}
-use Rattle.job_file.proofs.FileLaws.{rest-bytes, numbers-of, of-numbers, trailer-of, of-trailer}
+use Rattle.job_format.specs.Bytes.{number, AllBytes}
+use Rattle.job_format.specs.Job.{Job, callFor, Trailer, trailerLength, area, startPlaceOf, trailerOf, trailerBytes, bytesOf}
+use Rattle.job_format.specs.Reader.{numbersIn, trailerFrom, trailerIn, jobBy, jobIn, misplaced, fileCause, refusal, readingBy, read}
+use Rattle.job_format.proofs.ByteLaws.{length-each-number}
+use Rattle.job_format.proofs.JobLaws.{Passed, passed, length-trailer, length-file, file-short}
+use Rattle.job_format.proofs.LayoutLaws.{area-small, Layout, layout-of, of-layout}
+use Rattle.job_format.proofs.ReadLaws.{table-fits, right-layout}
+use Rattle.job_format.proofs.FileLaws.{rest-bytes, numbers-of, of-numbers, trailer-of, of-trailer}
 
 -- the first cause does not apply, and neither does a later one
 none-first : (b : Bool) (number later : ℕ) → orLater b (suc number) later ≡ 0 → (b ≡ false) × (later ≡ 0)
@@ -90,14 +89,14 @@ module _ (j : Job) (passes : jobCause (callFor j) 0 ≡ 0) where
   few = none-first (cause₁ (callFor j)) 0 _ passes .0
 
   pub bytes-read : read (bytesOf j) ≡ record { number = 0; job = j }
-  unfolding checked readingBy
+  unfolding readingBy
   bytes-read =
       sym (right-layout (bytesOf j) end last (omega (arith, length-file j (p .square))) (rw job-read few) fits)
       ∙ rw (job-read, passes)
 
 -- ---- a file that the reader accepts
 
-pub record Accepted (file : List ℕ) : Type 0 where
+record Accepted (file : List ℕ) : Type 0 where
   pub long : trailerLength ≤ length file
   pub layout : Layout (trailerIn file) (length file)
   pub passes : jobCause (callFor (jobIn file)) 0 ≡ 0
@@ -116,7 +115,7 @@ job-found : (file : List ℕ) → fileCause file ≡ 0 → read file ≡ record 
 unfolding read readingBy
 job-found file e = rw e
 
-pub accepted : (file : List ℕ) → read file .number ≡ 0 → Accepted file
+accepted : (file : List ℕ) → read file .number ≡ 0 → Accepted file
 unfolding fileCause jobCause jobIn
 accepted file e =
     let job : Job = jobIn file in

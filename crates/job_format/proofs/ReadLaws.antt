@@ -1,7 +1,6 @@
 -- What the reader answers, test by test.
 --   first-cause        the planner's check of a job without a table answers whether cause 1 applies
 --   short-file, wrong-stops, wrong-layout, right-layout    what each test decides
---   layout-laid        a file whose length and places are those of the layout is long enough
 -- Assumes nothing.
 use mathlib.Core.Path.{_≡_, refl, ap, _∙_}
 use mathlib.Core.Bool.{Bool, true, false}
@@ -13,11 +12,10 @@ use lib.ListN.{length, getD, drop, length-drop}
 use borrow.Author.Tests.{ltb-false, lt-ltb, le-ltb, eq-eqb, ne-eqb}
 use Rattle.answer.specs.Call.{Call, callOf}
 use Rattle.answer.specs.Checks.{cause₁, cause₂, cause₃, cause₄, cause₅, orLater, jobCause}
-use Rattle.job_file.specs.Job.{Job, callFor, Trailer, trailerLength, area, fileLength}
-use Rattle.job_file.specs.Reader.{numbersIn, trailerFrom, trailerIn, jobBy, jobIn, misplaced, fileCause, refusal, readingBy, read}
-use Rattle.job_file.specs.Code.{checked, Laid}
-use Rattle.job_file.proofs.ByteLaws.{length-numbers}
-use Rattle.job_file.proofs.LayoutLaws.{or-false, layout-of}
+use Rattle.job_format.specs.Job.{Job, callFor, Trailer, trailerLength, area, fileLength}
+use Rattle.job_format.specs.Reader.{numbersIn, trailerFrom, trailerIn, jobBy, jobIn, misplaced, fileCause, refusal, readingBy, read}
+use Rattle.job_format.proofs.ByteLaws.{length-numbers}
+use Rattle.job_format.proofs.LayoutLaws.{or-false, layout-of}
 
 -- a call of n stops with nothing else
 abbrev bare : ℕ → Call
@@ -72,8 +70,8 @@ module _ (file trailer : List ℕ) (last : trailer ≡ drop (length file - trail
   unfolding readingBy
   wrong-layout e f = by-cause 9 (rw (e, f))
 
-  pub right-layout : cause₁ (callFor job) ≡ false → misplaced (trailerFrom trailer) (length file) ≡ false → checked job ≡ read file
-  unfolding checked jobCause
+  pub right-layout : cause₁ (callFor job) ≡ false → misplaced (trailerFrom trailer) (length file) ≡ false → readingBy (jobCause (callFor job) 0) job ≡ read file
+  unfolding jobCause
   right-layout e f = by-cause _ (rw (e, f, table-fits (trailerFrom trailer) file))
 
   pub same-stops : (n : ℕ) → n ≡ getD trailer 8 0 → cause₁ (bare n) ≡ cause₁ (callFor job)
@@ -82,10 +80,3 @@ module _ (file trailer : List ℕ) (last : trailer ≡ drop (length file - trail
 
   pub length-last : length trailer ≡ trailerLength
   length-last = omega (arith, ap length last, length-drop (length file - trailerLength) file)
-
-  pub layout-laid :
-      (n : ℕ) → n ≡ getD trailer 8 0 → cause₁ (bare n) ≡ false → misplaced (trailerFrom trailer) (length file) ≡ false → Laid file trailer n
-  unfolding trailerFrom
-  layout-laid n e f g =
-      let fits : length file ≡ fileLength (getD trailer 8 0) (getD trailer 9 0) = layout-of (trailerFrom trailer) (length file) g .whole in
-      record { whole = length-last; stands = e; few = few-stops n f; inside = rw e (omega arith) }

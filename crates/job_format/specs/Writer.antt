@@ -4,8 +4,8 @@ use Prim.Native.Nat.{ℕ, zero, suc}
 use lib.Dec.{ltb}
 use lib.ListN.{length}
 use Rattle.answer.specs.Checks.{orLater, jobCause}
-use Rattle.job_file.specs.Bytes.{overwrite}
-use Rattle.job_file.specs.Job.{Job, callFor, bytesOf}
+use Rattle.job_format.specs.Bytes.{overwrite}
+use Rattle.job_format.specs.Job.{Job, callFor, bytesOf}
 
 -- the number, the length of the file, and the buffer's bytes afterwards
 pub record Writing : Type 0 where

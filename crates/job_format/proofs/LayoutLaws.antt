@@ -13,12 +13,11 @@ use native.Mathlib.Omega.{arith}
 use lib.Dec.{ltb, eqb}
 use lib.ListN.{getD}
 use borrow.Author.Tests.{eqb-true, ltb-false, not-false, eq-eqb, ne-eqb, le-ltb}
-use Rattle.job_file.specs.Bytes.{numberAt}
-use Rattle.job_file.specs.Job.{Trailer, area, startPlaceOf, fileLength, longest}
-use Rattle.job_file.specs.Reader.{trailerFrom, misplaced}
-use Rattle.job_file.specs.Promise.{tablePlaces}
+use Rattle.job_format.specs.Bytes.{numberAt}
+use Rattle.job_format.specs.Job.{Trailer, area, startPlaceOf, fileLength, longest}
+use Rattle.job_format.specs.Reader.{trailerFrom, misplaced}
 
-pub area-small : (n : ℕ) → n ≤ 16 → area n ≤ tablePlaces
+pub area-small : (n : ℕ) → n ≤ 16 → area n ≤ 289
 area-small n h =
     let few : suc n ≤ 17 = omega arith in
     mul-le-mul few few

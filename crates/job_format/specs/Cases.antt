@@ -10,10 +10,10 @@ use Rattle.stops.specs.Legs.{entry}
 use Rattle.answer.specs.Call.{callOf}
 use Rattle.answer.specs.Checks.{cause₁, cause₂, cause₃, cause₄, cause₅, jobCause}
 use Rattle.answer.specs.Cases.{tableT}
-use Rattle.job_file.specs.Bytes.{number, numberAt, overwrite}
-use Rattle.job_file.specs.Job.{Job, callFor, Trailer, trailerOf, trailerBytes, bytesOf, fileLength, longest}
-use Rattle.job_file.specs.Reader.{trailerFrom, trailerIn, numbersIn, jobBy, jobIn, misplaced, fileCause, refusal, readingBy, read}
-use Rattle.job_file.specs.Writer.{writeCause, writingBy, write}
+use Rattle.job_format.specs.Bytes.{number, numberAt, overwrite}
+use Rattle.job_format.specs.Job.{Job, callFor, Trailer, trailerOf, trailerBytes, bytesOf, fileLength, longest}
+use Rattle.job_format.specs.Reader.{trailerFrom, trailerIn, numbersIn, jobBy, jobIn, misplaced, fileCause, refusal, readingBy, read}
+use Rattle.job_format.specs.Writer.{writeCause, writingBy, write}
 
 -- a job by its parts
 abbrev job : ℕ → List ℕ → ℕ → ℕ → ℕ → List ℕ → Job

@@ -1,0 +1,9 @@
+pub mod ByteLaws
+pub mod JobLaws
+pub mod LayoutLaws
+pub mod ReadLaws
+pub mod WriteLaws
+pub mod FileLaws
+pub mod Accepted
+pub mod RoundTrip
+pub mod Refusals
