@@ -16,9 +16,9 @@ use crate::NUMBER;
 use crate::ORDER;
 use crate::TABLE;
 use crate::TRAILER;
-use crate::bytes::number_at;
-use crate::bytes::put_bytes;
-use crate::bytes::wide;
+use bytes::number_at;
+use bytes::put_bytes;
+use bytes::wide;
 use checks::job_cause;
 
 // What the reader hands back: a number and a job, with zeros in unused places.

@@ -9,8 +9,8 @@ ghost use Rattle.job_file.specs.Promise.{jobOf, Promised};
 ghost use Rattle.job_file.specs.Code.{trailerBy, Fits};
 use crate::NUMBER;
 use crate::TRAILER;
-use crate::bytes::put_bytes;
-use crate::bytes::put_number;
+use bytes::put_bytes;
+use bytes::put_number;
 use checks::job_cause;
 
 // What the writer hands back: a number, and the length of the file.

@@ -3,8 +3,8 @@ use native.Mathlib.Omega.{arith}
 use lib.ListN.{length-set}
 use Rattle.job_format.specs.Bytes.{number}
 use borrow.Author.Needs.{needs}
-use Rattle.job_file.proofs.bytes.put_number.Statement.{statement}
-use Rattle.job_file.proofs.bytes.put_number.Tie as tie
+use Rattle.bytes.proofs.put_number.Statement.{statement}
+use Rattle.bytes.proofs.put_number.Tie as tie
 
 cast-bytes : tie.Need-cast-bytes
 cast-bytes c = omega arith

@@ -1,7 +1,7 @@
 use native.Mathlib.Omega.{arith}
 use Rattle.job_format.proofs.ByteLaws.{four-bytes}
-use Rattle.job_file.proofs.bytes.number_at.Statement.{statement}
-use Rattle.job_file.proofs.bytes.number_at.Tie as tie
+use Rattle.bytes.proofs.number_at.Statement.{statement}
+use Rattle.bytes.proofs.number_at.Tie as tie
 
 shared-slice-read-wide : tie.Need-shared-slice-read-wide
 shared-slice-read-wide c = omega arith

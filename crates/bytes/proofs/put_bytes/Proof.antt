@@ -7,8 +7,8 @@ use lib.ListN.{length, take, length-set}
 use lib.Seq.{length-take-le, take-all}
 use Rattle.job_format.specs.Bytes.{overwrite}
 use Rattle.job_format.proofs.ByteLaws.{overwrite-none, overwrite-one, take-next}
-use Rattle.job_file.proofs.bytes.put_bytes.Statement.{statement}
-use Rattle.job_file.proofs.bytes.put_bytes.Tie as tie
+use Rattle.bytes.proofs.put_bytes.Statement.{statement}
+use Rattle.bytes.proofs.put_bytes.Tie as tie
 
 abbrev Inv-loop : tie.InvT-loop
 Inv-loop bytes buffer₀ k₀ buffer k =
