@@ -21,7 +21,7 @@ use Rattle.job_file.specs.declared.reader.Reading.{Reading as Returned}
 use Rattle.job_format.proofs.JobLaws.{Passed, passed}
 use Rattle.job_format.proofs.Accepted.{accepted-passes}
 use Rattle.job_file.proofs.Returns.{job-returned}
-use Rattle.printing.specs.Printed.{refusedLine, printed}
+use Rattle.report_format.specs.Printed.{refusedLine, printed}
 use Rattle.printing.specs.Promise.{textPlaces, textOf}
 use Rattle.printing.specs.declared.Text.{Text}
 use Rattle.plan.specs.Output.{poolLength, callBy, answered, output}

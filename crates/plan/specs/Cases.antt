@@ -10,8 +10,8 @@ use Rattle.answer.specs.Cases.{computed, tableT}
 use Rattle.job_format.specs.Bytes.{number, numberAt}
 use Rattle.job_format.specs.Job.{callFor}
 use Rattle.job_format.specs.Reader.{trailerFrom, trailerIn, numbersIn, jobBy, jobIn, misplaced, fileCause, refusal, readingBy, read}
-use Rattle.printing.specs.Text.{ascii, decimal, numbered, line}
-use Rattle.printing.specs.Printed.{refusedLine, sevenLines, printedBy, printed}
+use Rattle.report_format.specs.Text.{ascii, decimal, numbered, line}
+use Rattle.report_format.specs.Printed.{refusedLine, sevenLines, printedBy, printed}
 use Rattle.plan.specs.Output.{callBy, answered, output}
 
 -- the file of case l, with every definition that the cases rest on open: the table, and the trailer as document 01 has it

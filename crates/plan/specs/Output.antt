@@ -9,7 +9,7 @@ use Rattle.answer.specs.Call.{Call, callOf}
 use Rattle.answer.specs.Answer.{answer}
 use Rattle.job_format.specs.Job.{Job, longest}
 use Rattle.job_format.specs.Reader.{read}
-use Rattle.printing.specs.Printed.{refusedLine, printed}
+use Rattle.report_format.specs.Printed.{refusedLine, printed}
 
 -- "with a pool of 2,000 records"
 abbrev pub poolLength : ℕ

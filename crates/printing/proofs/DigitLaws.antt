@@ -13,8 +13,7 @@ use lib.ListN.{take}
 use lib.Dec.{ltb}
 use borrow.Author.Tests.{lt-ltb, ltb-true, ltb-false}
 use Rattle.io.specs.Digits.{glyph, digits, Fewest}
-use Rattle.printing.specs.Text.{digit, digitsOf, decimal, numbered}
-use Rattle.printing.specs.Cases
+use Rattle.report_format.specs.Text.{digit, digitsOf, decimal, numbered}
 
 glyph-digit : (x : ℕ) → glyph (x % 10) ≡ digit (x % 10)
 glyph-digit x = rw (lt-ltb (x % 10) 10 (omega arith))

@@ -10,9 +10,8 @@ use Prim.Native.Nat.{ℕ, zero, suc, min}
 use native.Mathlib.Omega.{arith}
 use lib.ListN.{length, take}
 use Rattle.answer.specs.Call.{Report, orderPlaces}
-use Rattle.printing.specs.Printed.{refusedLine, sevenLines, printedBy, printed}
+use Rattle.report_format.specs.Printed.{refusedLine, sevenLines, printedBy, printed}
 use Rattle.printing.specs.Code.{answerLines, countLines}
-use Rattle.printing.specs.Cases
 
 pub seven-lines :
     (n : ℕ) (r : Report)

@@ -13,11 +13,10 @@ use lib.Seq.{sets, sets-eq, length-sets}
 use Rattle.records.specs.Records.{padded}
 use Rattle.job_format.specs.Bytes.{overwrite}
 use Rattle.job_format.proofs.ByteLaws.{padded-overwrite, take-next, each-append}
-use Rattle.printing.specs.Text.{ascii, decimal, numbered}
+use Rattle.report_format.specs.Text.{ascii, decimal, numbered}
 use Rattle.printing.specs.Promise.{textPlaces, textOf}
 use Rattle.printing.specs.Code.{Put}
 use Rattle.printing.specs.declared.Text.{Text}
-use Rattle.printing.specs.Cases
 
 sets-append : (xs ys l : List ℕ) (i j : ℕ) → j ≡ i + length xs → sets (sets l i xs) j ys ≡ sets l i (xs ++ ys)
 sets-append [] ys l i j e = rw (let e′ : j ≡ i = omega arith in e′)

@@ -11,7 +11,7 @@ use mathlib.Core.List.{List, [], _∷_, _++_}
 use Prim.Native.Nat.{ℕ, _+_, _*_}
 use lib.ListN.{length}
 use lib.Seq.{sets}
-use Rattle.printing.specs.Text.{ascii, line}
+use Rattle.report_format.specs.Text.{ascii, line}
 
 pub record Put (before : List ℕ) (place : ℕ) (bytes after : List ℕ) (end : ℕ) : Type 0 where
   pub written : after ≡ sets before place bytes

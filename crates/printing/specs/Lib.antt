@@ -1,5 +1,2 @@
-pub mod Text
-pub mod Printed
 pub mod Promise
 pub mod Code
-pub mod Cases

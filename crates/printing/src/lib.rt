@@ -1,9 +1,9 @@
 // What is printed: `report_text` and `refusal_text` are open to a caller; every other function is public for this crate alone, and what it requires its
-// callers meet. specs/Printed says what is printed for every report.
+// callers meet. What is printed for every report, crate `report_format` says (specs/Printed).
 ghost use mathlib.Core.Path.{_≡_};
 ghost use Prim.Native.Nat.{min};
 ghost use Rattle.planner.specs.Promise.{reportOf};
-ghost use Rattle.printing.specs.Printed.{refusedLine, printed};
+ghost use Rattle.report_format.specs.Printed.{refusedLine, printed};
 ghost use Rattle.printing.specs.Promise.{textOf};
 
 pub mod lines;

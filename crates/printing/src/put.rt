@@ -2,7 +2,7 @@
 ghost use mathlib.Core.List.{[], _∷_, _++_};
 ghost use Prim.Native.Nat.{_+_, _≤_};
 ghost use lib.ListN.{length};
-ghost use Rattle.printing.specs.Text.{ascii, numbered};
+ghost use Rattle.report_format.specs.Text.{ascii, numbered};
 ghost use Rattle.printing.specs.Code.{Put, numberRoom, lineRoom};
 
 // Writes some bytes.

@@ -1,7 +1,7 @@
 -- `refusal_text` meets its contract: one line in an array of zeros. Assumes nothing.
 use native.Mathlib.Omega.{arith}
-use Rattle.printing.specs.Text.{line}
-use Rattle.printing.specs.Printed.{refusedLine}
+use Rattle.report_format.specs.Text.{line}
+use Rattle.report_format.specs.Printed.{refusedLine}
 use Rattle.printing.proofs.PutLaws.{put-text}
 use borrow.Author.Needs.{needs}
 use Rattle.printing.proofs.refusal_text.Statement.{statement}

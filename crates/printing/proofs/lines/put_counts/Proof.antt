@@ -1,6 +1,6 @@
 -- `put_counts` meets its contract: five lines, one behind the other. Assumes nothing.
 use native.Mathlib.Omega.{arith}
-use Rattle.printing.specs.Text.{line}
+use Rattle.report_format.specs.Text.{line}
 use Rattle.printing.specs.Code.{countLines}
 use Rattle.printing.proofs.PutLaws.{put-then}
 use borrow.Author.Needs.{needs}

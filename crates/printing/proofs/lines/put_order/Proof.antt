@@ -1,7 +1,7 @@
 -- `put_order` meets its contract: the name, the stops and the line's end. Assumes nothing.
 use native.Mathlib.Omega.{arith}
 use lib.ListN.{length-set}
-use Rattle.printing.specs.Text.{line}
+use Rattle.report_format.specs.Text.{line}
 use Rattle.printing.proofs.PutLaws.{put-last, put-then}
 use borrow.Author.Needs.{needs}
 use Rattle.printing.proofs.lines.put_order.Statement.{statement}

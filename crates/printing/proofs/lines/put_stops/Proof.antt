@@ -5,7 +5,7 @@ use Prim.Native.Nat.{ℕ, _+_, _*_, _-_, _≤_}
 use native.Mathlib.Omega.{arith}
 use lib.ListN.{length, take}
 use lib.Seq.{take-all}
-use Rattle.printing.specs.Text.{numbered}
+use Rattle.report_format.specs.Text.{numbered}
 use Rattle.printing.specs.Code.{Put, numberRoom}
 use Rattle.printing.proofs.PutLaws.{put-none, put-then, put-length, numbered-next}
 use Rattle.printing.proofs.lines.put_stops.Statement.{statement}

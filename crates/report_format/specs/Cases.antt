@@ -1,10 +1,9 @@
--- Small cases of text, and document 01's case l. The laws name this module, so that it is checked before them: a wrong definition is met here
--- first. Assumes nothing.
+-- Small cases of text, and document 01's case l. Assumes nothing.
 use mathlib.Core.Path.{_≡_, refl}
 use mathlib.Core.List.{[], _∷_}
 use Rattle.answer.specs.Call.{Report, refusal}
-use Rattle.printing.specs.Text.{ascii, decimal, numbered, line}
-use Rattle.printing.specs.Printed.{refusedLine, sevenLines, printedBy, printed}
+use Rattle.report_format.specs.Text.{ascii, decimal, numbered, line}
+use Rattle.report_format.specs.Printed.{refusedLine, sevenLines, printedBy, printed}
 
 zero-digits : decimal 0 ≡ ascii "0"
 unfolding decimal
