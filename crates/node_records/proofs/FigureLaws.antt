@@ -26,7 +26,7 @@ use Rattle.answer.specs.Checks.{cause₆, jobCause}
 use Rattle.answer.proofs.Passes.{Passes, passes}
 use Rattle.answer.proofs.JobCause.{job-passes}
 use Rattle.node_records.specs.Numbers.{ofNumbers}
-use Rattle.node_records.specs.Nodes.{stopAt, flownStops, isRecordOf, isNode}
+use Rattle.node_records.specs.Nodes.{flownStops, isRecordOf, isNode}
 use Rattle.node_records.specs.Answers.{isInside, recordAt, found, noFigures, figuresBy, figures}
 use Rattle.node_records.specs.Examples
 use Rattle.node_records.specs.declared.Found.{Found}
@@ -123,7 +123,7 @@ figures-other x n table bound none e = rw (none, e) refl
 figures-numbers :
     (inside : Bool) (x : Record) (n : ℕ) (table : List ℕ) (bound : ℕ)
     → figures inside (ofNumbers (x .size) (x .set) (x .first) (x .second)) n table bound ≡ figures inside x n table bound
-unfolding figures figuresBy isNode isRecordOf flownStops stopAt ofNumbers
+unfolding figures figuresBy isNode isRecordOf flownStops ofNumbers
 figures-numbers false x n table bound = refl
 figures-numbers true x n table bound = go (isNode n x) (jobCause (callOf n table 0 0 bound [] []) 0)
   where

@@ -2,24 +2,21 @@
 -- `NodeRecord` is what every record that passes is, the records that pass are just those of nodes, whatever path cost and bound they hold.
 -- Assumes nothing.
 use mathlib.Core.Path.{_≡_, refl, sym, _∙_, subst}
-use mathlib.Core.Logic.{_⊎_, inl, inr}
-use Prim.Native.Nat.{ℕ, _-_, _≤_, _<_}
+use Prim.Native.Nat.{ℕ, _≤_, _<_}
 use native.Mathlib.Omega.{arith}
-use borrow.Author.Tests.{lt-ltb, le-ltb}
 use lib.Dec.{T}
 use lib.ListN.{length, getD}
 use lib.Seq.{ext-getD}
-use Rattle.lists.proofs.Tests.{ordered}
 use Rattle.orders.specs.Orders.{Node, size, Partial}
 use Rattle.orders.proofs.Sets.{size-left}
 use Rattle.orders.proofs.Partial.{partial-size}
 use Rattle.stops.specs.Legs.{Legs}
 use Rattle.stops.specs.declared.node.Node.{Node as Record}
 use Rattle.records.specs.View.{encode}
-use Rattle.records.proofs.OrderWords.{first-digit, second-digit}
+use Rattle.records.proofs.OrderWords.{stop-read}
 use Rattle.records.proofs.Encode.{partial-digits}
-use Rattle.node_records.specs.Nodes.{stopAt, flownStops, isNode}
-use Rattle.node_records.proofs.OrderLaws.{stops-length, stop-here}
+use Rattle.node_records.specs.Nodes.{flownStops, isNode}
+use Rattle.node_records.proofs.OrderLaws.{stopOf, stops-length, stop-here}
 use Rattle.node_records.proofs.NodeLaws.{NodeRecord, record-node}
 
 module _ (n : ℕ) (few : n ≤ 16) (L : Legs) (k : ℕ) (x : Node) (p : Partial n x) where
@@ -33,13 +30,9 @@ module _ (n : ℕ) (few : n ≤ 16) (L : Legs) (k : ℕ) (x : Node) (p : Partial
   short : length x ≤ 16
   short = omega (arith, partial-size n x p, size-left n x)
 
-  stop-encode : (i : ℕ) → i < length x → stopAt w i ≡ getD x i 0
-  unfolding encode stopAt
-  stop-encode i h = go (ordered 8 i)
-    where
-      go : (8 ≤ i) ⊎ (i < 8) → stopAt w i ≡ getD x i 0
-      go (inl j) = rw (le-ltb i 8 j) (second-digit x (partial-digits n few x p) i h j)
-      go (inr j) = rw (lt-ltb i 8 j) (first-digit x (partial-digits n few x p) i h j)
+  stop-encode : (i : ℕ) → i < length x → stopOf w i ≡ getD x i 0
+  unfolding encode
+  stop-encode i h = stop-read x (partial-digits n few x p) i h
 
   long : length (flownStops w) ≡ length x
   long = omega (arith, stops-length w, size-encode, short)

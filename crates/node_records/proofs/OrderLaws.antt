@@ -1,54 +1,39 @@
 -- The stops of a record's order: how many they are, what they are, and what the loops over them build up.
---   stops-length, stop-here, stops-digits    as many as the size says, up to 16; each 1 to 16
+--   stopOf, stops-length, stop-here          the stop at a place; as many as the size says, up to 16
 --   stops-next                               one place further is one stop more
 --   Placed                                   the sixteen places filled up to k
 -- Assumes nothing.
 use mathlib.Core.Path.{_≡_, refl, ap, sym, _∙_, subst}
-use mathlib.Core.Bool.{Bool, true, false, cond}
 use mathlib.Core.List.{List, [], _∷_}
-use Prim.Native.Nat.{ℕ, suc, _+_, _-_, _^_, _/_, _%_, _≤_, _<_, min}
+use Prim.Native.Nat.{ℕ, suc, _+_, _-_, _≤_, _<_, min}
 use native.Mathlib.Omega.{arith}
-use lib.Dec.{ltb}
 use lib.ListN.{length, getD, take, set, replicate, length-map, length-append}
 use lib.Seq.{take-suc, take-all, length-take-le, set-at, append-snoc}
 use Rattle.lists.specs.Lists.{from}
-use Rattle.lists.proofs.Members.{in-map, length-from}
+use Rattle.lists.proofs.Members.{length-from}
 use Rattle.orders.specs.Orders.{Node, extend}
 use Rattle.stops.specs.declared.node.Node.{Node as Record}
 use Rattle.stops.proofs.LegTable.{getD-from}
-use Rattle.records.specs.Records.{padded}
-use Rattle.records.proofs.OrderWords.{Digits}
+use Rattle.records.specs.Records.{stopAt, padded}
 use Rattle.answer.specs.Call.{orderPlaces}
 use Rattle.node_records.specs.Numbers.{ofNumbers}
-use Rattle.node_records.specs.Nodes.{stopAt, flownStops}
+use Rattle.node_records.specs.Nodes.{flownStops}
 use Rattle.node_records.specs.Examples
+
+-- the stop at place k of a record's order
+abbrev pub stopOf : Record → ℕ → ℕ
+stopOf x k = stopAt (x .first) (x .second) k
 
 module _ (x : Record) where
   pub stops-length : length (flownStops x) ≡ min (x .size) 16
   unfolding flownStops
-  stops-length = length-map (from 0 (min (x .size) 16)) (stopAt x) ∙ length-from 0 (min (x .size) 16)
+  stops-length = length-map (from 0 (min (x .size) 16)) (stopOf x) ∙ length-from 0 (min (x .size) 16)
 
-  pub stop-here : (k : ℕ) → k < length (flownStops x) → getD (flownStops x) k 0 ≡ stopAt x k
+  pub stop-here : (k : ℕ) → k < length (flownStops x) → getD (flownStops x) k 0 ≡ stopOf x k
   unfolding flownStops
-  stop-here k h = getD-from (stopAt x) 0 (min (x .size) 16) k k 0 (omega (arith, stops-length)) (omega arith)
+  stop-here k h = getD-from (stopOf x) 0 (min (x .size) 16) k k 0 (omega (arith, stops-length)) (omega arith)
 
-  pub stop-range : (k : ℕ) → (1 ≤ stopAt x k) × (stopAt x k ≤ 16)
-  unfolding stopAt
-  stop-range k = go (ltb k 8)
-    where
-      go :
-          (b : Bool)
-          → (1 ≤ cond b (x .first / 16 ^ k % 16) (x .second / 16 ^ (k - 8) % 16) + 1)
-          × (cond b (x .first / 16 ^ k % 16) (x .second / 16 ^ (k - 8) % 16) + 1 ≤ 16)
-      go true = (omega arith, omega arith)
-      go false = (omega arith, omega arith)
-
-  pub stops-digits : Digits (flownStops x)
-  unfolding flownStops
-  stops-digits s m =
-      let (k, i, e) = in-map (stopAt x) (from 0 (min (x .size) 16)) s m in subst (λ (r : ℕ). (1 ≤ r) × (r ≤ 16)) (sym e) (stop-range k)
-
-  pub stops-next : (k : ℕ) → k < length (flownStops x) → take (k + 1) (flownStops x) ≡ extend (take k (flownStops x)) (stopAt x k)
+  pub stops-next : (k : ℕ) → k < length (flownStops x) → take (k + 1) (flownStops x) ≡ extend (take k (flownStops x)) (stopOf x k)
   stops-next k h =
       let e : k + 1 ≡ suc k = omega arith in
       rw (e, take-suc (flownStops x) k 0 h, stop-here k h) refl
@@ -62,12 +47,12 @@ places-more y s h =
     rw (e, f) (set-at y 0 (replicate (15 - length y) 0) s (length y) refl ∙ sym (append-snoc y s (replicate (15 - length y) 0)))
 
 -- the stop at a place lies with the two numbers of the order alone
-pub stop-same : (size set first second k : ℕ) → stopAt (ofNumbers 0 0 first second) k ≡ stopAt (ofNumbers size set first second) k
-unfolding stopAt ofNumbers
+pub stop-same : (size set first second k : ℕ) → stopAt first second k ≡ stopOf (ofNumbers size set first second) k
+unfolding ofNumbers
 stop-same size set first second k = refl
 
 pub stops-same : (size set first second : ℕ) → flownStops (ofNumbers size 0 first second) ≡ flownStops (ofNumbers size set first second)
-unfolding flownStops stopAt ofNumbers
+unfolding flownStops ofNumbers
 stops-same size set first second = refl
 
 pub size-same : (size set first second : ℕ) → ofNumbers size set first second .size ≡ size
@@ -86,7 +71,7 @@ module _ {x : Record} {count : ℕ} where
   placed-starts e = record { up-to = omega arith; all = e ∙ sym (stops-length x); held = refl }
 
   pub placed-more :
-      {places : List ℕ} {k : ℕ} {s : ℕ} → Placed x count places k → k < count → s ≡ stopAt x k → Placed x count (set places k s) (k + 1)
+      {places : List ℕ} {k : ℕ} {s : ℕ} → Placed x count places k → k < count → s ≡ stopOf x k → Placed x count (set places k s) (k + 1)
   placed-more {places} {k} {s} p h e =
       let inside : k < length (flownStops x) = omega (arith, p .all) in
       let long : length (take k (flownStops x)) ≡ k = length-take-le k (flownStops x) (omega arith) in
@@ -95,9 +80,9 @@ module _ {x : Record} {count : ℕ} where
         all = p .all;
         held =
             rw (p .held, e, stops-next x k inside)
-            (subst (λ (j : ℕ). set (padded orderPlaces (take k (flownStops x))) j (stopAt x k) ≡ padded orderPlaces
-            (extend (take k (flownStops x)) (stopAt x k)))
-            long (places-more (take k (flownStops x)) (stopAt x k) (omega (arith, stops-length x))));
+            (subst (λ (j : ℕ). set (padded orderPlaces (take k (flownStops x))) j (stopOf x k) ≡ padded orderPlaces
+            (extend (take k (flownStops x)) (stopOf x k)))
+            long (places-more (take k (flownStops x)) (stopOf x k) (omega (arith, stops-length x))));
       }
 
   pub placed-few : {places : List ℕ} {k : ℕ} → Placed x count places k → k < count → k < 16

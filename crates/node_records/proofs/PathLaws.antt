@@ -9,8 +9,9 @@ use Rattle.stops.specs.Legs.{Legs, path, last}
 use Rattle.stops.specs.Record.{Within}
 use Rattle.stops.specs.declared.node.Node.{Node as Record}
 use Rattle.stops.proofs.Paths.{path-extend, last-extend, path-small}
-use Rattle.node_records.specs.Nodes.{stopAt, flownStops}
-use Rattle.node_records.proofs.OrderLaws.{stops-length, stops-next, stop-range}
+use Rattle.records.proofs.OrderWords.{stop-range}
+use Rattle.node_records.specs.Nodes.{flownStops}
+use Rattle.node_records.proofs.OrderLaws.{stopOf, stops-length, stops-next}
 
 -- the first k stops of a record are flown
 pub record Along (L : Legs) (x : Record) (count spent place k : ℕ) : Type 0 where
@@ -45,16 +46,16 @@ module _ {L : Legs} {x : Record} {count : ℕ} where
     pub along-fits : Within 1000000 L → k < count → (s : ℕ) → spent + L .leg place s < 2 ^ 32
     along-fits w h s = omega (arith, along-small w, a .few, w .leg place s)
 
-    pub along-more : {s : ℕ} → k < count → s ≡ stopAt x k → Along L x count (spent + L .leg place s) s (k + 1)
+    pub along-more : {s : ℕ} → k < count → s ≡ stopOf x k → Along L x count (spent + L .leg place s) s (k + 1)
     along-more {s} h e =
-        let next : take (k + 1) (flownStops x) ≡ extend (take k (flownStops x)) (stopAt x k) = stops-next x k (omega (arith, a .all)) in
+        let next : take (k + 1) (flownStops x) ≡ extend (take k (flownStops x)) (stopOf x k) = stops-next x k (omega (arith, a .all)) in
         record {
           up-to = omega arith;
           few = a .few;
           all = a .all;
-          spent-is = rw (next, path-extend L (take k (flownStops x)) (stopAt x k), a .spent-is, a .place-is, e) refl;
-          place-is = rw (next, last-extend (take k (flownStops x)) (stopAt x k)) e;
-          place-few = omega (arith, stop-range x k);
+          spent-is = rw (next, path-extend L (take k (flownStops x)) (stopOf x k), a .spent-is, a .place-is, e) refl;
+          place-is = rw (next, last-extend (take k (flownStops x)) (stopOf x k)) e;
+          place-few = omega (arith, stop-range (x .first) (x .second) k);
         }
 
     pub along-ends : count ≤ k → (spent ≡ path L (flownStops x)) × (place ≡ last (flownStops x))

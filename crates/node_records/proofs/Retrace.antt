@@ -24,10 +24,11 @@ use Rattle.stops.proofs.Paths.{path-small}
 use Rattle.stops.specs.declared.node.Node.{Node as Record}
 use Rattle.records.specs.Records.{mask, orderWord}
 use Rattle.records.specs.View.{encode}
+use Rattle.records.proofs.OrderWords.{stop-range}
 use Rattle.records.proofs.Mask.{stops-set}
 use Rattle.records.proofs.Encode.{unbounded, encode-extend, encode-wide}
-use Rattle.node_records.specs.Nodes.{stopAt, flownStops, isNode}
-use Rattle.node_records.proofs.OrderLaws.{stops-length, stops-next, stop-here, stop-range}
+use Rattle.node_records.specs.Nodes.{flownStops, isNode}
+use Rattle.node_records.proofs.OrderLaws.{stopOf, stops-length, stops-next, stop-here}
 use Rattle.node_records.proofs.NodeLaws.{node-record, record-node, no-node}
 
 -- legs that cost nothing: what is built has no path cost
@@ -99,44 +100,44 @@ module _ {n : ℕ} {x w : Record} {k : ℕ} (r : Retraced n x w k) where
     inside : k < length (flownStops x)
     inside = omega (arith, stops-length x, r .short, r .few)
 
-    parts : y ≡ z ++ stopAt x k ∷ drop (k + 1) y
+    parts : y ≡ z ++ stopOf x k ∷ drop (k + 1) y
     unfolding y z
     parts =
         let e : suc k ≡ k + 1 = omega arith in
         rw (← stop-here x k inside, ← e) (split-at (flownStops x) k 0 inside)
 
     -- a stop above n: the record is no node's
-    pub stop-above : n < stopAt x k → false ≡ isNode n x
+    pub stop-above : n < stopOf x k → false ≡ isNode n x
     unfolding y z
     stop-above h =
-        no-node n x (λ q. absurd (let j : (1 ≤ stopAt x k) × (stopAt x k ≤ n) = q .node .only (stopAt x k) member in omega arith))
+        no-node n x (λ q. absurd (let j : (1 ≤ stopOf x k) × (stopOf x k ≤ n) = q .node .only (stopOf x k) member in omega arith))
       where
-        member : In (stopAt x k) (flownStops x)
-        member = subst (λ (l : List ℕ). In (stopAt x k) l) (sym parts) (Memᴰ·append-right z in-head)
+        member : In (stopOf x k) (flownStops x)
+        member = subst (λ (l : List ℕ). In (stopOf x k) l) (sym parts) (Memᴰ·append-right z in-head)
 
-    module _ (small : stopAt x k ≤ n) where
+    module _ (small : stopOf x k ≤ n) where
       -- a stop that is flown already: the record is no node's
-      pub stop-again : true ≡ flown (stopsIn (w .set)) (stopAt x k) → false ≡ isNode n x
+      pub stop-again : true ≡ flown (stopsIn (w .set)) (stopOf x k) → false ≡ isNode n x
       unfolding y
       stop-again h =
-          no-node n x (λ q. append-apart z (stopAt x k ∷ drop (k + 1) y) (subst Distinct parts (q .node .once)) (stopAt x k) member in-head)
+          no-node n x (λ q. append-apart z (stopOf x k ∷ drop (k + 1) y) (subst Distinct parts (q .node .once)) (stopOf x k) member in-head)
         where
-          member : In (stopAt x k) z
-          member = flown-in z (stopAt x k) (subst T (h ∙ held (stopAt x k) (stop-range x k .0) small) tt)
+          member : In (stopOf x k) z
+          member = flown-in z (stopOf x k) (subst T (h ∙ held (stopOf x k) (stop-range (x .first) (x .second) k .0) small) tt)
 
-      module _ (new : false ≡ flown (stopsIn (w .set)) (stopAt x k)) where
-        free-stop : In (stopAt x k) (left n z)
+      module _ (new : false ≡ flown (stopsIn (w .set)) (stopOf x k)) where
+        free-stop : In (stopOf x k) (left n z)
         free-stop =
-            left-in n z (stopAt x k) (stop-range x k .0) small
-            (subst (λ (b : Bool). T (not b)) (new ∙ held (stopAt x k) (stop-range x k .0) small) tt)
+            left-in n z (stopOf x k) (stop-range (x .first) (x .second) k .0) small
+            (subst (λ (b : Bool). T (not b)) (new ∙ held (stopOf x k) (stop-range (x .first) (x .second) k .0) small) tt)
 
-        pub stop-fits : Wide w (stopAt x k) 0
+        pub stop-fits : Wide w (stopOf x k) 0
         unfolding y z
         stop-fits =
-            rw (r .same) (wide-unbounded (encode-wide n (r .few) free 0 z (r .node) (stopAt x k) free-stop 0
+            rw (r .same) (wide-unbounded (encode-wide n (r .few) free 0 z (r .node) (stopOf x k) free-stop 0
             (omega (arith, path-small 0 free costless z))))
 
-        pub stop-added : Retraced n x (extended w (stopAt x k) 0) (k + 1)
+        pub stop-added : Retraced n x (extended w (stopOf x k) 0) (k + 1)
         unfolding y z extended
         stop-added = record {
           some = r .some;
@@ -144,9 +145,9 @@ module _ {n : ℕ} {x w : Record} {k : ℕ} (r : Retraced n x w k) where
           short = r .short;
           up-to = omega arith;
           node =
-              subst (Partial n) (sym (stops-next x k inside)) (partial-child n z (extend z (stopAt x k)) (r .node)
-              (extend-child n z (stopAt x k) free-stop));
-          same = rw (r .same, stops-next x k inside) (encode-extend n (r .few) free 0 z (r .node) (stopAt x k) free-stop);
+              subst (Partial n) (sym (stops-next x k inside)) (partial-child n z (extend z (stopOf x k)) (r .node)
+              (extend-child n z (stopOf x k) free-stop));
+          same = rw (r .same, stops-next x k inside) (encode-extend n (r .few) free 0 z (r .node) (stopOf x k) free-stop);
         }
 
   module _ (whole : x .size ≤ k) where

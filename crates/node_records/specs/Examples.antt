@@ -9,10 +9,10 @@ use Rattle.stops.specs.Legs.{entry, rows, rowLeg, legs, path, last, cost}
 use Rattle.stops.specs.Bounds.{plain, cheapestInto, remainder, close, boundBy}
 use Rattle.stops.specs.Record.{emptyRecord}
 use Rattle.stops.specs.declared.node.Node.{Node as Record}
-use Rattle.records.specs.Records.{mask, padded}
+use Rattle.records.specs.Records.{mask, stopAt, padded}
 use Rattle.answer.specs.Call.{callOf}
 use Rattle.answer.specs.Checks.{cause₁, cause₂, cause₃, cause₄, cause₅, jobCause}
-use Rattle.node_records.specs.Nodes.{stopAt, flownStops, isRecordOf, isNode}
+use Rattle.node_records.specs.Nodes.{flownStops, isRecordOf, isNode}
 use Rattle.node_records.specs.Answers.{isInside, recordAt, found, verdict, flownAt, noFigures, figuresBy, figures}
 
 -- the record of 21: two stops, bits 0 and 1, path cost 7 + 8; stop 2 stands in the lowest four bits, stop 1 in the next

@@ -1,25 +1,20 @@
 -- What a record says of a node: document 01, "The pool". Assumes nothing.
---   stopAt x k       the stop at place k of the record's order
 --   flownStops x     its stops in flown order
 --   isNode n x       whether it is a node's record at all, for n stops
 -- `proofs/` shows that the records that pass are just those of nodes, and that each node's stops are read back.
-use mathlib.Core.Bool.{Bool, true, not, _&&_, cond}
+use mathlib.Core.Bool.{Bool, true, not, _&&_}
 use mathlib.Core.List.{[], _∷_, map}
-use Prim.Native.Nat.{ℕ, _+_, _-_, _^_, _/_, _%_, min}
-use lib.Dec.{leb, ltb, eqb}
+use Prim.Native.Nat.{ℕ, min}
+use lib.Dec.{leb, eqb}
 use lib.ListN.{take, drop}
 use Rattle.lists.specs.Lists.{all, from}
 use Rattle.orders.specs.Orders.{Node, stops, flown, set, size}
 use Rattle.stops.specs.declared.node.Node.{Node as Record}
-use Rattle.records.specs.Records.{mask, orderWord}
-
--- "two for the order (s-1 in four bits each, eight stops a number, first stop lowest ..)"
-unfoldable pub stopAt : Record → ℕ → ℕ
-stopAt x k = cond (ltb k 8) (x .first / 16 ^ k % 16) (x .second / 16 ^ (k - 8) % 16) + 1
+use Rattle.records.specs.Records.{mask, orderWord, stopAt}
 
 -- as many as the size says, of the sixteen that the two numbers have bits for
 unfoldable pub flownStops : Record → Node
-flownStops x = map (stopAt x) (from 0 (min (x .size) 16))
+flownStops x = map (stopAt (x .first) (x .second)) (from 0 (min (x .size) 16))
 
 -- no stop twice
 abbrev pub distinct : Node → Bool

@@ -7,7 +7,7 @@ ghost use Rattle.node_records.specs.Nodes.{isNode};
 ghost use Rattle.node_records.specs.Numbers.{ofNumbers};
 ghost use Rattle.node_records.specs.Answers.{verdict};
 use crate::Verdict;
-use crate::order::stop_at;
+use records::order::stop_at;
 use stops::node::Node;
 
 // Whether a set holds stop s.

@@ -13,8 +13,8 @@ ghost use Rattle.node_records.specs.Numbers.{ofNumbers};
 ghost use Rattle.node_records.specs.Answers.{figures, noFigures};
 use crate::Figures;
 use crate::check::is_record;
-use crate::order::stop_at;
 use checks::job_cause;
+use records::order::stop_at;
 use stops::bound::ahead;
 use stops::table::rows;
 

@@ -1,21 +1,10 @@
 // The order of a record: its stops, four bits each.
 ghost use mathlib.Core.Path.{_≡_};
-ghost use Prim.Native.Nat.{_≤_, _<_, min};
-ghost use Rattle.node_records.specs.Nodes.{stopAt};
+ghost use Prim.Native.Nat.{min};
 ghost use Rattle.node_records.specs.Numbers.{ofNumbers};
 ghost use Rattle.node_records.specs.Answers.{flownAt};
 use crate::Flown;
-
-// The stop at place k.
-pub fn stop_at(first: u32, second: u32, k: u32) -> u32
-    requires { ⌜ k < 16 ⌝ }
-    ensures { λ r. ⌜ (r ≡ stopAt (ofNumbers 0 0 first second) k) × (r ≤ 16) ⌝ }
-{
-    if k < 8 {
-        return (first >> (4 * k)) % 16 + 1;
-    }
-    (second >> (4 * (k - 8))) % 16 + 1
-}
+use records::order::stop_at;
 
 // A size, of at most sixteen.
 fn places(size: u32) -> u32

@@ -1,11 +1,12 @@
 -- The order of a node as two words, of its first eight stops and of the others: stop s is the digit s-1 of four bits, the first lowest.
 --   first-below, second-below      a word of k digits is below 16 to the power k
 --   first-digit, second-digit      the stops can be read back
+--   stop-range, stop-read          the stop at a place is 1 to 16, and a node's own
 --   first-extend, second-extend    one stop more is one digit more, in the second word once the first is full
 --   orders-equal                   nodes of one length with the same words are one node
 -- Each is shown of one word (`word-..`) and then of both. Assumes nothing.
 use mathlib.Core.Path.{_≡_, refl, ap, ap₂, sym, _∙_, subst}
-use mathlib.Core.Bool.{cond}
+use mathlib.Core.Bool.{Bool, true, false, cond}
 use mathlib.Core.List.{[], _∷_, _++_, List·Memᴰ·tail, Memᴰ·append-left, Memᴰ·append-right}
 use mathlib.Core.Logic.{_⊎_, inl, inr}
 use Prim.Native.Nat.{ℕ, zero, suc, _+_, _*_, _-_, _^_, _/_, _%_, _≤_, _<_, min}
@@ -19,7 +20,7 @@ use Rattle.lists.specs.Lists.{In}
 use Rattle.lists.proofs.Members.{in-head}
 use Rattle.lists.proofs.Tests.{ordered}
 use Rattle.orders.specs.Orders.{Node, extend}
-use Rattle.records.specs.Records.{orderWord}
+use Rattle.records.specs.Records.{orderWord, stopAt}
 use Rattle.records.specs.Examples
 
 -- each stop fits a digit of four bits
@@ -81,6 +82,26 @@ module _ (x : Node) (d : Digits x) where
   second-digit i h k =
       word-digit (drop 8 x) (digits-drop 8 x d) (i - 8) (omega (arith, length-drop 8 x)) ∙ getD-drop 8 x (i - 8) 0
       ∙ ap (λ (j : ℕ). getD x j 0) (omega arith)
+
+  pub stop-read : (i : ℕ) → i < length x → stopAt (orderWord (take 8 x)) (orderWord (drop 8 x)) i ≡ getD x i 0
+  unfolding stopAt
+  stop-read i h = go (ordered 8 i)
+    where
+      go : (8 ≤ i) ⊎ (i < 8) → stopAt (orderWord (take 8 x)) (orderWord (drop 8 x)) i ≡ getD x i 0
+      go (inl k) = rw (le-ltb i 8 k) (second-digit i h k)
+      go (inr k) = rw (lt-ltb i 8 k) (first-digit i h k)
+
+-- whatever the two numbers are
+pub stop-range : (first second k : ℕ) → (1 ≤ stopAt first second k) × (stopAt first second k ≤ 16)
+unfolding stopAt
+stop-range first second k = go (ltb k 8)
+  where
+    go :
+        (b : Bool)
+        → (1 ≤ cond b (first / 16 ^ k % 16) (second / 16 ^ (k - 8) % 16) + 1)
+        × (cond b (first / 16 ^ k % 16) (second / 16 ^ (k - 8) % 16) + 1 ≤ 16)
+    go true = (omega arith, omega arith)
+    go false = (omega arith, omega arith)
 
 -- a stop more goes into the first word while there are fewer than eight, and then into the second
 pub first-extend :

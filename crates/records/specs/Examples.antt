@@ -1,18 +1,19 @@
 -- Worked examples of records and of the pool's words. Assumes nothing.
 use mathlib.Core.Path.{_≡_, refl}
-use mathlib.Core.List.{List, [], _∷_}
+use mathlib.Core.List.{List, [], _∷_, map}
 use mathlib.Core.Option.{none}
 use Prim.Native.Nat.{ℕ}
+use Rattle.lists.specs.Lists.{from}
 use Rattle.search.specs.Problem.{State}
 use Rattle.search.specs.Run.{held}
 use Rattle.orders.specs.Orders.{Node, flown, set, left, size, complete}
 use Rattle.stops.specs.Legs.{Legs, entry, rows, rowLeg, legs, path, last, cost}
 use Rattle.stops.specs.Bounds.{plain, cheapestInto, remainder, close, boundBy}
-use Rattle.records.specs.Records.{mask, record-of, padded, poolWords, recordsIn}
+use Rattle.records.specs.Records.{mask, stopAt, record-of, padded, poolWords, recordsIn}
 
 -- the legs of document 01's table T, with every definition that the examples rest on open
 T : Legs
-unfolding held flown set left size complete entry rows rowLeg legs path last cost plain cheapestInto remainder close boundBy mask record-of padded poolWords recordsIn
+unfolding held flown set left size complete entry rows rowLeg legs path last cost plain cheapestInto remainder close boundBy mask stopAt record-of padded poolWords recordsIn
 T = legs (rows 3 (0 ∷ 4 ∷ 7 ∷ 9 ∷ 5 ∷ 0 ∷ 2 ∷ 6 ∷ 3 ∷ 8 ∷ 0 ∷ 1 ∷ 6 ∷ 5 ∷ 4 ∷ 0 ∷ []))
 
 -- 21: two stops, bits 0 and 1, path cost 7 + 8; stop 2 stands in the lowest four bits, stop 1 in the next
@@ -31,6 +32,11 @@ ten-stops :
     ≡ 10 ∷ 1023 ∷ 10 ∷ 10 ∷ 0x7654_3210 ∷ 152 ∷ []
 unfolding T
 ten-stops = refl
+
+-- and are read back from there
+stops-of-ten : map (stopAt 0x7654_3210 152) (from 0 10) ≡ 1 ∷ 2 ∷ 3 ∷ 4 ∷ 5 ∷ 6 ∷ 7 ∷ 8 ∷ 9 ∷ 10 ∷ []
+unfolding T
+stops-of-ten = refl
 
 -- a state with two active nodes and e branched
 state : State Node

@@ -1,6 +1,8 @@
 -- Node records and the pool's words: document 01, "The pool". Assumes nothing.
+use mathlib.Core.Bool.{cond}
 use mathlib.Core.List.{List, [], _∷_, _++_}
-use Prim.Native.Nat.{ℕ, suc, _+_, _*_, _-_, _^_, _/_}
+use Prim.Native.Nat.{ℕ, _+_, _*_, _-_, _^_, _/_, _%_}
+use lib.Dec.{ltb}
 use lib.ListN.{length, take, drop, replicate}
 use Rattle.lists.specs.Lists.{sum, each}
 use Rattle.search.specs.Problem.{State}
@@ -21,6 +23,10 @@ mask stops = sum (λ s. 2 ^ (s - 1)) stops
 abbrev pub orderWord : Node → ℕ
 orderWord [] = 0
 orderWord (s ∷ x) = (s - 1) + 16 * orderWord x
+
+-- the stop at place k of an order, read from its two numbers
+unfoldable pub stopAt : ℕ → ℕ → ℕ → ℕ
+stopAt first second k = cond (ltb k 8) (first / 16 ^ k % 16) (second / 16 ^ (k - 8) % 16) + 1
 
 -- "size, set .., path cost, bound, and two for the order"
 unfoldable pub record-of : ℕ → Legs → ℕ → Node → List ℕ

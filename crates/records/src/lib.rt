@@ -1,11 +1,14 @@
 // Node records: a record's six numbers and the pool's words for a state are document 01's (specs/Records); words are seen as a list of
-// records (specs/View), and one is read and written here. The functions are public for the crates above and not for hosts; what they
+// records (specs/View), and one is read and written here; `order` reads a stop of an order. The functions are public for the crates above and not for hosts; what they
 // require, those crates meet.
 ghost use mathlib.Core.Path.{_≡_};
 ghost use Prim.Native.Nat.{_<_};
 ghost use lib.ListN.{length, getD, set};
 ghost use Rattle.stops.specs.Record.{emptyRecord};
 ghost use Rattle.records.specs.View.{records};
+
+pub mod order;
+
 use stops::node::Node;
 
 pub fn load(w: &[u32], i: usize) -> Node

@@ -37,12 +37,12 @@ use Rattle.stops.specs.Stops.{aboveEveryCost}
 use Rattle.stops.specs.declared.node.Node.{Node as Record}
 use Rattle.stops.proofs.Paths.{path-small, last-extend}
 use Rattle.stops.proofs.Bounds.{bound-exact}
-use Rattle.records.specs.Records.{mask, orderWord, padded}
+use Rattle.records.specs.Records.{mask, orderWord, stopAt, padded}
 use Rattle.records.specs.View.{encode}
-use Rattle.records.proofs.OrderWords.{Digits, first-digit, second-digit}
+use Rattle.records.proofs.OrderWords.{stop-read}
 use Rattle.records.proofs.Encode.{unbounded, encode-extend, encode-wide, partial-digits}
 use Rattle.answer.specs.Answer.{given}
-use Rattle.step.specs.OnRecords.{Table, recProblem, IsBest, Rows, stopAt}
+use Rattle.step.specs.OnRecords.{Table, recProblem, IsBest, Rows}
 use Rattle.step.specs.declared.best.Best.{Best}
 
 -- part 2 of a step: the fold over one child more
@@ -210,19 +210,6 @@ module _
       rw (given-some y (omega (arith, order-length n y o, rows .some)), f .numbers, f .at, take-all k y whole)
       (sym (bound-exact j h n (legs t) y (order-complete n y o)), refl, refl)
 
--- the stops of an order can be read back from its two words
-stop-at :
-    (n : ℕ) → n ≤ 16 → (x : Node) → Order n x → (j : ℕ) → j < length x → stopAt (orderWord (take 8 x)) (orderWord (drop 8 x)) j ≡ getD x j 0
-unfolding stopAt
-stop-at n few x o j h = go (ordered 8 j)
-  where
-    digits : Digits x
-    digits = partial-digits n few x (order-partial n x o)
-
-    go : (8 ≤ j) ⊎ (j < 8) → stopAt (orderWord (take 8 x)) (orderWord (drop 8 x)) j ≡ getD x j 0
-    go (inl k) = rw (le-ltb j 8 k) (second-digit x digits j h k)
-    go (inr k) = rw (lt-ltb j 8 k) (first-digit x digits j h k)
-
 zero-behind : (x : Node) (m j : ℕ) → length x ≤ j → getD (x ++ replicate m 0) j 0 ≡ 0
 zero-behind [] zero j h = refl
 zero-behind [] (suc m) zero h = refl
@@ -267,5 +254,5 @@ read-order {n} {places} x few o r = ext-getD 0 places (padded 16 x) long (λ j h
     go : (j : ℕ) → (n ≤ j) ⊎ (j < n) → getD places j 0 ≡ getD (padded 16 x) j 0
     go j (inl h) = r .behind j h ∙ sym (zero-behind x (16 - length x) j (omega (arith, whole)))
     go j (inr h) =
-        r .front j h ∙ stop-at n few x o j (omega (arith, whole))
+        r .front j h ∙ stop-read x (partial-digits n few x (order-partial n x o)) j (omega (arith, whole))
         ∙ sym (List·getD-append x (replicate (16 - length x) 0) 0 j (omega (arith, whole)))

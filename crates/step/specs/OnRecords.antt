@@ -12,8 +12,8 @@ use mathlib.Core.Path.{_≡_}
 use mathlib.Core.Bool.{Bool, true, false, cond}
 use mathlib.Core.List.{List, [], map, reverse}
 use mathlib.Core.Option.{Option, none, some}
-use Prim.Native.Nat.{ℕ, _+_, _-_, _^_, _/_, _%_, _≤_, _<_}
-use lib.Dec.{T, ltb, eqb}
+use Prim.Native.Nat.{ℕ, _+_, _-_, _^_, _≤_, _<_}
+use lib.Dec.{T, eqb}
 use lib.ListN.{length, getD, take, drop, set}
 use Rattle.lists.specs.Lists.{In, keep}
 use Rattle.search.specs.Problem.{Problem, Choices, State}
@@ -76,10 +76,6 @@ pub record Encoded (n : ℕ) (t : List (List ℕ)) (k : ℕ) (b : Record) : Type
 abbrev pub IsBest : Best → Option Record → Type 0
 IsBest b none = (b .upper ≡ aboveEveryCost) × (b .first ≡ 0) × (b .second ≡ 0)
 IsBest b (some x) = (b .upper ≡ x .bound) × (b .first ≡ x .first) × (b .second ≡ x .second)
-
--- the stop at place i of an order's two words
-unfoldable pub stopAt : ℕ → ℕ → ℕ → ℕ
-stopAt first second i = cond (ltb i 8) (first / 16 ^ i % 16 + 1) (second / 16 ^ (i - 8) % 16 + 1)
 
 -- a rule's pass, if the rule is on
 abbrev pub passing : Bool → (Record → Bool) → List Record → List Record

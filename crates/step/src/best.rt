@@ -3,7 +3,7 @@ ghost use mathlib.Core.Path.{_≡_};
 ghost use mathlib.Core.List.{List, [], _∷_};
 ghost use mathlib.Core.Logic.{_⊎_};
 ghost use mathlib.Core.Option.{Option, Option·map};
-ghost use Prim.Native.Nat.{ℕ, _≤_, _<_};
+ghost use Prim.Native.Nat.{ℕ, _≤_};
 ghost use lib.ListN.{length, take, drop};
 ghost use Rattle.lists.specs.Lists.{In};
 ghost use Rattle.search.specs.Step.{learn};
@@ -13,8 +13,9 @@ ghost use Rattle.stops.specs.Legs.{legs};
 ghost use Rattle.records.specs.View.{records, encode};
 ghost use Rattle.records.specs.Records.{padded, orderWord};
 ghost use Rattle.answer.specs.Answer.{given};
-ghost use Rattle.step.specs.OnRecords.{Table, IsBest, recProblem, Rows, stopAt};
+ghost use Rattle.step.specs.OnRecords.{Table, IsBest, recProblem, Rows};
 use records::load;
+use records::order::stop_at;
 use stops::node::Node;
 
 // The cost of the best order known, and its two words; the largest number and zeros if none is known.
@@ -95,19 +96,8 @@ pub fn stops_of(n: u32, first: u32, second: u32) -> [u8; 16]
     let mut order = [0u8; 16];
     let mut i = 0;
     while i < n {
-        order[i as usize] = digit(first, second, i);
+        order[i as usize] = stop_at(first, second, i) as u8;
         i += 1;
     }
     order
-}
-
-// The stop at a place of an order.
-fn digit(first: u32, second: u32, i: u32) -> u8
-    requires { ⌜ i < 16 ⌝ }
-    ensures { λ r. ⌜ r ≡ stopAt first second i ⌝ }
-{
-    if i < 8 {
-        return ((first >> (4 * i)) % 16 + 1) as u8;
-    }
-    ((second >> (4 * (i - 8))) % 16 + 1) as u8
 }

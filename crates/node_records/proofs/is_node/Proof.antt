@@ -39,7 +39,7 @@ use denote.Triple.Walked.{walk-meets}
 use Rattle.stops.specs.declared.node.Node.{Node as Record}
 use Rattle.stops.proofs.node.Node as T
 use Rattle.node_records.specs.Numbers.{ofNumbers}
-use Rattle.node_records.specs.Nodes.{stopAt, flownStops, isRecordOf, isNode}
+use Rattle.node_records.specs.Nodes.{flownStops, isRecordOf, isNode}
 use Rattle.node_records.specs.Answers.{isInside, recordAt, found, verdict}
 use Rattle.node_records.specs.declared.Found.{Found}
 use Rattle.node_records.specs.declared.Verdict.{Verdict}
@@ -113,7 +113,7 @@ answers :
     (ys : List Record) (i : ℕ) (r : Found) (n : ℕ) (u : Verdict) → r ≡ found ys i
     → u ≡ verdict (r .inside) (ofNumbers (r .node .size) (r .node .set) (r .node .first) (r .node .second)) n
     → u ≡ verdict (isInside ys i) (recordAt ys i) n
-unfolding found verdict isNode isRecordOf flownStops stopAt ofNumbers
+unfolding found verdict isNode isRecordOf flownStops ofNumbers
 answers ys i r n u e f = f ∙ rw e refl
 
 module _

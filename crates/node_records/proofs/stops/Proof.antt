@@ -39,7 +39,7 @@ use denote.Triple.Walked.{walk-meets}
 use Rattle.stops.specs.declared.node.Node.{Node as Record}
 use Rattle.stops.proofs.node.Node as T
 use Rattle.node_records.specs.Numbers.{ofNumbers}
-use Rattle.node_records.specs.Nodes.{stopAt, flownStops}
+use Rattle.node_records.specs.Nodes.{flownStops}
 use Rattle.node_records.specs.Answers.{isInside, recordAt, found, flownAt}
 use Rattle.node_records.specs.declared.Found.{Found}
 use Rattle.node_records.specs.declared.Flown.{Flown}
@@ -101,7 +101,7 @@ module _ {M : Type 1} (𝓤 : URA M) (H : Heap 𝓤) (A : Atoms 𝓤) (mem : Mem
 answers :
     (ys : List Record) (i : ℕ) (r : Found) (u : Flown) → r ≡ found ys i
     → u ≡ flownAt (r .inside) (ofNumbers (r .node .size) 0 (r .node .first) (r .node .second)) → u ≡ flownAt (isInside ys i) (recordAt ys i)
-unfolding found flownAt flownStops stopAt ofNumbers
+unfolding found flownAt flownStops ofNumbers
 answers ys i r u e f = f ∙ rw e refl
 
 module _

@@ -4,9 +4,10 @@ use mathlib.Core.Path.{_≡_, sym, _∙_}
 use Prim.Native.Nat.{_-_, _<_}
 use native.Mathlib.Omega.{arith}
 use Rattle.orders.proofs.Sets.{size-left}
+use Rattle.records.proofs.OrderWords.{stop-range}
 use Rattle.node_records.specs.Numbers.{ofNumbers}
-use Rattle.node_records.specs.Nodes.{stopAt, flownStops}
-use Rattle.node_records.proofs.OrderLaws.{stop-same, stop-range}
+use Rattle.node_records.specs.Nodes.{flownStops}
+use Rattle.node_records.proofs.OrderLaws.{stopOf, stop-same}
 use Rattle.node_records.proofs.NodeLaws.{no-node}
 use Rattle.node_records.proofs.Retrace.{Retraced, retraced-starts, stop-above, stop-again, stop-fits, stop-added, other-set}
 use Rattle.node_records.proofs.Retrace.{other-first, same-record}
@@ -56,7 +57,7 @@ stop-at-requires c κs = omega (arith, c .before .loop .inv .short, c .before .l
 stop :
     (c : tie.After-stop-at Inv-loop μ-loop) →
     let a = c .before .before .before .before .before .before .before .args in
-    c .stop-at .result ≡ stopAt (ofNumbers (a .size) (a .set) (a .first) (a .second)) (c .before .before .loop .k)
+    c .stop-at .result ≡ stopOf (ofNumbers (a .size) (a .set) (a .first) (a .second)) (c .before .before .loop .k)
 stop c =
     let a = c .before .before .before .before .before .before .before .args in
     c .stop-at .ensures .0 ∙ stop-same (a .size) (a .set) (a .first) (a .second) (c .before .before .loop .k)
@@ -68,7 +69,7 @@ holds-requires : tie.Need-holds-requires Inv-loop μ-loop
 holds-requires c κs =
     let l = c .before .before .before in
     let a = l .before .before .before .before .before .args in
-    omega (arith, stop (c .before), stop-range (ofNumbers (a .size) (a .set) (a .first) (a .second)) (l .loop .k))
+    omega (arith, stop (c .before), stop-range (a .first) (a .second) (l .loop .k))
 
 returns-5 : tie.Need-returns-5 Inv-loop μ-loop
 returns-5 c =

@@ -16,11 +16,14 @@ abbrev μ-loop : tie.MeasureT-loop
 loop-holds : tie.Need-loop-holds Inv-loop μ-loop
 loop-holds c = (omega arith, read-none _ _)
 
-digit-requires : tie.Need-digit-requires Inv-loop μ-loop
-digit-requires c κs = omega arith
+stop-at-requires : tie.Need-stop-at-requires Inv-loop μ-loop
+stop-at-requires c κs = omega arith
 
 cast-order : tie.Need-cast-order Inv-loop μ-loop
 cast-order c = omega arith
+
+cast-order-2 : tie.Need-cast-order-2 Inv-loop μ-loop
+cast-order-2 c = omega arith
 
 array-write-order : tie.Need-array-write-order Inv-loop μ-loop
 array-write-order c = omega arith
@@ -32,7 +35,7 @@ loop-less : tie.Need-loop-less Inv-loop μ-loop
 loop-less c = omega arith
 
 loop-again : tie.Need-loop-again Inv-loop μ-loop
-loop-again c = (omega arith, rw (c .digit .ensures) (read-more (c .before .before .loop .inv .1) (omega arith)))
+loop-again c = (omega arith, rw (c .stop-at .ensures .0) (read-more (c .before .before .loop .inv .1) (omega arith)))
 
 returns : tie.Need-returns Inv-loop μ-loop
 returns c =
@@ -48,8 +51,9 @@ stops-of-spec =
     Inv-loop
     μ-loop
     loop-holds
-    digit-requires
+    stop-at-requires
     cast-order
+    cast-order-2
     array-write-order
     add-i
     loop-less
