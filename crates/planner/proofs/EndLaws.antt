@@ -30,7 +30,8 @@ use Rattle.records.proofs.PoolWords.{pool-words}
 use Rattle.answer.specs.Call.{Call, Report, orderPlaces}
 use Rattle.answer.specs.Checks.{cause}
 use Rattle.answer.specs.Answer.{legsOf, problemOf, choicesOf, outcome, StateOf, stopsOf, reportWith, wordsOf, ending, respond, answer}
-use Rattle.step.specs.OnRecords.{Table, farOf, IsBest, Shown}
+use Rattle.children.specs.OnRecords.{Table, IsBest}
+use Rattle.step.specs.Stepping.{farOf, Shown}
 use Rattle.planner.specs.Turns.{Running, Turned, recordsOf}
 use Rattle.step.specs.declared.Run.{Run}
 use Rattle.planner.specs.declared.run.Turn.the-variants.{Finish, Full}

@@ -25,7 +25,8 @@ use Rattle.records.specs.View.{records, encode}
 use Rattle.records.proofs.ViewLaws.{length-records}
 use Rattle.answer.specs.Call.{Call}
 use Rattle.answer.specs.Answer.{legsOf, given}
-use Rattle.step.specs.OnRecords.{Table, Rows, Shown}
+use Rattle.children.specs.OnRecords.{Table, Rows}
+use Rattle.step.specs.Stepping.{Shown}
 use Rattle.planner.specs.Turns.{Running, Turned, recordsOf}
 use Rattle.step.specs.declared.Run.{Run}
 use Rattle.planner.specs.declared.run.Turn.the-variants.{Go}

@@ -41,12 +41,13 @@ use Rattle.records.specs.View.{records, encode}
 use Rattle.selection.specs.Choosing.{Chosen}
 use Rattle.records.specs.Passes.{dropAt}
 use Rattle.answer.specs.Answer.{given}
-use Rattle.step.specs.OnRecords.{Table, recProblem, recChoices, Encoded, Ready, Shown, stepOf, Stepping}
+use Rattle.children.specs.OnRecords.{Table, recProblem, recChoices, Encoded}
+use Rattle.step.specs.Stepping.{Ready, Shown, stepOf, Stepping}
 use Rattle.planner.specs.Turns.{recordsOf, Running, Turned}
 use Rattle.step.specs.declared.Run.{Run}
 use Rattle.step.specs.declared.After.the-variants.{Full as FullAfter, Go as GoAfter}
 use Rattle.planner.specs.declared.run.Turn.the-variants.{Finish, Full, Go}
-use Rattle.step.proofs.RecordRun.{record-maps}
+use Rattle.children.proofs.RecordRun.{record-maps}
 use Rattle.step.proofs.StepShown.{upper-best}
 use Rattle.step.proofs.StepAfter.{dropped-length}
 use Rattle.planner.proofs.StartLaws.{given-known, given-valid, root-within}

@@ -18,7 +18,8 @@ use Rattle.stops.specs.Stops.{problem, choices}
 use Rattle.stops.specs.declared.node.Node.{Node as Record}
 use Rattle.records.specs.View.{records, encode}
 use Rattle.answer.specs.Answer.{given}
-use Rattle.step.specs.OnRecords.{Table, Rows, Shown}
+use Rattle.children.specs.OnRecords.{Table, Rows}
+use Rattle.step.specs.Stepping.{Shown}
 use Rattle.step.specs.declared.Run.{Run}
 use Rattle.planner.specs.declared.run.Turn.{Turn}
 use Rattle.planner.specs.declared.run.Turn.the-variants.{Finish, Full, Go}

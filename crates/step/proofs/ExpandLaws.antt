@@ -14,10 +14,11 @@ use Rattle.stops.proofs.SetBits.{stopsIn-few}
 use Rattle.records.specs.View.{records}
 use Rattle.records.specs.Passes.{dropAt}
 use Rattle.records.proofs.ViewLaws.{length-records}
-use Rattle.step.specs.OnRecords.{Table, Rows, Encoded, restOf, childOf, childrenOf, recProblem, IsBest, survivorsOf, Ready, Expansion}
-use Rattle.step.specs.declared.best.Best.{Best}
+use Rattle.children.specs.OnRecords.{Table, Rows, Encoded, restOf, childOf, childrenOf, recProblem, IsBest, survivorsOf}
+use Rattle.step.specs.Stepping.{Ready, Expansion}
+use Rattle.children.specs.declared.best.Best.{Best}
 use Rattle.step.specs.declared.Run.{Run}
-use Rattle.step.proofs.FamilyLaws.{rest-small}
+use Rattle.children.proofs.FamilyLaws.{rest-small}
 
 -- words as many as before are records as many as before
 pub same-records : (w w′ : List ℕ) → length w′ ≡ length w → length (records w′) ≡ length (records w)

@@ -1,8 +1,3 @@
-pub mod RecordRun
-pub mod FamilyLaws
-pub mod BestLaws
-pub mod SurvivorLaws
-pub mod ReplaceLaws
 pub mod ExpandLaws
 pub mod StepLaws
 pub mod StepShown

@@ -15,8 +15,10 @@ use Rattle.stops.specs.Record.{emptyRecord}
 use Rattle.stops.specs.declared.node.Node.{Node as Record}
 use Rattle.records.specs.View.{records}
 use Rattle.records.specs.Passes.{dropAt}
-use Rattle.step.specs.OnRecords.{Table, recProblem, recChoices, childrenOf, stayingOf, heldWith, farOf, Ready, Shown, stepOf}
-use Rattle.step.specs.declared.best.Best.{Best}
+use Rattle.children.specs.OnRecords.{Table, recProblem, recChoices, childrenOf}
+use Rattle.replacement.specs.Active.{stayingOf, heldWith}
+use Rattle.step.specs.Stepping.{farOf, Ready, Shown, stepOf}
+use Rattle.children.specs.declared.best.Best.{Best}
 use Rattle.step.specs.declared.Run.{Run}
 use Rattle.step.proofs.StepLaws.{Bounded, eliminated-are}
 use Rattle.step.proofs.StepShown.{Stage, stage-active, active-number, stage-kept}

@@ -23,7 +23,8 @@ use Rattle.stops.specs.declared.node.Node.{Node as Record}
 use Rattle.pool.specs.Staying.{isWithin, isStaying}
 use Rattle.rivals.specs.Rivals.{isFree}
 use Rattle.records.specs.Passes.{dropAt}
-use Rattle.step.specs.OnRecords.{Table, recProblem, recChoices, childrenOf, survivorsOf, passing, farOf}
+use Rattle.children.specs.OnRecords.{Table, recProblem, recChoices, childrenOf, survivorsOf, passing}
+use Rattle.step.specs.Stepping.{farOf}
 
 -- any over a part, and over a list turned around
 any-keep : {A : Type 0} (p q : A → Bool) (xs : List A) → any p (keep q xs) ≡ any (λ x. q x && p x) xs

@@ -26,8 +26,10 @@ use Rattle.stops.specs.declared.node.Node.{Node as Record}
 use Rattle.records.specs.View.{records}
 use Rattle.records.specs.Passes.{dropAt}
 use Rattle.pool.specs.Staying.{isStaying}
-use Rattle.step.specs.OnRecords.{Table, recProblem, recChoices, childrenOf, survivorsOf, stayingOf, heldWith, farOf, IsBest, Ready, Shown, Expansion, stepOf}
-use Rattle.step.specs.declared.best.Best.{Best}
+use Rattle.children.specs.OnRecords.{Table, recProblem, recChoices, childrenOf, survivorsOf, IsBest}
+use Rattle.replacement.specs.Active.{stayingOf, heldWith}
+use Rattle.step.specs.Stepping.{farOf, Ready, Shown, Expansion, stepOf}
+use Rattle.children.specs.declared.best.Best.{Best}
 use Rattle.step.specs.declared.Run.{Run}
 use Rattle.step.proofs.StepLaws.{Bounded, survivors-are, staying-are, eliminated-are}
 

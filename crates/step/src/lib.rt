@@ -1,29 +1,23 @@
-// One step of a run on the pool's records, in its seven parts. specs/OnRecords has what its functions compute, and proofs/ shows that it is
-// the written step of crate `search`. The functions are public for the crate above and not for hosts; what they require, that crate meets.
+// One step of a run on the pool's records: its seven parts, of crates `children` and `replacement`, one after the other. specs/Stepping has
+// what its functions compute, and proofs/ shows that it is the written step of crate `search`. The functions are public for the crate above and not for hosts; what they require, that crate meets.
 ghost use mathlib.Core.Path.{_≡_};
 ghost use Prim.Native.Nat.{_+_, _-_, _^_, _≤_, _<_, max};
 ghost use lib.ListN.{length};
 ghost use Rattle.search.specs.Problem.{State};
 ghost use Rattle.stops.specs.declared.node.Node.{Node as Record};
 ghost use Rattle.records.specs.View.{records};
-ghost use Rattle.step.specs.OnRecords.{Ready, Shown, Stepping, Expansion};
-
-pub mod best;
-pub mod family;
-pub mod replace;
-pub mod survivors;
-
-use crate::best::Best;
-use crate::best::learn;
-use crate::family::family;
-use crate::replace::all_stay;
-use crate::replace::fits;
-use crate::replace::hold;
-use crate::replace::holding;
-use crate::replace::replace;
-use crate::replace::taking_of;
-use crate::survivors::limit_of;
-use crate::survivors::survivors;
+ghost use Rattle.step.specs.Stepping.{Ready, Shown, Stepping, Expansion};
+use children::best::Best;
+use children::best::learn;
+use children::family::family;
+use children::survivors::limit_of;
+use children::survivors::survivors;
+use replacement::all_stay;
+use replacement::fits;
+use replacement::hold;
+use replacement::holding;
+use replacement::replace;
+use replacement::taking_of;
 use stops::node::Node;
 
 // Where a run stands beside the pool: how many active records stand at its front and how many branched ones at its far end, U with

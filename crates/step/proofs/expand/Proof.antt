@@ -6,7 +6,7 @@ use borrow.Author.Needs.{needs}
 use lib.ListN.{length}
 use Rattle.records.specs.View.{records}
 use Rattle.records.proofs.ViewLaws.{length-records}
-use Rattle.step.proofs.FamilyLaws.{children-size, children-near}
+use Rattle.children.proofs.FamilyLaws.{children-size, children-near}
 use Rattle.step.proofs.ExpandLaws.{same-records, family-few, expansion-made}
 use Rattle.step.proofs.expand.Statement.{statement}
 use Rattle.step.proofs.expand.Tie as tie

@@ -17,15 +17,16 @@ use Rattle.records.specs.Passes.{dropAt}
 use Rattle.rivals.specs.Rivals.{AllNear}
 use Rattle.records.proofs.ViewLaws.{length-records, records-small}
 use Rattle.stops.specs.declared.node.Node.{Node as Record}
-use Rattle.step.specs.OnRecords.{Active, stayingOf, heldWith, Shown, stepOf}
+use Rattle.replacement.specs.Active.{Active, stayingOf, heldWith}
+use Rattle.step.specs.Stepping.{Shown, stepOf}
 use Rattle.step.specs.declared.Run.{Run}
 use Rattle.step.specs.declared.Expanded.{Expanded}
-use Rattle.step.proofs.FamilyLaws.{children-near}
-use Rattle.step.proofs.SurvivorLaws.{survivors-near}
+use Rattle.children.proofs.FamilyLaws.{children-near}
+use Rattle.children.proofs.SurvivorLaws.{survivors-near}
 use Rattle.step.proofs.ExpandLaws.{same-records}
 use Rattle.step.proofs.StepLaws.{Bounded}
 use Rattle.step.proofs.StepShown.{Stage, stage-all, stage-kept}
-use Rattle.step.proofs.ReplaceLaws.{staying-few}
+use Rattle.replacement.proofs.ReplaceLaws.{staying-few}
 use Rattle.step.proofs.StepAfter.{dropped-length, stage-shown}
 use Rattle.step.proofs.step.Statement.{statement}
 use Rattle.step.proofs.step.Tie as tie

@@ -4,7 +4,7 @@ use native.Mathlib.Omega.{arith}
 use lib.ListN.{set}
 use borrow.Author.Needs.{needs}
 use Rattle.records.specs.View.{records}
-use Rattle.step.specs.OnRecords.{bounded}
+use Rattle.children.specs.OnRecords.{bounded}
 use Rattle.planner.proofs.StartLaws.{all-small, root-made, start-shown}
 use Rattle.planner.proofs.run.begun.Statement.{statement}
 use Rattle.planner.proofs.run.begun.Tie as tie

@@ -9,7 +9,7 @@ use Rattle.stops.specs.declared.node.Node.{Node as Record}
 use Rattle.records.specs.View.{records}
 use Rattle.selection.specs.Choosing.{Chose, Chosen}
 use Rattle.selection.specs.declared.Place.{Place}
-use Rattle.step.specs.OnRecords.{Stepping, Shown}
+use Rattle.step.specs.Stepping.{Stepping, Shown}
 use Rattle.planner.specs.Turns.{recordsOf}
 use Rattle.step.specs.declared.After.{After}
 use Rattle.planner.proofs.TurnLaws.{turn-chooses, turn-loads, turn-finishes, turn-ready, turn-full, turn-goes}

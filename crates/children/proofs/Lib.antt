@@ -1,0 +1,4 @@
+pub mod RecordRun
+pub mod FamilyLaws
+pub mod BestLaws
+pub mod SurvivorLaws

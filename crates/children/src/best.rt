@@ -1,0 +1,103 @@
+// U and its order, while a run goes on.
+ghost use mathlib.Core.Path.{_≡_};
+ghost use mathlib.Core.List.{List, [], _∷_};
+ghost use mathlib.Core.Logic.{_⊎_};
+ghost use mathlib.Core.Option.{Option, Option·map};
+ghost use Prim.Native.Nat.{ℕ, _≤_};
+ghost use lib.ListN.{length, take, drop};
+ghost use Rattle.lists.specs.Lists.{In};
+ghost use Rattle.search.specs.Step.{learn};
+ghost use Rattle.stops.specs.declared.node.Node.{Node as Record};
+ghost use Rattle.orders.specs.Orders.{Order};
+ghost use Rattle.stops.specs.Legs.{legs};
+ghost use Rattle.records.specs.View.{records, encode};
+ghost use Rattle.records.specs.Records.{padded, orderWord};
+ghost use Rattle.answer.specs.Answer.{given};
+ghost use Rattle.children.specs.OnRecords.{Table, IsBest, recProblem, Rows};
+use records::load;
+use records::order::stop_at;
+use stops::node::Node;
+
+// The cost of the best order known, and its two words; the largest number and zeros if none is known.
+pub struct Best {
+    pub upper: u32,
+    pub first: u32,
+    pub second: u32,
+}
+
+// A complete node cheaper than U replaces U and its order; an equal one does not.
+fn better(best: Best, x: Node, n: u32) -> Best
+    ensures { λ r. ⌜ ((t : Table) (k : ℕ) (o : Option Record) → IsBest best o → IsBest r (learn (recProblem n t k) o (x ∷ []))) ⌝ }
+{
+    if x.size != n {
+        return best;
+    }
+    if best.upper <= x.bound {
+        return best;
+    }
+    Best {
+        upper: x.bound,
+        first: x.first,
+        second: x.second,
+    }
+}
+
+// Part 2 of a step, over the first m children, which are all of one size.
+pub fn learn(kids: &[u32], m: usize, n: u32, size: u32, best: Best) -> Best
+    requires { ⌜ (m ≤ length (records (now kids))) × ((x : Record) → In x (take m (records (now kids))) → x .size ≡ size) ⌝ }
+    ensures { λ r. ⌜ ((t : Table) (k : ℕ) (o : Option Record) → IsBest best o → IsBest r (learn (recProblem n t k) o (take m (records (now (kids .entry)))))) ⌝ }
+{
+    if size != n {
+        return best;
+    }
+    let mut known = best;
+    let mut k = 0;
+    while k < m {
+        let x = load(kids, k);
+        known = better(known, x, n);
+        k += 1;
+    }
+    known
+}
+
+// The starting order as the best known: its cost and words, or none if it is empty.
+pub fn started(t: [[u32; 17]; 17], n: u32, start: &[u8]) -> Best
+    requires { ⌜ Rows n t 0 × ((now start ≡ []) ⊎ Order n (now start)) ⌝ }
+    ensures { λ r. ⌜ ((k : ℕ) → k ≤ 1 → IsBest r (Option·map (encode n (legs t) k) (given (now (start .entry))))) ⌝ }
+{
+    if start.len() == 0 {
+        return Best {
+            upper: 4_294_967_295,
+            first: 0,
+            second: 0,
+        };
+    }
+    let mut x = Node::empty();
+    let mut place = 0usize;
+    let mut k = 0;
+    while k < start.len() {
+        let s = start[k];
+        x = x.extended(s as u32, t[place][s as usize]);
+        place = s as usize;
+        k += 1;
+    }
+    Best {
+        upper: x.path + t[place][0],
+        first: x.first,
+        second: x.second,
+    }
+}
+
+// The stops of an order from its two words, and zeros past n.
+pub fn stops_of(n: u32, first: u32, second: u32) -> [u8; 16]
+    requires { ⌜ n ≤ 16 ⌝ }
+    ensures { λ r. ⌜ ((x : List ℕ) → Order n x → first ≡ orderWord (take 8 x) → second ≡ orderWord (drop 8 x) → r ≡ padded 16 x) ⌝ }
+{
+    let mut order = [0u8; 16];
+    let mut i = 0;
+    while i < n {
+        order[i as usize] = stop_at(first, second, i) as u8;
+        i += 1;
+    }
+    order
+}

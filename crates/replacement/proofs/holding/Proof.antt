@@ -1,0 +1,17 @@
+-- `holding` meets its contract. Assumes nothing.
+use native.Mathlib.Omega.{arith}
+use borrow.Author.Tests.{eq-eqb, ne-eqb}
+use Rattle.replacement.proofs.holding.Statement.{statement}
+use Rattle.replacement.proofs.holding.Tie as tie
+
+add-result : tie.Need-add-result
+add-result c = omega arith
+
+returns : tie.Need-returns
+returns c = rw (eq-eqb _ _ (c .if1 .taken))
+
+returns-2 : tie.Need-returns-2
+returns-2 c = rw (ne-eqb _ _ (c .if1 .left))
+
+pub holding-spec : {M : Type 1} → statement M
+holding-spec = tie.close (tie.spec add-result returns returns-2)
