@@ -9,8 +9,7 @@ use lib.ListN.{length, getD}
 use Rattle.lists.proofs.Tests.{to-true, to-false}
 use Rattle.stops.specs.Record.{emptyRecord}
 use Rattle.stops.specs.declared.node.Node.{Node as Record}
-use Rattle.node_records.specs.Answers.{isInside, recordAt, found}
-use Rattle.node_records.specs.Examples
+use Rattle.node_answers.specs.Answers.{isInside, recordAt, found}
 
 -- the byte offset of record i fits, and so does that of every record
 pub offset-fits : (i n : ℕ) → i < n → n * 24 < 2 ^ 63 → i * 24 < 2 ^ 64

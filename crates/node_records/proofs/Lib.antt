@@ -1,10 +1,3 @@
-pub mod OrderLaws
-pub mod SetLaws
-pub mod NodeLaws
-pub mod NodesRead
-pub mod PathLaws
-pub mod Retrace
-pub mod FigureLaws
 pub mod Indices
 pub mod Walk
 pub mod Reading

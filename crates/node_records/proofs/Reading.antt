@@ -35,12 +35,11 @@ use denote.Triple.Clauses.{ensured, lasts}
 use Rattle.stops.specs.declared.node.Node.{Node as Record}
 use Rattle.stops.proofs.node.Node as T
 use Rattle.stops.proofs.node.Node.Laws as T′
-use Rattle.node_records.specs.declared.Found.{Found}
-use Rattle.node_records.specs.Answers.{found}
-use Rattle.node_records.specs.Examples
+use Rattle.node_answers.specs.declared.Found.{Found}
+use Rattle.node_answers.specs.Answers.{found}
 use Rattle.node_records.proofs.Walk.{hears, own-usize}
-use Rattle.node_records.proofs.Found as F
-use Rattle.node_records.proofs.Found.Laws as F′
+use Rattle.node_answers.proofs.Found as F
+use Rattle.node_answers.proofs.Found.Laws as F′
 use Rattle.node_records.proofs.read as read
 use Rattle.node_records.proofs.read.Symbol.{name as #read}
 

@@ -1,49 +1,17 @@
-// Node records in a run that a host holds: thin functions over `&[Node]` and `&mut [Node]`, open to a host. Each takes a record apart and
-// calls a covered function of this crate (`order`, `check`, `cost`) on its numbers, which carries the meaning (specs/Answers). Nothing is
-// asked of the arguments: an index past the end gives an answer that says so, and changes nothing.
+// Node records in a run that a host holds: thin functions over `&[Node]` and `&mut [Node]`, open to a host. Their answers are those of crate
+// `node_answers`. Those that inspect a record take it apart and call a covered function of crate `inspection` on its numbers, which carries
+// the meaning. Nothing is asked of the arguments: an index past the end gives an answer that says so, and changes nothing.
 ghost use mathlib.Core.Path.{_≡_};
 ghost use lib.ListN.{set};
-ghost use Rattle.node_records.specs.Answers.{isInside, recordAt, found, verdict, flownAt, figures};
-
-mod check;
-mod cost;
-mod order;
-
-use crate::check::verdict_of;
-use crate::cost::figures_of;
-use crate::order::flown_of;
+ghost use Rattle.node_answers.specs.Answers.{isInside, recordAt, found, verdict, flownAt, figures};
+use inspection::check::verdict_of;
+use inspection::cost::figures_of;
+use inspection::order::flown_of;
+use node_answers::Figures;
+use node_answers::Flown;
+use node_answers::Found;
+use node_answers::Verdict;
 use stops::node::Node;
-
-// Record i; zeros where it is not inside.
-#[repr(C)]
-pub struct Found {
-    pub inside: bool,
-    pub node: Node,
-}
-
-// Whether record i is a node.
-#[repr(C)]
-pub struct Verdict {
-    pub inside: bool,
-    pub node: bool,
-}
-
-// The stops of record i in flown order, zeros behind.
-#[repr(C)]
-pub struct Flown {
-    pub inside: bool,
-    pub stops: [u8; 16],
-}
-
-// The path cost and the bound of record i; zeros unless the number is 0 and the record a node.
-#[repr(C)]
-pub struct Figures {
-    pub inside: bool,
-    pub number: u32,
-    pub node: bool,
-    pub path: u32,
-    pub bound: u32,
-}
 
 // Reads record i.
 pub fn read(pool: &[Node], i: usize) -> Found

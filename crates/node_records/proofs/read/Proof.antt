@@ -43,14 +43,14 @@ use denote.Triple.Walked.{says, Stays, stay-none-slice, stay-none, walkOf, AllGo
 use denote.Triple.Walked.{walk-meets}
 use Rattle.stops.specs.Record.{emptyRecord}
 use Rattle.stops.specs.declared.node.Node.{Node as Record}
-use Rattle.node_records.specs.declared.Found.{Found}
+use Rattle.node_answers.specs.declared.Found.{Found}
 use Rattle.stops.proofs.node.Node as T
 use Rattle.stops.proofs.node.Node.Laws as T′
-use Rattle.node_records.proofs.Found as F
-use Rattle.node_records.proofs.Found.Laws as F′
+use Rattle.node_answers.proofs.Found as F
+use Rattle.node_answers.proofs.Found.Laws as F′
 use Rattle.node_records.proofs.Walk.{value, frees-all, val, vals, typed}
 use Rattle.node_records.proofs.Indices.{offset-fits, found-inside, found-outside}
-use Rattle.node_records.specs.Answers.{found}
+use Rattle.node_answers.specs.Answers.{found}
 use Rattle.node_records.proofs.read.Key.{name as #read}
 use Rattle.node_records.proofs.read as read
 use Rattle.node_records.proofs.read.Statement as stated

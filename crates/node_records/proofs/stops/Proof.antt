@@ -38,22 +38,22 @@ use denote.Triple.Walked.{says, Stays, stay-none-slice, stay-none, walkOf, AllGo
 use denote.Triple.Walked.{walk-meets}
 use Rattle.stops.specs.declared.node.Node.{Node as Record}
 use Rattle.stops.proofs.node.Node as T
-use Rattle.node_records.specs.Numbers.{ofNumbers}
-use Rattle.node_records.specs.Nodes.{flownStops}
-use Rattle.node_records.specs.Answers.{isInside, recordAt, found, flownAt}
-use Rattle.node_records.specs.declared.Found.{Found}
-use Rattle.node_records.specs.declared.Flown.{Flown}
-use Rattle.node_records.proofs.Flown as R
-use Rattle.node_records.proofs.Flown.Laws as R′
+use Rattle.inspection.specs.Numbers.{ofNumbers}
+use Rattle.node_answers.specs.Nodes.{flownStops}
+use Rattle.node_answers.specs.Answers.{isInside, recordAt, found, flownAt}
+use Rattle.node_answers.specs.declared.Found.{Found}
+use Rattle.node_answers.specs.declared.Flown.{Flown}
+use Rattle.node_answers.proofs.Flown as R
+use Rattle.node_answers.proofs.Flown.Laws as R′
 use Rattle.node_records.proofs.Walk.{value, frees-all, hears, own-u32, own-usize, own-bool}
 use Rattle.node_records.proofs.Reading.{Numbers, numbers, found-typed, ReadAt, slice, owned-slice, reads-record}
 use Rattle.node_records.proofs.read.Symbol as read-def
 use Rattle.node_records.proofs.read.Symbol.{name as #read}
 use Rattle.node_records.proofs.read.Met as read-thm
-use Rattle.node_records.proofs.order.flown_of as callee
-use Rattle.node_records.proofs.order.flown_of.Symbol as callee-def
-use Rattle.node_records.proofs.order.flown_of.Symbol.{name as #callee}
-use Rattle.node_records.proofs.order.flown_of.Met as callee-thm
+use Rattle.inspection.proofs.order.flown_of as callee
+use Rattle.inspection.proofs.order.flown_of.Symbol as callee-def
+use Rattle.inspection.proofs.order.flown_of.Symbol.{name as #callee}
+use Rattle.inspection.proofs.order.flown_of.Met as callee-thm
 use Rattle.node_records.proofs.stops.Key.{name as #stops}
 use Rattle.node_records.proofs.stops as stops
 use Rattle.node_records.proofs.stops.Statement as stated
@@ -189,5 +189,5 @@ stops-spec 𝓤 H 𝓜 𝓖 𝓡 =
     (stops-meets 𝓤 H (𝓖 .A) (givenOf 𝓤 H 𝓜 𝓖) (𝓜 .mem) (𝓡 .run) (tablesOf 𝓤 H 𝓜 (tables 𝓤 H 𝓜 𝓡 code.env))
     (cited 𝓤 H (ReadAt 𝓤 H (𝓖 .A) (𝓜 .mem) (𝓡 .run)) 𝓜 𝓡 code.env #read read-def.routine code.calls-node-records·read
     (read-thm.met 𝓤 H 𝓜 𝓖 𝓡))
-    (cited 𝓤 H (Callee 𝓤 H (𝓖 .A) (𝓜 .mem) (𝓡 .run)) 𝓜 𝓡 code.env #callee callee-def.routine code.calls-node-records·order·flown-of
+    (cited 𝓤 H (Callee 𝓤 H (𝓖 .A) (𝓜 .mem) (𝓡 .run)) 𝓜 𝓡 code.env #callee callee-def.routine code.calls-inspection·order·flown-of
     (callee-thm.met 𝓤 H 𝓜 𝓖 𝓡)))

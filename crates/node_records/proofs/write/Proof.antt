@@ -46,7 +46,7 @@ use denote.Triple.Walked.{says, Stays, stay-slice, stay-none, walkOf, AllGo, goe
 use Rattle.stops.specs.declared.node.Node.{Node as Record}
 use Rattle.stops.proofs.node.Node as T
 use Rattle.stops.proofs.node.Node.Laws as T′
-use Rattle.node_records.specs.Answers.{isInside}
+use Rattle.node_answers.specs.Answers.{isInside}
 use Rattle.node_records.proofs.Walk.{value, frees-all, own-bool, val, vals, typed}
 use Rattle.node_records.proofs.Indices.{offset-fits, is-inside, is-outside}
 use Rattle.node_records.proofs.write.Key.{name as #write}

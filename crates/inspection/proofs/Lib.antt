@@ -1,0 +1,5 @@
+pub mod OrderLaws
+pub mod SetLaws
+pub mod PathLaws
+pub mod Retrace
+pub mod FigureLaws

@@ -1,0 +1,17 @@
+-- `check::holds` meets its contract: the bit is the stop's (`SetLaws`). Assumes nothing.
+use borrow.Author.Needs.{needs}
+use Rattle.inspection.proofs.SetLaws.{set-flown}
+use Rattle.inspection.proofs.check.holds.Statement.{statement}
+use Rattle.inspection.proofs.check.holds.Tie as tie
+
+sub-result : tie.Need-sub-result
+sub-result c = search needs
+
+shr-result : tie.Need-shr-result
+shr-result c = search needs
+
+returns : tie.Need-returns
+returns c = set-flown (c .args .set) (c .args .s) (c .pre .0) (c .pre .1)
+
+pub holds-spec : {M : Type 1} → statement M
+holds-spec = tie.close (tie.spec sub-result shr-result returns)

@@ -1,0 +1,139 @@
+-- `check::is_record` meets its contract. The loop's invariant is `Retraced`: what is built from the first k stops is the record of the node
+-- that they are. The measure is what is left of the size. Assumes nothing.
+use mathlib.Core.Path.{_≡_, sym, _∙_}
+use Prim.Native.Nat.{_-_, _<_}
+use native.Mathlib.Omega.{arith}
+use Rattle.orders.proofs.Sets.{size-left}
+use Rattle.records.proofs.OrderWords.{stop-range}
+use Rattle.inspection.specs.Numbers.{ofNumbers}
+use Rattle.node_answers.specs.Nodes.{flownStops}
+use Rattle.node_answers.proofs.StopLaws.{stopOf}
+use Rattle.inspection.proofs.OrderLaws.{stop-same}
+use Rattle.node_answers.proofs.NodeLaws.{no-node}
+use Rattle.inspection.proofs.Retrace.{Retraced, retraced-starts, stop-above, stop-again, stop-fits, stop-added, other-set}
+use Rattle.inspection.proofs.Retrace.{other-first, same-record}
+use Rattle.inspection.proofs.check.is_record.Statement.{statement}
+use Rattle.inspection.proofs.check.is_record.Tie as tie
+
+abbrev Inv-loop : tie.InvT-loop
+Inv-loop size set first second n x₀ k₀ x k = Retraced n (ofNumbers size set first second) x k
+
+abbrev μ-loop : tie.MeasureT-loop
+μ-loop size set first second n x₀ k₀ x k = size - k
+
+returns : tie.Need-returns Inv-loop μ-loop
+returns c = no-node _ _ (λ q. absurd (omega (arith, q .some)))
+
+returns-2 : tie.Need-returns-2 Inv-loop μ-loop
+returns-2 c = no-node _ _ (λ q. absurd (omega (arith, q .few)))
+
+returns-3 : tie.Need-returns-3 Inv-loop μ-loop
+unfolding ofNumbers
+returns-3 c =
+    let a = c .before .before .before .args in
+    no-node (a .n) (ofNumbers (a .size) (a .set) (a .first) (a .second))
+    (λ q. absurd (omega (arith, q .size-is, size-left (a .n) (flownStops (ofNumbers (a .size) (a .set) (a .first) (a .second))))))
+
+empty-requires : tie.Need-empty-requires Inv-loop μ-loop
+empty-requires c κs = tt
+
+loop-holds : tie.Need-loop-holds Inv-loop μ-loop
+unfolding ofNumbers
+loop-holds c = rw (c .empty .ensures) (retraced-starts (omega arith) (omega arith) (omega arith))
+
+-- the loop goes on below the size
+below :
+    (c : tie.In-loop Inv-loop μ-loop)
+    → c .before .loop .k < ofNumbers (c .before .before .before .before .before .before .args .size)
+    (c .before .before .before .before .before .before .args .set) (c .before .before .before .before .before .before .args .first)
+    (c .before .before .before .before .before .before .args .second) .size
+unfolding ofNumbers
+below c = c .loop-test .taken
+
+stop-at-requires : tie.Need-stop-at-requires Inv-loop μ-loop
+unfolding ofNumbers
+stop-at-requires c κs = omega (arith, c .before .loop .inv .short, c .before .loop .inv .few)
+
+-- what `stop_at` gives is the record's stop
+stop :
+    (c : tie.After-stop-at Inv-loop μ-loop) →
+    let a = c .before .before .before .before .before .before .before .args in
+    c .stop-at .result ≡ stopOf (ofNumbers (a .size) (a .set) (a .first) (a .second)) (c .before .before .loop .k)
+stop c =
+    let a = c .before .before .before .before .before .before .before .args in
+    c .stop-at .ensures .0 ∙ stop-same (a .size) (a .set) (a .first) (a .second) (c .before .before .loop .k)
+
+returns-4 : tie.Need-returns-4 Inv-loop μ-loop
+returns-4 c = stop-above (c .before .before .before .loop .inv) (below (c .before .before)) (omega (arith, stop (c .before)))
+
+holds-requires : tie.Need-holds-requires Inv-loop μ-loop
+holds-requires c κs =
+    let l = c .before .before .before in
+    let a = l .before .before .before .before .before .args in
+    omega (arith, stop (c .before), stop-range (a .first) (a .second) (l .loop .k))
+
+returns-5 : tie.Need-returns-5 Inv-loop μ-loop
+returns-5 c =
+    let l = c .before .before .before .before .before in
+    stop-again (l .loop .inv) (below (c .before .before .before .before)) (omega (arith, stop (c .before .before .before)))
+    (rw (← stop (c .before .before .before)) (sym (c .if5 .taken) ∙ c .before .holds .ensures))
+
+extended-requires : tie.Need-extended-requires Inv-loop μ-loop
+extended-requires c κs =
+    let l = c .before .before .before .before .before in
+    rw (stop (c .before .before .before))
+    (stop-fits (l .loop .inv) (below (c .before .before .before .before)) (omega (arith, stop (c .before .before .before)))
+    (rw (← stop (c .before .before .before)) (sym (c .if5 .left) ∙ c .before .holds .ensures)))
+
+add-k : tie.Need-add-k Inv-loop μ-loop
+add-k c = omega arith
+
+loop-less : tie.Need-loop-less Inv-loop μ-loop
+loop-less c = omega arith
+
+loop-again : tie.Need-loop-again Inv-loop μ-loop
+loop-again c =
+    let l = c .before .before .before .before .before .before in
+    let s = c .before .before .before .before in
+    rw (c .extended .ensures, stop s)
+    (stop-added (l .loop .inv) (below (s .before)) (omega (arith, stop s))
+    (rw (← stop s) (sym (c .before .if5 .left) ∙ c .before .before .holds .ensures)))
+
+returns-6 : tie.Need-returns-6 Inv-loop μ-loop
+unfolding ofNumbers
+returns-6 c = other-set (c .before .before .before .loop .inv) (c .before .before .loop-test .left) (c .if6 .taken)
+
+returns-7 : tie.Need-returns-7 Inv-loop μ-loop
+unfolding ofNumbers
+returns-7 c =
+    other-first (c .before .before .before .before .before .loop .inv) (c .before .before .before .before .loop-test .left) (c .if7 .taken)
+
+returns-8 : tie.Need-returns-8 Inv-loop μ-loop
+unfolding ofNumbers
+returns-8 c =
+    let l = c .before .before .before .before .before .before in
+    same-record (l .loop .inv) (c .before .before .before .before .before .loop-test .left) (c .before .before .before .if6 .left)
+    (c .before .if7 .left)
+
+pub is-record-spec : {M : Type 1} → statement M
+is-record-spec =
+    tie.close
+    (tie.spec
+    Inv-loop
+    μ-loop
+    returns
+    returns-2
+    returns-3
+    empty-requires
+    loop-holds
+    stop-at-requires
+    returns-4
+    holds-requires
+    returns-5
+    extended-requires
+    add-k
+    loop-less
+    loop-again
+    returns-6
+    returns-7
+    returns-8)

@@ -1,0 +1,87 @@
+-- `cost::along` meets its contract. The loop's invariant is `Along`: the path cost and the last place are those of the first k stops. The
+-- measure is what is left of the size. Assumes nothing.
+use Prim.Native.Nat.{_-_}
+use mathlib.Core.Path.{sym, _∙_}
+use native.Mathlib.Omega.{arith}
+use Rattle.stops.specs.Legs.{rowLeg, legs}
+use Rattle.inspection.specs.Numbers.{ofNumbers}
+use Rattle.inspection.proofs.OrderLaws.{stop-same, size-same}
+use Rattle.inspection.proofs.PathLaws.{Along, along-starts, along-small, along-fits, along-more, along-ends}
+use Rattle.inspection.proofs.cost.along.Statement.{statement}
+use Rattle.inspection.proofs.cost.along.Tie as tie
+
+abbrev Inv-loop : tie.InvT-loop
+Inv-loop t size first second path₀ place₀ k₀ path place k = Along (legs t) (ofNumbers size 0 first second) size path place k
+
+abbrev μ-loop : tie.MeasureT-loop
+μ-loop t size first second path₀ place₀ k₀ path place k = size - k
+
+loop-holds : tie.Need-loop-holds Inv-loop μ-loop
+loop-holds c = along-starts (sym (size-same (c .args .size) 0 (c .args .first) (c .args .second))) (c .pre .0)
+
+stop-at-requires : tie.Need-stop-at-requires Inv-loop μ-loop
+stop-at-requires c κs = omega arith
+
+cast-path : tie.Need-cast-path Inv-loop μ-loop
+cast-path c = omega arith
+
+cast-path-2 : tie.Need-cast-path-2 Inv-loop μ-loop
+cast-path-2 c = omega arith
+
+mul-path : tie.Need-mul-path Inv-loop μ-loop
+mul-path c = omega arith
+
+mul-path-2 : tie.Need-mul-path-2 Inv-loop μ-loop
+mul-path-2 c = omega arith
+
+index-1-path : tie.Need-index-1-path Inv-loop μ-loop
+index-1-path c = omega arith
+
+index-2-path : tie.Need-index-2-path Inv-loop μ-loop
+index-2-path c = omega arith
+
+add-path : tie.Need-add-path Inv-loop μ-loop
+unfolding legs rowLeg
+add-path c =
+    let s = c .before .before .before in
+    record { fits = along-fits (s .loop .inv) (s .before .pre .1) (c .before .before .loop-test .taken) (c .before .stop-at .result) }
+
+add-k : tie.Need-add-k Inv-loop μ-loop
+add-k c = omega arith
+
+loop-less : tie.Need-loop-less Inv-loop μ-loop
+loop-less c = omega arith
+
+loop-again : tie.Need-loop-again Inv-loop μ-loop
+unfolding legs rowLeg
+loop-again c =
+    let s = c .before .before .before in
+    let a = s .before .args in
+    along-more (s .loop .inv) (c .before .before .loop-test .taken) (c .before .stop-at .ensures .0 ∙ stop-same (a .size) 0 (a .first)
+    (a .second) (s .loop .k))
+
+returns : tie.Need-returns Inv-loop μ-loop
+returns c =
+    let v = c .before .loop .inv in
+    let e = along-ends v (c .loop-test .left) in
+    (e .0, (e .1, (omega (arith, along-small v (c .before .before .pre .1), v .up-to, v .few), v .place-few)))
+
+pub along-spec : {M : Type 1} → statement M
+along-spec =
+    tie.close
+    (tie.spec
+    Inv-loop
+    μ-loop
+    loop-holds
+    stop-at-requires
+    cast-path
+    cast-path-2
+    mul-path
+    mul-path-2
+    index-1-path
+    index-2-path
+    add-path
+    add-k
+    loop-less
+    loop-again
+    returns)

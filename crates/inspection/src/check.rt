@@ -1,0 +1,70 @@
+// Whether numbers are those of a node's record.
+ghost use mathlib.Core.Path.{_≡_};
+ghost use Prim.Native.Nat.{_≤_};
+ghost use Rattle.orders.specs.Orders.{flown};
+ghost use Rattle.stops.specs.Record.{stopsIn};
+ghost use Rattle.node_answers.specs.Nodes.{isNode};
+ghost use Rattle.inspection.specs.Numbers.{ofNumbers};
+ghost use Rattle.node_answers.specs.Answers.{verdict};
+use node_answers::Verdict;
+use records::order::stop_at;
+use stops::node::Node;
+
+// Whether a set holds stop s.
+fn holds(set: u32, s: u32) -> bool
+    requires { ⌜ (1 ≤ s) × (s ≤ 16) ⌝ }
+    ensures { λ r. ⌜ r ≡ flown (stopsIn set) s ⌝ }
+{
+    (set >> (s - 1)) % 2 == 1
+}
+
+// Whether numbers are those of a node's record, for n stops: the node is put together again, stop by stop.
+pub fn is_record(size: u32, set: u32, first: u32, second: u32, n: u32) -> bool
+    ensures { λ r. ⌜ r ≡ isNode n (ofNumbers size set first second) ⌝ }
+{
+    if n == 0 {
+        return false;
+    }
+    if 16 < n {
+        return false;
+    }
+    if n < size {
+        return false;
+    }
+    let mut x = Node::empty();
+    let mut k = 0;
+    while k < size {
+        let s = stop_at(first, second, k);
+        if n < s {
+            return false;
+        }
+        if holds(x.set, s) {
+            return false;
+        }
+        x = x.extended(s, 0);
+        k += 1;
+    }
+    if set != x.set {
+        return false;
+    }
+    if first != x.first {
+        return false;
+    }
+    second == x.second
+}
+
+// The verdict on a record; none that is not inside is a node.
+pub fn verdict_of(inside: bool, size: u32, set: u32, first: u32, second: u32, n: u32) -> Verdict
+    ensures { λ r. ⌜ r ≡ verdict inside (ofNumbers size set first second) n ⌝ }
+{
+    if !inside {
+        return Verdict {
+            inside: false,
+            node: false,
+        };
+    }
+    Verdict {
+        inside: true,
+        node: is_record(size, set, first, second, n),
+    }
+}

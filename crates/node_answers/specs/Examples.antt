@@ -1,0 +1,127 @@
+-- Worked examples on document 01's table T. They stand beside the definitions, and the laws name this module, so that a wrong
+-- definition is met here first. Assumes nothing.
+use mathlib.Core.Path.{_≡_, refl}
+use mathlib.Core.Bool.{true, false}
+use mathlib.Core.List.{List, [], _∷_, map}
+use Prim.Native.Nat.{ℕ}
+use Rattle.orders.specs.Orders.{flown, set, left, size, complete}
+use Rattle.stops.specs.Legs.{entry, rows, rowLeg, legs, path, last, cost}
+use Rattle.stops.specs.Bounds.{plain, cheapestInto, remainder, close, boundBy}
+use Rattle.stops.specs.Record.{emptyRecord}
+use Rattle.stops.specs.declared.node.Node.{Node as Record}
+use Rattle.records.specs.Records.{mask, stopAt, padded}
+use Rattle.answer.specs.Call.{callOf}
+use Rattle.answer.specs.Checks.{cause₁, cause₂, cause₃, cause₄, cause₅, jobCause}
+use Rattle.node_answers.specs.Nodes.{flownStops, isRecordOf, isNode}
+use Rattle.node_answers.specs.Answers.{isInside, recordAt, found, verdict, flownAt, noFigures, figuresBy, figures}
+
+-- the record of 21: two stops, bits 0 and 1, path cost 7 + 8; stop 2 stands in the lowest four bits, stop 1 in the next
+twoOne : Record
+unfolding flown set left size complete entry rows rowLeg legs path last cost plain cheapestInto remainder close boundBy emptyRecord mask padded
+    callOf cause₁ cause₂ cause₃ cause₄ cause₅ jobCause stopAt flownStops isRecordOf isNode isInside recordAt found verdict flownAt noFigures
+    figuresBy figures
+twoOne = record { size = 2; set = 3; path = 15; bound = 15; first = 1; second = 0 }
+
+-- ten stops: the ninth and tenth stand in the second word, 8 + 16 · 9
+tenStops : Record
+tenStops = record { size = 10; set = 1023; path = 10; bound = 10; first = 0x7654_3210; second = 152 }
+
+T : List ℕ
+T = 0 ∷ 4 ∷ 7 ∷ 9 ∷ 5 ∷ 0 ∷ 2 ∷ 6 ∷ 3 ∷ 8 ∷ 0 ∷ 1 ∷ 6 ∷ 5 ∷ 4 ∷ 0 ∷ []
+
+-- the stops in flown order
+stops-of-21 : flownStops twoOne ≡ 2 ∷ 1 ∷ []
+unfolding twoOne
+stops-of-21 = refl
+
+stops-of-ten : flownStops tenStops ≡ 1 ∷ 2 ∷ 3 ∷ 4 ∷ 5 ∷ 6 ∷ 7 ∷ 8 ∷ 9 ∷ 10 ∷ []
+unfolding twoOne tenStops
+stops-of-ten = refl
+
+-- zeros behind
+places-of-21 : flownAt true twoOne .stops ≡ 2 ∷ 1 ∷ 0 ∷ 0 ∷ 0 ∷ 0 ∷ 0 ∷ 0 ∷ 0 ∷ 0 ∷ 0 ∷ 0 ∷ 0 ∷ 0 ∷ 0 ∷ 0 ∷ []
+unfolding twoOne
+places-of-21 = refl
+
+-- nodes: 21, ten stops of sixteen, and e
+nodes : isNode 3 twoOne ∷ isNode 16 tenStops ∷ isNode 1 emptyRecord ∷ [] ≡ true ∷ true ∷ true ∷ []
+unfolding twoOne tenStops
+nodes = refl
+
+-- n is 1 to 16
+few-stops : map (λ n. isNode n emptyRecord) (0 ∷ 1 ∷ 16 ∷ 17 ∷ []) ≡ false ∷ true ∷ true ∷ false ∷ []
+unfolding twoOne
+few-stops = refl
+
+-- no nodes: a size that is not the number of stops in the set, a set that is not that of the stops of the order, a stop twice, unused
+-- bits that are not 0 in either number of the order, and a stop above n
+other-size :
+    isNode 3 (record { size = 1; set = 3; path = 15; bound = 15; first = 1; second = 0 })
+    ∷ map (λ k. isNode 16 (record { size = k; set = 65535; path = 0; bound = 0; first = 0x7654_3210; second = 0xfedc_ba98 })) (16 ∷ 17 ∷ [])
+    ≡ false ∷ true ∷ false ∷ []
+unfolding twoOne
+other-size = refl
+
+other-set : isNode 3 (record { size = 2; set = 5; path = 15; bound = 15; first = 1; second = 0 }) ≡ false
+unfolding twoOne
+other-set = refl
+
+stop-twice :
+    map (λ k. isNode 3 (record { size = k; set = 1; path = 4; bound = 4; first = 0; second = 0 })) (1 ∷ 2 ∷ []) ≡ true ∷ false ∷ []
+unfolding twoOne
+stop-twice = refl
+
+unused-bits :
+    isNode 3 (record { size = 2; set = 3; path = 15; bound = 15; first = 257; second = 0 })
+    ∷ isNode 3 (record { size = 2; set = 3; path = 15; bound = 15; first = 1; second = 1 }) ∷ [] ≡ false ∷ false ∷ []
+unfolding twoOne
+unused-bits = refl
+
+stop-above-n : map (λ n. isNode n (record { size = 1; set = 4; path = 9; bound = 9; first = 2; second = 0 })) (2 ∷ 3 ∷ []) ≡ false ∷ true ∷ []
+unfolding twoOne
+stop-above-n = refl
+
+-- a run of two records: the last is inside, the next is not, and is zeros
+second-record : found (emptyRecord ∷ twoOne ∷ []) 1 ≡ record { inside = true; node = twoOne }
+unfolding twoOne
+second-record = refl
+
+past-the-end : found (emptyRecord ∷ twoOne ∷ []) 2 ≡ record { inside = false; node = emptyRecord }
+unfolding twoOne
+past-the-end = refl
+
+-- past the end there is no node, though zeros are e's record
+verdicts : verdict true emptyRecord 3 .node ∷ verdict false emptyRecord 3 .node ∷ [] ≡ true ∷ false ∷ []
+unfolding twoOne
+verdicts = refl
+
+-- 21 in T: path cost 7 + 8; plain adds nothing; close adds the leg 1 to 3, 6, and the leg home from 3, 6
+figures-plain : figures true twoOne 3 T 0 ≡ record { inside = true; number = 0; node = true; path = 15; bound = 15 }
+unfolding twoOne T
+figures-plain = refl
+
+figures-close : figures true twoOne 3 T 1 ≡ record { inside = true; number = 0; node = true; path = 15; bound = 27 }
+unfolding twoOne T
+figures-close = refl
+
+-- refused by 1, 2, 3 and 4: "number, zeros"
+refusals :
+    figures true twoOne 17 T 1 .number ∷ figures true twoOne 2 T 1 .number
+    ∷ figures true twoOne 1 (0 ∷ 1_000_001 ∷ 5 ∷ 0 ∷ []) 1 .number ∷ figures true twoOne 3 T 2 .number ∷ [] ≡ 1 ∷ 2 ∷ 3 ∷ 4 ∷ []
+unfolding twoOne T
+refusals = refl
+
+refused-zeros : figures true twoOne 3 T 2 ≡ record { inside = true; number = 4; node = false; path = 0; bound = 0 }
+unfolding twoOne T
+refused-zeros = refl
+
+-- no figures for a record that is no node, and none past the end
+no-node-zeros :
+    figures true (record { size = 2; set = 5; path = 15; bound = 15; first = 1; second = 0 }) 3 T 0
+    ≡ record { inside = true; number = 0; node = false; path = 0; bound = 0 }
+unfolding twoOne T
+no-node-zeros = refl
+
+outside-zeros : figures false emptyRecord 3 T 0 ≡ record { inside = false; number = 0; node = false; path = 0; bound = 0 }
+unfolding twoOne T
+outside-zeros = refl

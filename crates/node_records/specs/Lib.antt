@@ -1,4 +1,0 @@
-pub mod Numbers
-pub mod Nodes
-pub mod Answers
-pub mod Examples
