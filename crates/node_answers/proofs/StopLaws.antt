@@ -1,7 +1,8 @@
--- The stops of a record's order, place by place. Assumes nothing.
+-- The stops of a record's order, place by place.
 --   stopOf, stop-here    the stop at a place
 --   stops-length         as many as the size says, up to 16
 --   stops-next           one place further is one stop more
+-- Assumes nothing.
 use mathlib.Core.Path.{_≡_, refl, _∙_}
 use Prim.Native.Nat.{ℕ, suc, _+_, _<_, min}
 use native.Mathlib.Omega.{arith}
