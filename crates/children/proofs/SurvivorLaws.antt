@@ -20,7 +20,7 @@ use Rattle.stops.specs.Record.{recDominates}
 use Rattle.stops.specs.Stops.{aboveEveryCost}
 use Rattle.stops.specs.declared.node.Node.{Node as Record}
 use Rattle.records.specs.Passes.{Sifted, dropAt}
-use Rattle.pool.specs.Staying.{isWithin}
+use Rattle.passes.specs.Staying.{isWithin}
 use Rattle.rivals.specs.Rivals.{isFree, AllNear}
 use Rattle.records.proofs.SiftLaws.{sifted-all, sifted-fewer, sifted-twice}
 use Rattle.rivals.proofs.RivalLaws.{free-append}

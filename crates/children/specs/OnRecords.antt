@@ -23,7 +23,7 @@ use Rattle.stops.specs.Record.{emptyRecord, extended, lastStop, recDominates, s
 use Rattle.stops.specs.Stops.{aboveEveryCost}
 use Rattle.stops.specs.declared.node.Node.{Node as Record}
 use Rattle.records.specs.View.{encode}
-use Rattle.pool.specs.Staying.{isWithin}
+use Rattle.passes.specs.Staying.{isWithin}
 use Rattle.rivals.specs.Rivals.{isFree}
 use Rattle.children.specs.declared.best.Best.{Best}
 

@@ -8,9 +8,9 @@ ghost use Rattle.stops.specs.Stops.{aboveEveryCost};
 ghost use Rattle.records.specs.View.{records};
 ghost use Rattle.records.specs.Passes.{Sifted, dropAt};
 ghost use Rattle.rivals.specs.Rivals.{AllNear, isFree};
-ghost use Rattle.pool.specs.Staying.{isWithin};
+ghost use Rattle.passes.specs.Staying.{isWithin};
 ghost use Rattle.children.specs.OnRecords.{survivorsOf};
-use pool::sift::within;
+use passes::within;
 use rivals::unrivalled;
 
 // What rule 1 keeps: bounds up to U, or all.

@@ -1,2 +1,2 @@
-pub mod StayLaws
+pub mod PartLaws
 pub mod SettleLaws

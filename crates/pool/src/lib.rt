@@ -2,4 +2,3 @@
 // the crates above and not for hosts; what they require, those crates meet.
 pub mod part;
 pub mod settle;
-pub mod sift;

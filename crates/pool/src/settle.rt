@@ -7,7 +7,7 @@ ghost use lib.ListN.{length, take, drop, replicate};
 ghost use lib.Seq.{slice};
 ghost use Rattle.stops.specs.Record.{emptyRecord};
 ghost use Rattle.records.specs.View.{records};
-use crate::sift::slide;
+use passes::slide;
 use records::load;
 use records::store;
 use stops::node::Node;

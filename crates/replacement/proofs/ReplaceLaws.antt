@@ -15,7 +15,7 @@ use Rattle.lists.proofs.Keep.{keep-all}
 use Rattle.lists.proofs.Numbers.{keep-parts}
 use Rattle.stops.specs.declared.node.Node.{Node as Record}
 use Rattle.records.specs.Passes.{Sifted, dropAt, always}
-use Rattle.pool.specs.Staying.{isStaying}
+use Rattle.passes.specs.Staying.{isStaying}
 use Rattle.records.proofs.SliceLaws.{keep-append, drop-further, slice-further}
 use Rattle.replacement.specs.Active.{Active, stayingOf}
 

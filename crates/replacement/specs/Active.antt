@@ -12,7 +12,7 @@ use Rattle.lists.specs.Lists.{keep}
 use Rattle.stops.specs.declared.node.Node.{Node as Record}
 use Rattle.records.specs.Passes.{dropAt}
 use Rattle.rivals.specs.Rivals.{AllNear}
-use Rattle.pool.specs.Staying.{isStaying}
+use Rattle.passes.specs.Staying.{isStaying}
 
 -- the active records are the first a of some, b stands at i among them, and the first `taking` kids, which are near b's set, take part
 -- in rule 8

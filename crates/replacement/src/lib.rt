@@ -10,10 +10,10 @@ ghost use Rattle.search.specs.Step.{on};
 ghost use Rattle.records.specs.View.{records};
 ghost use Rattle.records.specs.Passes.{dropAt};
 ghost use Rattle.replacement.specs.Active.{Active, stayingOf, heldWith};
+use passes::sift;
+use passes::staying;
 use pool::part::take_out;
 use pool::part::write_at;
-use pool::sift::sift;
-use pool::sift::staying;
 use records::store;
 use stops::node::Node;
 

@@ -20,7 +20,7 @@ use Rattle.search.specs.Step.{on, learn, children₁, best₂, over₃, childre
 use Rattle.stops.specs.Record.{recDominates}
 use Rattle.stops.specs.Stops.{aboveEveryCost}
 use Rattle.stops.specs.declared.node.Node.{Node as Record}
-use Rattle.pool.specs.Staying.{isWithin, isStaying}
+use Rattle.passes.specs.Staying.{isWithin, isStaying}
 use Rattle.rivals.specs.Rivals.{isFree}
 use Rattle.records.specs.Passes.{dropAt}
 use Rattle.children.specs.OnRecords.{Table, recProblem, recChoices, childrenOf, survivorsOf, passing}

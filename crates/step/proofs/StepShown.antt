@@ -25,7 +25,7 @@ use Rattle.stops.specs.Stops.{aboveEveryCost}
 use Rattle.stops.specs.declared.node.Node.{Node as Record}
 use Rattle.records.specs.View.{records}
 use Rattle.records.specs.Passes.{dropAt}
-use Rattle.pool.specs.Staying.{isStaying}
+use Rattle.passes.specs.Staying.{isStaying}
 use Rattle.children.specs.OnRecords.{Table, recProblem, recChoices, childrenOf, survivorsOf, IsBest}
 use Rattle.replacement.specs.Active.{stayingOf, heldWith}
 use Rattle.step.specs.Stepping.{farOf, Ready, Shown, Expansion, stepOf}

@@ -6,7 +6,7 @@ use native.Mathlib.Omega.{arith}
 use lib.ListN.{length, drop, length-drop}
 use lib.Seq.{paste}
 use Rattle.records.proofs.ViewLaws.{length-records}
-use Rattle.pool.proofs.StayLaws.{write-more, up-next, up-length, up-records}
+use Rattle.pool.proofs.PartLaws.{write-more, up-next, up-length, up-records}
 use Rattle.pool.proofs.part.move_up.Statement.{statement}
 use Rattle.pool.proofs.part.move_up.Tie as tie
 

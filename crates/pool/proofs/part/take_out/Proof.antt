@@ -5,7 +5,7 @@ use lib.ListN.{length-drop}
 use borrow.Author.Needs.{needs}
 use Rattle.records.specs.View.{records}
 use Rattle.records.proofs.ViewLaws.{length-records}
-use Rattle.pool.proofs.StayLaws.{lent-records, lent-out}
+use Rattle.pool.proofs.PartLaws.{lent-records, lent-out}
 use Rattle.pool.proofs.part.take_out.Statement.{statement}
 use Rattle.pool.proofs.part.take_out.Tie as tie
 

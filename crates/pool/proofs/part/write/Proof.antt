@@ -7,7 +7,7 @@ use lib.ListN.{length}
 use lib.Seq.{paste, length-paste}
 use Rattle.stops.specs.Record.{emptyRecord}
 use Rattle.records.specs.View.{records}
-use Rattle.pool.proofs.StayLaws.{write-more}
+use Rattle.pool.proofs.PartLaws.{write-more}
 use Rattle.pool.proofs.part.write.Statement.{statement}
 use Rattle.pool.proofs.part.write.Tie as tie
 

@@ -4,7 +4,7 @@ use native.Mathlib.Omega.{arith}
 use lib.ListN.{length-drop}
 use Rattle.records.specs.View.{records}
 use Rattle.records.proofs.ViewLaws.{length-records}
-use Rattle.pool.proofs.StayLaws.{lent-records, lent-back}
+use Rattle.pool.proofs.PartLaws.{lent-records, lent-back}
 use borrow.Author.Needs.{needs}
 use Rattle.pool.proofs.part.write_at.Statement.{statement}
 use Rattle.pool.proofs.part.write_at.Tie as tie

@@ -6,8 +6,8 @@ use lib.ListN.{length}
 use Rattle.records.specs.View.{records}
 use Rattle.records.specs.Passes.{Sifted, always}
 use Rattle.records.proofs.SiftLaws.{sifted-none, sifted-passes, sifted-still}
-use Rattle.pool.proofs.sift.slide.Statement.{statement}
-use Rattle.pool.proofs.sift.slide.Tie as tie
+use Rattle.passes.proofs.slide.Statement.{statement}
+use Rattle.passes.proofs.slide.Tie as tie
 
 abbrev Inv-loop : tie.InvT-loop
 Inv-loop w₀ from to at next₀ i₀ w next i =

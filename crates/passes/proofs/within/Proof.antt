@@ -6,10 +6,10 @@ use lib.ListN.{length}
 use borrow.Author.Tests.{le-leb, lt-leb}
 use Rattle.records.specs.View.{records}
 use Rattle.records.specs.Passes.{Sifted}
-use Rattle.pool.specs.Staying.{isWithin}
+use Rattle.passes.specs.Staying.{isWithin}
 use Rattle.records.proofs.SiftLaws.{sifted-none, sifted-passes, sifted-fails}
-use Rattle.pool.proofs.sift.within.Statement.{statement}
-use Rattle.pool.proofs.sift.within.Tie as tie
+use Rattle.passes.proofs.within.Statement.{statement}
+use Rattle.passes.proofs.within.Tie as tie
 
 abbrev Inv-loop : tie.InvT-loop
 Inv-loop kids₀ m limit r₀ k₀ kids r k =

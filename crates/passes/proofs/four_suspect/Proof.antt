@@ -5,11 +5,11 @@ use native.Mathlib.Omega.{arith}
 use borrow.Author.Needs.{needs}
 use Rattle.stops.specs.Record.{emptyRecord}
 use Rattle.records.specs.View.{records}
-use Rattle.pool.specs.Staying.{isSuspect}
+use Rattle.passes.specs.Staying.{isSuspect}
 use Rattle.records.proofs.ViewLaws.{length-records}
 use Rattle.records.proofs.SliceLaws.{four-found, four-last}
-use Rattle.pool.proofs.sift.four_suspect.Statement.{statement}
-use Rattle.pool.proofs.sift.four_suspect.Tie as tie
+use Rattle.passes.proofs.four_suspect.Statement.{statement}
+use Rattle.passes.proofs.four_suspect.Tie as tie
 
 returns : tie.Need-returns
 returns c =

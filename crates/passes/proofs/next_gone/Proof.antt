@@ -8,11 +8,11 @@ use lib.ListN.{getD, take}
 use borrow.Author.Tests.{not-true, not-false}
 use Rattle.stops.specs.Record.{emptyRecord}
 use Rattle.records.specs.View.{records}
-use Rattle.pool.specs.Staying.{isStaying}
+use Rattle.passes.specs.Staying.{isStaying}
 use Rattle.records.proofs.SliceLaws.{AllSo, all-so-none, all-so-more}
-use Rattle.pool.proofs.StayLaws.{stay-on}
-use Rattle.pool.proofs.sift.next_gone.Statement.{statement}
-use Rattle.pool.proofs.sift.next_gone.Tie as tie
+use Rattle.passes.proofs.StayLaws.{stay-on}
+use Rattle.passes.proofs.next_gone.Statement.{statement}
+use Rattle.passes.proofs.next_gone.Tie as tie
 
 abbrev Inv-loop : tie.InvT-loop
 Inv-loop w from to limit size base kids r i₀ i =

@@ -1,4 +1,5 @@
-// The passes of the rules. Each keeps, of some records, those that pass a test, in their order.
+// The passes of rules 1 and 8: each keeps, of some records, those that pass a test, in their order. The functions are public for the
+// crates above and not for hosts; what they require, those crates meet.
 ghost use mathlib.Core.Path.{_≡_};
 ghost use mathlib.Core.Bool.{true, false, not, cond};
 ghost use Prim.Native.Nat.{_+_, _≤_, _<_};
@@ -9,7 +10,7 @@ ghost use Rattle.lists.specs.Lists.{keep, any};
 ghost use Rattle.stops.specs.Record.{recDominates};
 ghost use Rattle.records.specs.View.{records};
 ghost use Rattle.records.specs.Passes.{Sifted, RunsTo, always};
-ghost use Rattle.pool.specs.Staying.{isWithin, isStaying, isSuspect};
+ghost use Rattle.passes.specs.Staying.{isWithin, isStaying, isSuspect};
 ghost use Rattle.rivals.specs.Rivals.{AllNear};
 use records::load;
 use records::store;

@@ -7,10 +7,10 @@ use lib.ListN.{length, take}
 use lib.Seq.{slice}
 use Rattle.lists.specs.Lists.{keep}
 use Rattle.records.specs.View.{records}
-use Rattle.pool.specs.Staying.{isStaying}
-use Rattle.pool.proofs.StayLaws.{count-none, count-within, count-passes, count-fails}
-use Rattle.pool.proofs.sift.staying.Statement.{statement}
-use Rattle.pool.proofs.sift.staying.Tie as tie
+use Rattle.passes.specs.Staying.{isStaying}
+use Rattle.passes.proofs.StayLaws.{count-none, count-within, count-passes, count-fails}
+use Rattle.passes.proofs.staying.Statement.{statement}
+use Rattle.passes.proofs.staying.Tie as tie
 
 abbrev Inv-loop : tie.InvT-loop
 Inv-loop w from to limit size base kids r count₀ i₀ count i =

@@ -8,10 +8,10 @@ use lib.ListN.{length, getD, take}
 use Rattle.stops.specs.Record.{emptyRecord}
 use Rattle.records.specs.View.{records}
 use Rattle.records.specs.Passes.{Sifted}
-use Rattle.pool.specs.Staying.{isStaying}
+use Rattle.passes.specs.Staying.{isStaying}
 use Rattle.records.proofs.SiftLaws.{sifted-none, sifted-within, sifted-run, sifted-past, past-on}
-use Rattle.pool.proofs.sift.sift.Statement.{statement}
-use Rattle.pool.proofs.sift.sift.Tie as tie
+use Rattle.passes.proofs.sift.Statement.{statement}
+use Rattle.passes.proofs.sift.Tie as tie
 
 abbrev Inv-loop : tie.InvT-loop
 Inv-loop w₀ from to at limit size base kids r next₀ i₀ w next i =

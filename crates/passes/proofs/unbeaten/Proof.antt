@@ -7,9 +7,9 @@ use lib.ListN.{take}
 use Rattle.lists.specs.Lists.{any}
 use Rattle.stops.specs.Record.{emptyRecord, recDominates}
 use Rattle.records.specs.View.{records}
-use Rattle.pool.proofs.StayLaws.{any-found, free-more}
-use Rattle.pool.proofs.sift.unbeaten.Statement.{statement}
-use Rattle.pool.proofs.sift.unbeaten.Tie as tie
+use Rattle.passes.proofs.StayLaws.{any-found, free-more}
+use Rattle.passes.proofs.unbeaten.Statement.{statement}
+use Rattle.passes.proofs.unbeaten.Tie as tie
 
 abbrev Inv-loop : tie.InvT-loop
 Inv-loop x kids r k₀ k = (k ≤ r) × (any (λ y. recDominates y x) (take k (records kids)) ≡ false)

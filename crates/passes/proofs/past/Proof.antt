@@ -2,8 +2,8 @@
 use native.Mathlib.Omega.{arith}
 use borrow.Author.Needs.{needs}
 use borrow.Author.Tests.{lt-ltb, le-ltb}
-use Rattle.pool.proofs.sift.past.Statement.{statement}
-use Rattle.pool.proofs.sift.past.Tie as tie
+use Rattle.passes.proofs.past.Statement.{statement}
+use Rattle.passes.proofs.past.Tie as tie
 
 add-result : tie.Need-add-result
 add-result c = search needs

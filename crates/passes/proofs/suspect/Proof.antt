@@ -2,9 +2,9 @@
 use native.Mathlib.Omega.{arith}
 use borrow.Author.Needs.{needs}
 use borrow.Author.Tests.{lt-ltb, le-ltb}
-use Rattle.pool.specs.Staying.{isSuspect}
-use Rattle.pool.proofs.sift.suspect.Statement.{statement}
-use Rattle.pool.proofs.sift.suspect.Tie as tie
+use Rattle.passes.specs.Staying.{isSuspect}
+use Rattle.passes.proofs.suspect.Statement.{statement}
+use Rattle.passes.proofs.suspect.Tie as tie
 
 returns : tie.Need-returns
 unfolding isSuspect

@@ -8,11 +8,11 @@ use borrow.Author.Needs.{needs}
 use borrow.Author.Tests.{le-leb, not-true}
 use Rattle.records.specs.View.{records}
 use Rattle.rivals.specs.Rivals.{near}
-use Rattle.pool.specs.Staying.{isStaying}
-use Rattle.pool.proofs.StayLaws.{stays-above, stays-free}
+use Rattle.passes.specs.Staying.{isStaying}
+use Rattle.passes.proofs.StayLaws.{stays-above, stays-free}
 use Rattle.rivals.proofs.RivalLaws.{apart}
-use Rattle.pool.proofs.sift.stays.Statement.{statement}
-use Rattle.pool.proofs.sift.stays.Tie as tie
+use Rattle.passes.proofs.stays.Statement.{statement}
+use Rattle.passes.proofs.stays.Tie as tie
 
 returns : tie.Need-returns
 returns c =

@@ -9,10 +9,10 @@ use lib.Seq.{slice}
 use Rattle.lists.specs.Lists.{any}
 use Rattle.stops.specs.Record.{emptyRecord}
 use Rattle.records.specs.View.{records}
-use Rattle.pool.specs.Staying.{isSuspect}
+use Rattle.passes.specs.Staying.{isSuspect}
 use Rattle.records.proofs.SliceLaws.{AllSo, all-so-none, all-so-four, all-so-more}
-use Rattle.pool.proofs.sift.next_suspect.Statement.{statement}
-use Rattle.pool.proofs.sift.next_suspect.Tie as tie
+use Rattle.passes.proofs.next_suspect.Statement.{statement}
+use Rattle.passes.proofs.next_suspect.Tie as tie
 
 abbrev Inv-loop : tie.InvT-loop
 Inv-loop w from to limit size base i₀ i = ((from ≤ i) × (i ≤ to)) × AllSo (isSuspect limit size base) emptyRecord (records w) from false i
