@@ -23,7 +23,7 @@ use Rattle.stops.specs.declared.node.Node.{Node as Record}
 use Rattle.records.specs.Passes.{Sifted}
 use Rattle.rivals.specs.Rivals.{isFree, near, AllNear, Gathering}
 use Rattle.records.proofs.SliceLaws.{keep-append, keep-slice-more, slice-join, AllSo}
-use Rattle.records.proofs.SiftLaws.{sifted-all, sifted-twice, sifted-same}
+use Rattle.records.proofs.SiftLaws.{sifted-all, sifted-none, sifted-twice, sifted-same}
 
 -- two numbers of 32 digits side by side, of which one may lack digits, are the same if and only if each is
 pub side-by-side :
@@ -163,6 +163,19 @@ module _ (limit size base : ℕ) (l : List Record) (from mid to : ℕ) (before :
       ∙ free-append limit (slice from mid l) (slice mid to l) x
       ∙ ap (λ (ys : List Record). isFree limit ys x) (slice-join l from mid to before behind inside))
       (sifted-twice first second)
+
+  -- where no child is left, the records behind take none away
+  pub sifted-out :
+      {k k′ : List Record} {m e : ℕ} → e ≡ 0 → Sifted (isFree limit (slice from mid l)) k 0 m 0 k′ e
+      → Sifted (isFree limit (slice from to l)) k 0 m 0 k′ 0
+  sifted-out {k′ = k′} none first =
+      sifted-same
+      (λ x. isFree limit (slice from mid l) x && isFree limit (slice mid to l) x)
+      (isFree limit (slice from to l))
+      (λ x i.
+      free-append limit (slice from mid l) (slice mid to l) x
+      ∙ ap (λ (ys : List Record). isFree limit ys x) (slice-join l from mid to before behind inside))
+      (sifted-twice (rw none at first) (sifted-none (isFree limit (slice mid to l)) k′ 0 0))
 
 -- what a pass keeps is near still
 pub sifted-near-still :

@@ -161,6 +161,9 @@ fn unrivalled_with(
     let mut left = m;
     let mut at = from;
     while at < to {
+        if left == 0 {
+            return 0;
+        }
         let g = gather(w, at, to, size, base, buffer, 32);
         left = undominated(kids, left, buffer, 0, g.count, limit);
         at = g.next;
@@ -169,8 +172,8 @@ fn unrivalled_with(
 }
 
 // Rules 2 and 4 on children that are all near base: keeps those of the first m that no record of w, from `from` to `to`, with a bound up
-// to limit dominates. One walk of w gathers the records that can dominate a child, some at a time, for the walk over the children; where
-// no child is left there is none.
+// to limit dominates. One walk of w gathers the records that can dominate a child, some at a time, for the walk over the children; it ends
+// where no child is left.
 pub fn unrivalled(
     kids: &mut [u32],
     m: usize,

@@ -10,7 +10,7 @@ use Rattle.records.specs.Passes.{Sifted}
 use Rattle.rivals.specs.Rivals.{isFree}
 use Rattle.records.proofs.ViewLaws.{length-records}
 use Rattle.records.proofs.SiftLaws.{sifted-fewer}
-use Rattle.rivals.proofs.RivalLaws.{sifted-unsearched, sifted-near}
+use Rattle.rivals.proofs.RivalLaws.{sifted-unsearched, sifted-near, sifted-out}
 use Rattle.rivals.proofs.unrivalled_with.Statement.{statement}
 use Rattle.rivals.proofs.unrivalled_with.Tie as tie
 
@@ -28,14 +28,22 @@ loop-holds c =
     let a = c .before .before .before .args in
     (omega arith, ((refl, refl), sifted-unsearched _ (a .from) (records (a .w .now)) _ _ (omega arith)))
 
+returns : tie.Need-returns Inv-loop μ-loop
+returns c =
+    let a = c .before .before .before .before .before .before .args in
+    let loop = c .before .before .loop in
+    sifted-out (a .limit) (a .size) (a .base) (records (a .w .now)) (a .from) (loop .at) (a .to) (omega arith) (omega arith) (omega arith)
+    (c .if1 .taken)
+    (loop .inv .1 .1)
+
 gather-requires : tie.Need-gather-requires Inv-loop μ-loop
 gather-requires c κs =
-    let buffer = c .before .before .loop .buffer in
-    omega (arith, length-records buffer, length-records (c .before .before .before .before .before .before .args .buffer .now))
+    let buffer = c .before .before .before .loop .buffer in
+    omega (arith, length-records buffer, length-records (c .before .before .before .before .before .before .before .args .buffer .now))
 
 undominated-requires : tie.Need-undominated-requires Inv-loop μ-loop
 undominated-requires c κs =
-    let sifted = c .before .before .before .before .before .before .before .loop .inv .1 .1 in
+    let sifted = c .before .before .before .before .before .before .before .before .loop .inv .1 .1 in
     omega (arith, sifted .same-length, c .before .before .before .before .gather .ensures .0 .room)
 
 loop-less : tie.Need-loop-less Inv-loop μ-loop
@@ -45,11 +53,11 @@ loop-less c =
 
 loop-again : tie.Need-loop-again Inv-loop μ-loop
 loop-again c =
-    let a = c .before .before .before .before .before .before .before .before .before .before .before .before .before .before .args in
-    let loop = c .before .before .before .before .before .before .before .before .before .before .loop in
+    let a = c .before .before .before .before .before .before .before .before .before .before .before .before .before .before .before .args in
+    let loop = c .before .before .before .before .before .before .before .before .before .before .before .loop in
     let gathered = c .before .before .before .before .before .before .before .gather .ensures in
     let left = c .before .before .undominated .ensures in
-    let all = c .before .before .before .before .before .before .before .before .before .before .before .before .before .before .pre .0 .1 in (
+    let all = c .before .before .before .before .before .before .before .before .before .before .before .before .before .before .before .pre .0 .1 in (
       omega (arith, sifted-fewer left),
       (
         (cc, cc),
@@ -58,14 +66,8 @@ loop-again c =
       ),
     )
 
-same-length : tie.Need-same-length Inv-loop μ-loop
-same-length c = c .before .loop .inv .1 .0 .1
-
-same-length-2 : tie.Need-same-length-2 Inv-loop μ-loop
-same-length-2 c = c .before .loop .inv .1 .0 .0
-
-returns : tie.Need-returns Inv-loop μ-loop
-returns c =
+returns-2 : tie.Need-returns-2 Inv-loop μ-loop
+returns-2 c =
     let all : c .before .loop .at ≡ c .before .before .before .before .before .args .to = omega arith in
     rw all at (c .before .loop .inv .1 .1)
 
@@ -76,10 +78,13 @@ unrivalled-with-spec =
     Inv-loop
     μ-loop
     loop-holds
+    (λ c. c .before .before .loop .inv .1 .0 .1)
+    (λ c. c .before .before .loop .inv .1 .0 .0)
+    returns
     gather-requires
     undominated-requires
     loop-less
     loop-again
-    same-length
-    same-length-2
-    returns)
+    (λ c. c .before .loop .inv .1 .0 .1)
+    (λ c. c .before .loop .inv .1 .0 .0)
+    returns-2)
