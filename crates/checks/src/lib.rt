@@ -1,5 +1,6 @@
 // Checks 1 to 5, which look at the job alone: `job_cause`. What it answers is `jobCause` of crate `answer` (specs/Checks), whose
-// proofs/JobCause ties that to the cause of a call with a pool. The functions are public for the crates above and not for hosts.
+// proofs/JobCause ties that to the cause of a call with a pool. The functions are public for the crates above and not for hosts;
+// what they require, those crates meet.
 ghost use mathlib.Core.Path.{_≡_};
 ghost use mathlib.Core.List.{[]};
 ghost use Prim.Native.Nat.{_≤_};

@@ -1,5 +1,5 @@
 -- Laws of the passes of rules 1, 2 and 4 over the first children. A pass keeps what passes its test if its rule is on (`sifted-on`) and
--- all if it is off (`sifted-off`). Two passes, one over what the other left, are one by both tests (`sifted-twice`). So two passes by
+-- all if it is off (`sifted-off`). Two passes, one over what the other left, are one by both tests (`sifted-twice`, crate `records`). So two passes by
 -- the records before i and by those behind i are one by the records without that at i (`sifted-around`), and three by the rules leave
 -- the survivors (`survivors-sifted`). Assumes nothing.
 use mathlib.Core.Path.{_≡_, refl, ap, sym, subst, _∙_}

@@ -1,4 +1,4 @@
--- The stops of a table as a problem on records, and what the functions of this crate compute between one word and the next. `proofs/`
+-- The stops of a table as a problem on records, and what the functions of this crate compute. `proofs/`
 -- shows that it is the problem of crate `stops`, node by node. These definitions are the code's own: a reader of the promise needs none
 -- of them.
 --   Rows             the table's rows, as a run has them

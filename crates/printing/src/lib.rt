@@ -1,5 +1,5 @@
-// What is printed: `report_text` and `refusal_text` are open to a caller; every other function is public for this crate alone, and what it requires its
-// callers meet. What is printed for every report, crate `report_format` says (specs/Printed).
+// What is printed: `report_text` and `refusal_text` are open to a caller; every other function is public for this crate alone, and what it
+// requires its callers meet. What is printed for every report, crate `report_format` says (specs/Printed).
 ghost use mathlib.Core.Path.{_≡_};
 ghost use Prim.Native.Nat.{min};
 ghost use Rattle.planner.specs.Promise.{reportOf};

@@ -1,5 +1,5 @@
-// Which children a record of the pool dominates: rules 2 and 4. The functions are public for the crates above and not for hosts; what
-// they require, those crates meet.
+// Which children a record of the pool dominates: rules 2 and 4; `near` and `beats` serve rule 8 too. The functions are public for the
+// crates above and not for hosts; what they require, those crates meet.
 ghost use mathlib.Core.Path.{_≡_};
 ghost use mathlib.Core.Bool.{false, _&&_};
 ghost use Prim.Native.Nat.{_+_, _≤_, _<_};

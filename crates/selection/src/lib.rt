@@ -1,4 +1,4 @@
-// Which active node is branched. `choose` is public for the crates above and not for hosts; what it requires, those crates meet.
+// Which active node is branched. `choose` is public for the crate above and not for hosts; what it requires, that crate meets.
 ghost use mathlib.Core.Path.{_≡_};
 ghost use mathlib.Core.Bool.{false, cond};
 ghost use Prim.Native.Nat.{ℕ, _+_, _≤_, _<_};

@@ -1,9 +1,8 @@
--- From what the functions of a step give to what is shown afterwards. `Stage` gathers what they gave: the children, U, the limit of
+-- From what the functions of a step give to what is active and kept afterwards. `Stage` gathers what they gave: the children, U, the limit of
 -- rule 1, the survivors, and the numbers of those that take part in rule 8 and of branched nodes held. Then
 --   stage-active    the active records afterwards are those of the written step
 --   stage-kept      the nodes to keep are as many as the code counts
 --   stage-all       where `all` says so, every active record but b stays
---   stage-shown     what the pool and the counts show is the state after the written step
 -- Assumes nothing.
 use mathlib.Core.Path.{_≡_, refl, sym, _∙_, ap, ap₂, subst}
 use mathlib.Core.Bool.{Bool, true, false, not, _&&_, cond}

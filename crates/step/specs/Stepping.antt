@@ -1,7 +1,7 @@
 -- A step on records. `proofs/` shows that it is the written step of crate `search`, node by node. These definitions are the code's own: a
 -- reader of the promise needs none of them.
---   Run, Shown       the numbers of a run beside the pool, and the state that they and the pool's words show
---   Ready, Stepping  what a step asks, and what it gives
+--   Shown                       the state that a run's numbers and the pool's words show
+--   Ready, Expansion, Stepping  what a step asks, what its parts 1 to 5 give, and what it gives
 -- Assumes nothing.
 use mathlib.Core.Path.{_≡_}
 use mathlib.Core.Bool.{Bool, true, false, cond}

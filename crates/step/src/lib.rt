@@ -1,5 +1,6 @@
 // One step of a run on the pool's records: its seven parts, of crates `children` and `replacement`, one after the other. specs/Stepping has
-// what its functions compute, and proofs/ shows that it is the written step of crate `search`. The functions are public for the crate above and not for hosts; what they require, that crate meets.
+// what its functions compute, and proofs/ shows that these are the written step of crate `search`. The functions are public for the crate
+// above and not for hosts; what they require, that crate meets.
 ghost use mathlib.Core.Path.{_≡_};
 ghost use Prim.Native.Nat.{_+_, _-_, _^_, _≤_, _<_, max};
 ghost use lib.ListN.{length};

@@ -7,6 +7,8 @@
 --   ahead k L place rest  what bound number k adds to the path cost at a place, with the stops of rest to come
 --   rowOf n part          a row of seventeen numbers
 --   Within m L            no leg is above m
+--   Wide x s leg          what `extended` asks, so that no number wraps
+--   emptyRecord           six zeros, e's record before it has a bound
 -- Assumes nothing.
 use mathlib.Core.Bool.{Bool, not, _&&_, cond}
 use mathlib.Core.List.{List, [], _∷_, map}

@@ -1,4 +1,4 @@
-//! The cases of `crates/planner/specs/OwnCases.antt`, number for number: what
+//! The cases of `crates/answer/specs/OwnCases.antt`, number for number: what
 //! is proved there of the definitions, this planner finds by itself.
 
 mod common;

@@ -1,3 +1,4 @@
+-- `number_at` meets its contract: the four bytes at a place make up the number. Assumes nothing.
 use native.Mathlib.Omega.{arith}
 use Rattle.job_format.proofs.ByteLaws.{four-bytes}
 use Rattle.bytes.proofs.number_at.Statement.{statement}

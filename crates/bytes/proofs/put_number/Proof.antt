@@ -1,3 +1,4 @@
+-- `put_number` meets its contract: the four bytes are the number's, one behind the other. Assumes nothing.
 use native.Mathlib.Numerals.{towards-suc}
 use native.Mathlib.Omega.{arith}
 use lib.ListN.{length-set}
