@@ -1,7 +1,7 @@
 -- Which place among some records a selection picks, told by the places' ranks alone: place i leads on a side if no place has a smaller
 -- rank and, of those of its rank, it is the earliest or the latest. The node at the place that leads is the one that `pick`, and so
--- document 01's selection, chooses; the others are the list without it. A loop finds that place by going on one place at a time.
--- Assumes nothing.
+-- document 01's selection, chooses; the others are the list without it. A loop goes from each place that leads so far to the next that goes
+-- before it. Assumes nothing.
 use mathlib.Core.Path.{_≡_, refl, ap, sym, _∙_}
 use mathlib.Core.Bool.{Bool, true, false, not, cond}
 use mathlib.Core.List.{List, [], _∷_, _++_}
