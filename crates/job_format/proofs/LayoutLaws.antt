@@ -3,7 +3,7 @@
 --   Layout, layout-of, of-layout    the places and the length, where nothing is misplaced, and back
 --   table-elsewhere, start-elsewhere, other-length, layout-fits    what each test of the layout decides
 -- Assumes nothing.
-use mathlib.Core.Path.{_≡_, refl, ap, sym, _∙_}
+use mathlib.Core.Path.{_≡_, ap, sym, _∙_}
 use mathlib.Core.Bool.{Bool, true, false, not, _||_, or-true}
 use mathlib.Core.List.{List}
 use mathlib.Core.Logic.{_≢_}
@@ -13,6 +13,7 @@ use native.Mathlib.Omega.{arith}
 use lib.Dec.{ltb, eqb}
 use lib.ListN.{getD}
 use borrow.Author.Tests.{eqb-true, ltb-false, not-false, eq-eqb, ne-eqb, le-ltb}
+use Rattle.lists.proofs.Tests.{both-false}
 use Rattle.job_format.specs.Bytes.{numberAt}
 use Rattle.job_format.specs.Job.{Trailer, area, startPlaceOf, fileLength, longest}
 use Rattle.job_format.specs.Reader.{trailerFrom, misplaced}
@@ -21,10 +22,6 @@ pub area-small : (n : ℕ) → n ≤ 16 → area n ≤ 289
 area-small n h =
     let few : suc n ≤ 17 = omega arith in
     mul-le-mul few few
-
-pub or-false : (a b : Bool) → (a || b) ≡ false → (a ≡ false) × (b ≡ false)
-or-false true b e = absurd (let z : _≡_ {A = ℕ} 0 1 = cc in omega arith)
-or-false false b e = (refl, e)
 
 pub record Layout (t : Trailer) (len : ℕ) : Type 0 where
   pub table : t .tablePlace ≡ 0
@@ -45,9 +42,9 @@ module _ (t : Trailer) (len : ℕ) where
   pub layout-of : misplaced t len ≡ false → Layout t len
   unfolding misplaced
   layout-of e =
-      let (most, long) = or-false (table-off || start-off || end-off) (ltb longest len) e in
-      let (places, end) = or-false (table-off || start-off) end-off most in
-      let (table, start) = or-false table-off start-off places in
+      let (most, long) = both-false (table-off || start-off || end-off) (ltb longest len) e in
+      let (places, end) = both-false (table-off || start-off) end-off most in
+      let (table, start) = both-false table-off start-off places in
       record {
         table = eqb-true (t .tablePlace) 0 (not-false _ table);
         start = eqb-true (t .startPlace) (startPlaceOf (t .n)) (not-false _ start);

@@ -10,12 +10,12 @@ use native.Mathlib.Omega.{arith}
 use lib.Dec.{ltb, eqb}
 use lib.ListN.{length, getD, drop, length-drop}
 use borrow.Author.Tests.{ltb-false, lt-ltb, le-ltb, eq-eqb, ne-eqb}
+use Rattle.lists.proofs.Tests.{both-false}
 use Rattle.answer.specs.Call.{Call, callOf}
 use Rattle.answer.specs.Checks.{cause₁, cause₂, cause₃, cause₄, cause₅, orLater, jobCause}
-use Rattle.job_format.specs.Job.{Job, callFor, Trailer, trailerLength, area, fileLength}
+use Rattle.job_format.specs.Job.{Job, callFor, Trailer, trailerLength, area}
 use Rattle.job_format.specs.Reader.{numbersIn, trailerFrom, trailerIn, jobBy, jobIn, misplaced, fileCause, refusal, readingBy, read}
 use Rattle.job_format.proofs.ByteLaws.{length-numbers}
-use Rattle.job_format.proofs.LayoutLaws.{or-false, layout-of}
 
 -- a call of n stops with nothing else
 abbrev bare : ℕ → Call
@@ -34,7 +34,7 @@ first-cause n k e =
 
 pub few-stops : (n : ℕ) → cause₁ (bare n) ≡ false → n ≤ 16
 unfolding cause₁ callOf
-few-stops n e = ltb-false 16 n (or-false (eqb n 0) (ltb 16 n) e .1)
+few-stops n e = ltb-false 16 n (both-false (eqb n 0) (ltb 16 n) e .1)
 
 -- "Number 2 can't come from a file": the table that is read has the numbers that it should
 pub table-fits : (t : Trailer) (file : List ℕ) → cause₂ (callFor (jobBy t file)) ≡ false

@@ -1,6 +1,6 @@
 -- Laws of Boolean tests: what `_&&_`, `_||_` and `not` say as types, and the rules by which `omega` reads tests of numbers.
 -- Assumes nothing.
-use mathlib.Core.Path.{_≡_, refl}
+use mathlib.Core.Path.{_≡_, refl, subst}
 use mathlib.Core.Bool.{Bool, true, false, not, _&&_, _||_}
 use mathlib.Core.Logic.{_⊎_, inl, inr, _≢_}
 use Prim.Native.Nat.{ℕ, _≤_, _<_}
@@ -56,6 +56,10 @@ to-false false h = refl
 pub not-either : (a b : Bool) → T (not (a || b)) → T (not a) × T (not b)
 not-either true b h = absurd h
 not-either false b h = (tt, h)
+
+pub both-false : (a b : Bool) → (a || b) ≡ false → (a ≡ false) × (b ≡ false)
+both-false true b e = absurd (subst T e tt)
+both-false false b e = (refl, e)
 
 pub same-tests : (a b : Bool) → (T a → T b) → (T b → T a) → a ≡ b
 same-tests true true f g = refl

@@ -2,16 +2,17 @@
 -- is false above the limit (`stays-above`), and true up to it where none of the kids dominates (`stays-free`); where there is no suspect all stay
 -- (`stay-on`). What holds at a partial index holds at the next: none of the first k passes a test (`free-more`), so many records pass
 -- (`count-passes`, `count-fails`). Assumes nothing.
-use mathlib.Core.Path.{_≡_, refl, ap, subst, _∙_}
+use mathlib.Core.Path.{_≡_, refl, ap, _∙_}
 use mathlib.Core.Bool.{Bool, true, false, _||_}
 use mathlib.Core.List.{List, [], _∷_, append-nil}
 use Prim.Native.Nat.{ℕ, zero, suc, _+_, _≤_, _<_}
 use native.Mathlib.Omega.{arith}
-use lib.Dec.{T, ltb}
+use lib.Dec.{ltb}
 use lib.ListN.{length, getD, take, length-append}
 use lib.Seq.{slice, slice-empty, length-slice}
 use borrow.Author.Tests.{le-leb, lt-leb, ltb-false}
 use Rattle.lists.specs.Lists.{put, keep, any}
+use Rattle.lists.proofs.Tests.{both-false}
 use Rattle.lists.proofs.Numbers.{keep-parts}
 use Rattle.stops.specs.Record.{emptyRecord, recDominates}
 use Rattle.stops.specs.declared.node.Node.{Node as Record}
@@ -19,10 +20,6 @@ use Rattle.rivals.specs.Rivals.{near, AllNear}
 use Rattle.passes.specs.Staying.{isStaying, isSuspect}
 use Rattle.records.proofs.SliceLaws.{keep-append, keep-slice-more, any-slice-more, slice-join, AllSo}
 use Rattle.rivals.proofs.RivalLaws.{apart}
-
-neither : (b c : Bool) → (b || c) ≡ false → (b ≡ false) × (c ≡ false)
-neither true c e = absurd (subst T e tt)
-neither false c e = (refl, e)
 
 or-right-true : (b c : Bool) → c ≡ true → (b || c) ≡ true
 or-right-true true c e = refl
@@ -52,7 +49,7 @@ module _ (limit size base : ℕ) (kids : List Record) (r : ℕ) (family : AllNea
   no-suspect : (x : Record) → isSuspect limit size base x ≡ false → isStaying limit (take r kids) x ≡ true
   unfolding isSuspect
   no-suspect x e =
-      let none = neither (ltb limit (x .bound)) (near size base x) e in
+      let none = both-false (ltb limit (x .bound)) (near size base x) e in
       stays-free limit kids x r (ltb-false limit (x .bound) (none .0)) (apart size base (take r kids) x family (none .1))
 
   all-stay : (xs : List Record) → keep (isSuspect limit size base) xs ≡ [] → keep (isStaying limit (take r kids)) xs ≡ xs

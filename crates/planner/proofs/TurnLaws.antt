@@ -18,7 +18,7 @@ use borrow.Author.Tests.{eq-eqb, ne-eqb, eqb-false, lt-ltb, le-ltb}
 use Rattle.lists.specs.Lists.{In}
 use Rattle.lists.proofs.Members.{in-head, in-map}
 use Rattle.lists.proofs.Empty.{in-nonempty}
-use Rattle.lists.proofs.Tests.{ordered}
+use Rattle.lists.proofs.Tests.{both-false, ordered}
 use Rattle.search.specs.Problem.{Problem, Choices, State, upper}
 use Rattle.search.specs.Selection.{chosen, selectBy, select, empty, finishes}
 use Rattle.search.specs.Step.{on, children₁, best₂, over₃, children₃, rest₃, dominated₄, children₄, dominated₅, children₅, dominated₆, rest₆, active₇, step}
@@ -68,10 +68,6 @@ module _ {N M : Type 0} (f : N → M) where
   unmap-go finish s′ e = absurd (let z : _≡_ {A = ℕ} 0 1 = cc in omega arith)
   unmap-go overflow s′ e = absurd (let z : _≡_ {A = ℕ} 0 1 = cc in omega arith)
   unmap-go (go s) s′ e = (s, refl, cc)
-
-or-false : (a b : Bool) → (a || b) ≡ false → b ≡ false
-or-false true b e = cc
-or-false false b e = e
 
 -- b is the only one of m if there are no others
 alone : {A : Type 0} (xs : List A) (m : ℕ) → m ≡ suc (length xs) → empty xs ≡ eqb m 1
@@ -261,7 +257,7 @@ module _
               at = at;
               encoded = chosen-encoded;
               partial =
-                  let unlike : b .size ≢ n = eqb-false (b .size) n (or-false dear (eqb (b .size) n) goes-on) in
+                  let unlike : b .size ≢ n = eqb-false (b .size) n (both-false dear (eqb (b .size) n) goes-on .1) in
                   omega (arith, chosen-small);
               tidy = shown-tidy;
               room = shown-room;
