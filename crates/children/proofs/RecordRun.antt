@@ -1,37 +1,27 @@
 -- The run on records is the written run: the problem of a call on records (`OnRecords`) is its problem on nodes, each node encoded as
 -- its record. Assumes nothing.
-use mathlib.Core.Path.{_≡_, refl, sym, _∙_, ap, ap₂, subst}
-use mathlib.Core.Bool.{Bool, true, false}
+use mathlib.Core.Path.{_≡_, refl, sym, _∙_, ap}
+use mathlib.Core.Bool.{false}
 use mathlib.Core.List.{List, [], _∷_, map}
-use mathlib.Core.List.{List·Memᴰ·tail}
-use mathlib.Core.Option.{Option}
-use Prim.Native.Nat.{ℕ, zero, suc, _+_, _-_, _^_, _≤_, _<_}
+use Prim.Native.Nat.{ℕ, _+_, _-_, _^_, _≤_}
 use native.Mathlib.Omega.{arith}
-use lib.ListN.{length}
-use Rattle.lists.specs.Lists.{In, keep, from}
-use Rattle.lists.proofs.Members.{in-head}
-use Rattle.search.specs.Problem.{Problem, Choices}
+use Rattle.lists.specs.Lists.{In, keep}
+use Rattle.lists.proofs.Map.{map-same}
 use Rattle.search.proofs.Mapped.{Maps}
 use Rattle.orders.specs.Orders.{Node, Partial, extend, set, left, size, complete, children, flown, stops}
 use Rattle.orders.proofs.Partial.{partial-root, partial-child, partial-size}
-use Rattle.stops.specs.Legs.{Legs, rowLeg, legs, path, last}
+use Rattle.stops.specs.Legs.{rowLeg, legs, path, last}
 use Rattle.stops.specs.Bounds.{boundBy}
 use Rattle.stops.specs.Record.{emptyRecord, extended, lastStop, stopsIn, ahead}
 use Rattle.stops.specs.Stops.{problem, choices}
-use Rattle.stops.specs.declared.node.Node.{Node as Record}
 use Rattle.stops.proofs.Paths.{path-extend}
 use Rattle.stops.proofs.Bounds.{bound-ahead, bound-exact}
 use Rattle.records.specs.Records.{mask}
 use Rattle.records.specs.View.{encode}
-use Rattle.records.proofs.Mask.{mask-stops, stops-left}
-use Rattle.records.proofs.Encode.{unbounded, encode-last, encode-extend}
+use Rattle.records.proofs.Mask.{stops-left}
+use Rattle.records.proofs.Encode.{encode-last, encode-extend}
 use Rattle.records.proofs.EncodeLaws.{encode-child, encode-dominates}
 use Rattle.children.specs.OnRecords.{restOf, bounded, childOf, childrenOf, rootOf, recProblem, recChoices}
-
--- lists are mapped alike by functions that agree on their elements
-map-same : {A B : Type 0} (f g : A → B) (xs : List A) → ((x : A) → In x xs → f x ≡ g x) → map f xs ≡ map g xs
-map-same f g [] h = refl
-map-same {B = B} f g (x ∷ xs) h = ap₂ (λ (y : B) (ys : List B). y ∷ ys) (h x in-head) (map-same f g xs (λ y m. h y (List·Memᴰ·tail m)))
 
 map-map : {A B C : Type 0} (f : B → C) (g : A → B) (xs : List A) → map f (map g xs) ≡ map (λ x. f (g x)) xs
 map-map f g [] = refl

@@ -10,6 +10,7 @@ use native.Mathlib.Omega.{arith}
 use lib.ListN.{length, getD, take, drop, take-append-drop, length-drop, drop-of-length-le}
 use lib.Seq.{drop-cons, take-add, length-take-le}
 use Rattle.lists.specs.Lists.{In, from, each}
+use Rattle.lists.proofs.Map.{map-same}
 use Rattle.lists.proofs.Members.{in-head}
 use Rattle.job_format.specs.Bytes.{leastFirst, valueOf, number, numberAt, AllBytes}
 use Rattle.job_format.specs.Job.{Trailer, trailerLength, trailerBytes}
@@ -33,10 +34,6 @@ number-value bytes e h = ap (λ (k : ℕ). leastFirst k (valueOf bytes)) (sym e)
 
 -- ---- the table
 
-map-same : (f g : ℕ → ℕ) → ((i : ℕ) → f i ≡ g i) → (xs : List ℕ) → map f xs ≡ map g xs
-map-same f g h [] = refl
-map-same f g h (x ∷ xs) = rw (h x, map-same f g h xs)
-
 map-later : (f : ℕ → ℕ) (a k : ℕ) → map f (from (suc a) k) ≡ map (λ i. f (suc i)) (from a k)
 map-later f a zero = refl
 map-later f a (suc k) = ap (λ (l : List ℕ). f (suc a) ∷ l) (map-later f (suc a) k)
@@ -54,7 +51,7 @@ unfolding numbersIn numberAt
 numbers-cons k a b c d file =
     let at : ℕ → ℕ = λ i. numberAt (a ∷ b ∷ c ∷ d ∷ file) (4 * i) in
     ap (λ (l : List ℕ). valueOf (a ∷ b ∷ c ∷ d ∷ []) ∷ l)
-    (map-later at 0 k ∙ map-same (λ i. at (suc i)) (λ i. numberAt file (4 * i)) (later a b c d file) (from 0 k))
+    (map-later at 0 k ∙ map-same (λ i. at (suc i)) (λ i. numberAt file (4 * i)) (from 0 k) (λ i m. later a b c d file i))
 
 numbers-none : (file : List ℕ) → numbersIn 0 file ≡ []
 unfolding numbersIn

@@ -8,6 +8,11 @@ use Rattle.lists.specs.Lists.{In, put, keep, any, least}
 use Rattle.lists.proofs.Members.{in-head}
 
 module _ {A B : Type 0} (f : A → B) where
+  -- lists are mapped alike by functions that agree on their elements
+  pub map-same : (g : A → B) (xs : List A) → ((x : A) → In x xs → f x ≡ g x) → map f xs ≡ map g xs
+  map-same g [] h = refl
+  map-same g (x ∷ xs) h = rw (h x in-head, map-same g xs (λ y m. h y (List·Memᴰ·tail m)))
+
   pub keep-map :
       (p : A → Bool) (q : B → Bool) (xs : List A) → ((x : A) → In x xs → q (f x) ≡ p x) → keep q (map f xs) ≡ map f (keep p xs)
   keep-map p q [] same = refl

@@ -8,7 +8,7 @@
 -- Assumes nothing.
 use mathlib.Core.Path.{_≡_, refl, ap, sym, _∙_}
 use mathlib.Core.Bool.{Bool, true, false, not, _&&_, cond}
-use mathlib.Core.List.{List, [], _∷_, map}
+use mathlib.Core.List.{List, map}
 use mathlib.Core.Logic.{_⊎_, inl, inr, _≢_}
 use Prim.Native.Nat.{ℕ, zero, suc, _+_, _*_, _-_, _≤_, _<_}
 use native.Mathlib.Nat.{mul-le-mul, suc-mul}
@@ -20,6 +20,7 @@ use lib.Seq.{take-all, drop-cons, getD-set-same, getD-set-other, getD-drop, ext-
 use borrow.Author.Tests.{lt-ltb, eq-eqb, ne-eqb}
 use Rattle.lists.specs.Lists.{any, from}
 use Rattle.lists.proofs.Tests.{compared, same-tests, tests}
+use Rattle.lists.proofs.Map.{map-same}
 use Rattle.lists.proofs.Members.{length-from}
 use Rattle.stops.specs.Legs.{entry, rows}
 use Rattle.stops.specs.Record.{rowOf}
@@ -88,10 +89,6 @@ module _ (n : ℕ) (table : List ℕ) where
 pub part-from : (k : ℕ) (xs : List ℕ) → take (length xs - k) (drop k xs) ≡ drop k xs
 part-from k xs = take-all (length xs - k) (drop k xs) (omega (arith, length-drop k xs))
 
-map-same : {A B : Type 0} (f g : A → B) → ((a : A) → f a ≡ g a) → (xs : List A) → map f xs ≡ map g xs
-map-same f g h [] = refl
-map-same f g h (x ∷ xs) = rw (h x, map-same f g h xs)
-
 module _ {A : Type 0} where
   -- seventeen elements: f of the first k places, d at the others
   unfoldable pub filled : ℕ → (ℕ → A) → A → List A
@@ -139,7 +136,7 @@ module _ {A : Type 0} where
   unfolding filled
   filled-all n k f d h l =
       ap (λ (m : ℕ). filled m f d) (let e : k ≡ suc n = omega arith in e)
-      ∙ map-same _ _ (λ i. ap (λ (b : Bool). cond b (f i) d) (leb·suc-suc i n)) (from 0 17)
+      ∙ map-same _ _ (from 0 17) (λ i m. ap (λ (b : Bool). cond b (f i) d) (leb·suc-suc i n))
 
 module _ (n k : ℕ) (h : k ≤ suc n) (l : n < k) where
   pub filled-row : (part : List ℕ) → filled k (λ j. getD part j 0) 0 ≡ rowOf n part
@@ -149,12 +146,12 @@ module _ (n k : ℕ) (h : k ≤ suc n) (l : n < k) where
   pub filled-rows : (table : List ℕ) → filled k (λ i. rowOf n (drop (i * (n + 1)) table)) (replicate 17 0) ≡ rows n table
   unfolding rows rowOf
   filled-rows table =
-      filled-all n k (λ i. rowOf n (drop (i * (n + 1)) table)) (replicate 17 0) h l ∙ map-same _ _ (λ i. at i (leb i n)) (from 0 17)
+      filled-all n k (λ i. rowOf n (drop (i * (n + 1)) table)) (replicate 17 0) h l ∙ map-same _ _ (from 0 17) (λ i m. at i (leb i n))
     where
       at :
           (i : ℕ) (b : Bool)
           → cond b (rowOf n (drop (i * (n + 1)) table)) (replicate 17 0)
           ≡ map (λ j. cond (b && leb j n) (entry n table i j) 0) (from 0 17)
       at i true =
-          map-same _ _ (λ j. ap (λ (v : ℕ). cond (leb j n) v 0) (getD-drop (i * (n + 1)) table j 0 ∙ entry-at n table i j)) (from 0 17)
+          map-same _ _ (from 0 17) (λ j m. ap (λ (v : ℕ). cond (leb j n) v 0) (getD-drop (i * (n + 1)) table j 0 ∙ entry-at n table i j))
       at i false = refl
