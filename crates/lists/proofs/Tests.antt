@@ -71,6 +71,9 @@ same-tests false false f g = refl
 pub neq : (a b : ℕ) → T (not (eqb a b)) → a ≢ b
 neq a b h e = T-not (eqb a b) h (rw e (eqb-refl b))
 
+pub equal-eqb : (a b : ℕ) → a ≡ b → T (eqb a b)
+equal-eqb a b e = rw e (eqb-refl b)
+
 pub compared : (a b : ℕ) → (a ≡ b) ⊎ (a ≢ b)
 compared a b = go (either (eqb a b))
   where

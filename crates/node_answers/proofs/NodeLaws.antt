@@ -3,10 +3,10 @@ use mathlib.Core.Path.{_≡_, sym}
 use mathlib.Core.Bool.{Bool, false, not, _&&_}
 use mathlib.Core.List.{[], _∷_}
 use Prim.Native.Nat.{ℕ, _≤_}
-use lib.Dec.{T, leb, eqb, leb→le, le→leb, eqb→eq, eqb-refl, T-not, not-T}
+use lib.Dec.{T, leb, eqb, leb→le, le→leb, eqb→eq, T-not, not-T}
 use lib.ListN.{take, drop}
 use Rattle.lists.specs.Lists.{all, Distinct, none, more}
-use Rattle.lists.proofs.Tests.{and-left, and-right, and-both, to-false}
+use Rattle.lists.proofs.Tests.{and-left, and-right, and-both, to-false, equal-eqb}
 use Rattle.lists.proofs.Members.{all-in, in-all}
 use Rattle.orders.specs.Orders.{Node, stops, flown, set, size, Partial}
 use Rattle.orders.proofs.Sets.{in-stops, stops-in, in-flown, flown-in}
@@ -59,9 +59,6 @@ module _ (a b c d e f : Bool) where
       (and-both (a && b && c && d) e (and-both (a && b && c) d (and-both (a && b) c (and-both a b ha hb) hc) hd) he) hf
 
 module _ (n : ℕ) (x : Record) (y : Node) where
-  equal-eqb : (a b : ℕ) → a ≡ b → T (eqb a b)
-  equal-eqb a b e = rw e (eqb-refl b)
-
   pub tests-record : T (leb 1 n && leb n 16 && isRecordOf n x y) → NodeRecord n x y
   unfolding isRecordOf
   tests-record h =

@@ -7,9 +7,9 @@ use mathlib.Core.Bool.{Bool, not, _&&_}
 use mathlib.Core.Logic.{_⊎_, inl, inr}
 use Prim.Native.Nat.{ℕ, _+_, _-_, _^_, _≤_}
 use native.Mathlib.Omega.{arith}
-use lib.Dec.{T, leb, eqb, leb→le, le→leb, eqb→eq, eqb-refl, T-not, not-T}
+use lib.Dec.{T, leb, eqb, leb→le, le→leb, eqb→eq, T-not, not-T}
 use Rattle.lists.specs.Lists.{In}
-use Rattle.lists.proofs.Tests.{and-left, and-right, and-both, same-tests}
+use Rattle.lists.proofs.Tests.{and-left, and-right, and-both, same-tests, equal-eqb}
 use Rattle.orders.specs.Orders.{Node, set, left, size, extend}
 use Rattle.orders.specs.Orders.{Partial}
 use Rattle.orders.proofs.Partial.{partial-size}
@@ -31,9 +31,6 @@ pub encode-child :
     → boundBy k n L (extend x s) ≡ path L (extend x s) + ahead k L s (stopsIn (2 ^ n - 1 - mask (set n x) - 2 ^ (s - 1)))
 encode-child n few L k h x s m =
     rw (stops-child n few x s m, bound-ahead k h n L (extend x s), last-extend x s) refl
-
-equal-eqb : (a b : ℕ) → a ≡ b → T (eqb a b)
-equal-eqb a b e = rw e (eqb-refl b)
 
 -- no node dominates itself
 dominator-differs : (n : ℕ) (L : Legs) (w x : Node) → T (dominates n L w x) → w ≡ x → ⊥
