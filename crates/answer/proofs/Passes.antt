@@ -31,7 +31,7 @@ pub record Passes (c : Call) : Type 0 where
   pub whole : length (c .pool) % recordWords ≡ 0
 
 -- the first cause does not apply, and neither does a later one
-none-first : (b : Bool) (number later : ℕ) → orLater b (suc number) later ≡ 0 → T (not b) × (later ≡ 0)
+pub none-first : (b : Bool) (number later : ℕ) → orLater b (suc number) later ≡ 0 → T (not b) × (later ≡ 0)
 none-first true number later e = absurd (omega arith)
 none-first false number later e = (tt, e)
 

@@ -4,16 +4,17 @@
 --   accepted-passes, accepted-bytes    its job passes the checks, and the job's bytes are the file's
 -- Assumes nothing.
 use mathlib.Core.Path.{_≡_, refl, ap, sym, _∙_}
-use mathlib.Core.Bool.{Bool, true, false}
+use mathlib.Core.Bool.{false}
 use mathlib.Core.List.{List, _++_, append-assoc}
 use Prim.Native.Nat.{ℕ, zero, suc, _+_, _*_, _-_, _≤_, _<_}
 use native.Mathlib.Omega.{arith}
-use lib.Dec.{ltb}
+use lib.Dec.{ltb, nltb→le}
 use lib.ListN.{length, take, drop, length-append, take-append-drop, length-drop}
 use lib.Seq.{take-at, drop-at, take-add, length-take-le}
-use borrow.Author.Tests.{ltb-false}
 use Rattle.lists.specs.Lists.{each}
-use Rattle.answer.specs.Checks.{cause₁, orLater, jobCause}
+use Rattle.lists.proofs.Tests.{to-false}
+use Rattle.answer.specs.Checks.{cause₁, jobCause}
+use Rattle.answer.proofs.Passes.{none-first}
 use Rattle.job_format.specs.Bytes.{number, AllBytes}
 use Rattle.job_format.specs.Job.{Job, callFor, Trailer, trailerLength, area, startPlaceOf, trailerOf, trailerBytes, bytesOf}
 use Rattle.job_format.specs.Reader.{numbersIn, trailerFrom, trailerIn, jobBy, jobIn, misplaced, fileCause, refusal, readingBy, read}
@@ -22,11 +23,6 @@ use Rattle.job_format.proofs.JobLaws.{Passed, passed, length-trailer, l
 use Rattle.job_format.proofs.LayoutLaws.{area-small, Layout, layout-of, of-layout}
 use Rattle.job_format.proofs.ReadLaws.{table-fits, right-layout}
 use Rattle.job_format.proofs.FileLaws.{rest-bytes, numbers-of, of-numbers, trailer-of, of-trailer}
-
--- the first cause does not apply, and neither does a later one
-none-first : (b : Bool) (number later : ℕ) → orLater b (suc number) later ≡ 0 → (b ≡ false) × (later ≡ 0)
-none-first true number later e = absurd (omega arith)
-none-first false number later e = (refl, e)
 
 -- ---- a job's bytes
 
@@ -86,7 +82,7 @@ module _ (j : Job) (passes : jobCause (callFor j) 0 ≡ 0) where
 
   few : cause₁ (callFor j) ≡ false
   unfolding jobCause
-  few = none-first (cause₁ (callFor j)) 0 _ passes .0
+  few = to-false (cause₁ (callFor j)) (none-first (cause₁ (callFor j)) 0 _ passes .0)
 
   pub bytes-read : read (bytesOf j) ≡ record { number = 0; job = j }
   unfolding readingBy
@@ -123,9 +119,9 @@ accepted file e =
     let (stops, e₂) = none-first (cause₁ (callFor job)) 0 _ e₁ in
     let (places, e₃) = none-first (misplaced (trailerIn file) (length file)) 8 _ e₂ in
     record {
-      long = ltb-false (length file) trailerLength long;
-      layout = layout-of (trailerIn file) (length file) places;
-      passes = rw (stops, table-fits (trailerIn file) file) e₃;
+      long = nltb→le (length file) trailerLength long;
+      layout = layout-of (trailerIn file) (length file) (to-false (misplaced (trailerIn file) (length file)) places);
+      passes = rw (to-false (cause₁ (callFor job)) stops, table-fits (trailerIn file) file) e₃;
       same = job-found file (no-cause file e);
     }
 
