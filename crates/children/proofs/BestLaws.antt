@@ -23,12 +23,11 @@ use lib.Seq.{take-suc, take-all, split-at, getD-set-same, getD-set-other, ext-ge
 use Rattle.lists.specs.Lists.{In, Distinct}
 use Rattle.lists.proofs.Tests.{compared, ordered}
 use Rattle.lists.proofs.Members.{in-head}
-use Rattle.lists.proofs.Empty.{no-members}
 use Rattle.lists.proofs.Distinct.{append-apart}
 use Rattle.search.specs.Problem.{Problem, upper}
 use Rattle.search.specs.Step.{replace, learn}
-use Rattle.orders.specs.Orders.{Node, Partial, Order, flown, set as flownSet, left, size, extend}
-use Rattle.orders.proofs.Sets.{in-set, in-left, left-in, flown-in, extend-child}
+use Rattle.orders.specs.Orders.{Node, Partial, Order, flown, left, size, extend}
+use Rattle.orders.proofs.Sets.{empty-set, in-left, left-in, flown-in, extend-child}
 use Rattle.orders.proofs.Partial.{partial-root, partial-child}
 use Rattle.orders.proofs.Order.{order-partial, order-complete, order-length}
 use Rattle.stops.specs.Legs.{Legs, legs, rowLeg, path, last, cost}
@@ -107,10 +106,6 @@ order-given n y (inl e) h = absurd (h (ap length e))
 order-given n y (inr o) h = o
 
 -- the record of e
-empty-set : (n : ℕ) → flownSet n [] ≡ []
-unfolding flown
-empty-set n = no-members (flownSet n []) (λ s m. in-set n [] s m .2)
-
 encode-empty : (n : ℕ) (L : Legs) (k : ℕ) → emptyRecord ≡ unbounded (encode n L k [])
 unfolding emptyRecord encode path size mask
 encode-empty n L k = rw (empty-set n) refl

@@ -1,14 +1,14 @@
 -- The run on records is the written run: the problem of a call on records (`OnRecords`) is its problem on nodes, each node encoded as
 -- its record. Assumes nothing.
 use mathlib.Core.Path.{_≡_, refl, sym, _∙_, ap}
-use mathlib.Core.Bool.{false}
 use mathlib.Core.List.{List, [], _∷_, map}
 use Prim.Native.Nat.{ℕ, _+_, _-_, _^_, _≤_}
 use native.Mathlib.Omega.{arith}
-use Rattle.lists.specs.Lists.{In, keep}
+use Rattle.lists.specs.Lists.{In}
 use Rattle.lists.proofs.Map.{map-same}
 use Rattle.search.proofs.Mapped.{Maps}
-use Rattle.orders.specs.Orders.{Node, Partial, extend, set, left, size, complete, children, flown, stops}
+use Rattle.orders.specs.Orders.{Node, Partial, extend, set, left, size, complete, children}
+use Rattle.orders.proofs.Sets.{empty-set}
 use Rattle.orders.proofs.Partial.{partial-root, partial-child, partial-size}
 use Rattle.stops.specs.Legs.{rowLeg, legs, path, last}
 use Rattle.stops.specs.Bounds.{boundBy}
@@ -27,16 +27,8 @@ map-map : {A B C : Type 0} (f : B → C) (g : A → B) (xs : List A) → map f (
 map-map f g [] = refl
 map-map {C = C} f g (x ∷ xs) = ap (λ (ys : List C). f (g x) ∷ ys) (map-map f g xs)
 
-keep-none : {A : Type 0} (xs : List A) → keep (λ x. false) xs ≡ []
-keep-none [] = refl
-keep-none (x ∷ xs) = keep-none xs
-
 module _ (n : ℕ) (few : n ≤ 16) (t : List (List ℕ)) (k : ℕ) (number : k ≤ 1) where
   -- the record of e
-  empty-set : set n [] ≡ []
-  unfolding set flown
-  empty-set = keep-none (stops n)
-
   pub encode-root : rootOf n t k ≡ encode n (legs t) k []
   unfolding rootOf bounded emptyRecord encode path last mask
   encode-root = λ i. record { size = sym none i; set = sym unset i; path = 0; bound = bound i; first = 0; second = 0 }
@@ -45,7 +37,7 @@ module _ (n : ℕ) (few : n ≤ 16) (t : List (List ℕ)) (k : ℕ) (number : k 
       none = partial-size n [] (partial-root n)
 
       unset : mask (set n []) ≡ 0
-      unset = ap mask empty-set
+      unset = ap mask (empty-set n)
 
       all : stopsIn (2 ^ n - 1) ≡ left n []
       all = ap stopsIn (let e : 2 ^ n - 1 ≡ 2 ^ n - 1 - mask (set n []) = omega (arith, unset) in e) ∙ stops-left n few []

@@ -11,6 +11,7 @@ use lib.ListN.{length}
 use Rattle.lists.specs.Lists.{In, keep, Distinct}
 use Rattle.lists.proofs.Tests.{same-tests}
 use Rattle.lists.proofs.Members.{in-keep, keep-in, any-in, in-any, in-map, map-in, in-from, from-in, distinct-keep, distinct-from, length-from}
+use Rattle.lists.proofs.Empty.{no-members}
 use Rattle.lists.proofs.Numbers.{keep-parts}
 use Rattle.lists.proofs.Keep.{keep-same, keep-keep, any-append}
 use Rattle.lists.proofs.Distinct.{length-without}
@@ -40,6 +41,10 @@ flown-append x y s = any-append (eqb s) x y
 pub in-set : (n : ℕ) (x : Node) (s : ℕ) → In s (set n x) → (1 ≤ s) × (s ≤ n) × T (flown x s)
 unfolding set
 in-set n x s m = let (i, f) = in-keep (flown x) (stops n) s m in let h = in-stops n s i in (h .0, h .1, f)
+
+pub empty-set : (n : ℕ) → set n [] ≡ []
+unfolding flown
+empty-set n = no-members (set n []) (λ s m. in-set n [] s m .2)
 
 set-in : (n : ℕ) (x : Node) (s : ℕ) → 1 ≤ s → s ≤ n → T (flown x s) → In s (set n x)
 unfolding set
