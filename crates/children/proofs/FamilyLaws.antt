@@ -1,5 +1,5 @@
 -- What the code of `family` needs of a node's record, and of the loop that writes the children's records one after the other.
---   rest-sum, rest-small    the stops that it leaves, as a set that fits 16 bits
+--   rest-sum                the stops that it leaves, as a set that fits 16 bits
 --   children-near           each child has one stop more, and its set holds its own
 --   kid-places              its last stop and those that it leaves are places of the table
 --   kid-wide, kid-small     its numbers have room for one of those stops, and 32 bits hold the child's bound
@@ -34,7 +34,7 @@ use Rattle.stops.proofs.SetAnd.{stopsIn-added}
 use Rattle.stops.proofs.SetLoops.{First, ahead-small}
 use Rattle.records.specs.View.{encode}
 use Rattle.rivals.specs.Rivals.{near, AllNear}
-use Rattle.records.proofs.Mask.{mask-stops, stops-left, ones-set, mask-extend}
+use Rattle.records.proofs.Mask.{mask-stops, rest-small, rest-left, ones-set, mask-extend}
 use Rattle.records.proofs.Encode.{encode-wide}
 use Rattle.children.specs.OnRecords.{Rows, Encoded, restOf, bounded, childOf, childrenOf}
 
@@ -57,12 +57,9 @@ module _ {n : ℕ} {t : List (List ℕ)} {k : ℕ} {b : Record} (rows : Rows n t
       let same = ap (λ (r : Record). r .set) (e .same) in
       omega (arith, same, mask-stops n (e .node), pow-pos n, pow-mono {i = n} {j = 16} (rows .few))
 
-  pub rest-small : restOf n b < 2 ^ 16
-  rest-small = omega (arith, rest-sum)
-
-  rest-left : stopsIn (restOf n b) ≡ left n (e .node)
+  restOf-left : stopsIn (restOf n b) ≡ left n (e .node)
   unfolding restOf encode
-  rest-left = ap (λ (r : Record). stopsIn (restOf n r)) (e .same) ∙ stops-left n (rows .few) (e .node)
+  restOf-left = rest-left n (rows .few) (e .node) (b .set) (ap (λ (r : Record). r .set) (e .same))
 
   path-most : (b .path ≡ path (legs t) (e .node)) × (b .path ≤ 16_000_000)
   unfolding encode
@@ -77,7 +74,7 @@ module _ {n : ℕ} {t : List (List ℕ)} {k : ℕ} {b : Record} (rows : Rows n t
   unfolding encode
   one-more s m =
       let y = e .node in
-      let there : In s (left n y) = subst (λ (xs : List ℕ). In s xs) rest-left m in
+      let there : In s (left n y) = subst (λ (xs : List ℕ). In s xs) restOf-left m in
       rw (e .same, ← mask-extend n y s there, ones-set n (rows .few) (extend y s)) (omega (arith, size-extend n y s there))
 
   pub children-size : (x : Record) → In x (childrenOf n t k b) → x .size ≡ b .size + 1
@@ -87,9 +84,9 @@ module _ {n : ℕ} {t : List (List ℕ)} {k : ℕ} {b : Record} (rows : Rows n t
       ap (λ (y : Record). y .size) same ∙ one-more s m
 
   child-near : (s : ℕ) → In s (stopsIn (restOf n b)) → T (near (b .size + 1) (b .set) (childOf n t k b s))
-  unfolding childOf bounded extended near
+  unfolding childOf bounded extended near restOf
   child-near s m =
-      let kept : bitAnd (b .set + 2 ^ (s - 1)) (b .set) ≡ b .set = stopsIn-added n (b .set) (restOf n b) s (rest-sum .0) rest-small m in
+      let kept : bitAnd (b .set + 2 ^ (s - 1)) (b .set) ≡ b .set = stopsIn-added n (b .set) (restOf n b) s (rest-sum .0) (rest-small n (rows .few) (b .set)) m in
       rw (kept, one-more s m) (and-both (eqb (b .set) (b .set)) (eqb (b .size + 1) (b .size + 1)) (eqb-refl (b .set)) (eqb-refl (b .size + 1)))
 
   pub children-near : AllNear (b .size + 1) (b .set) (childrenOf n t k b)
@@ -116,8 +113,9 @@ module _ {n : ℕ} {t : List (List ℕ)} {k : ℕ} {b : Record} {place rest s : 
   rest-is = q .1 .1 .1 .0
 
   pub kid-places : (place ≤ 16) × (rest < 2 ^ 16) × (s ≤ 16)
+  unfolding restOf
   kid-places =
-      let small : rest < 2 ^ 16 = omega (arith, rest-small rows encoded, rest-is) in
+      let small : rest < 2 ^ 16 = rw rest-is (rest-small n (rows .few) (b .set)) in
       (omega (arith, last-place b, place-last), small, stopsIn-range rest small s (q .1 .1 .1 .1) .1)
 
   leg-most : rowLeg t place s ≤ 1_000_000
@@ -127,7 +125,7 @@ module _ {n : ℕ} {t : List (List ℕ)} {k : ℕ} {b : Record} {place rest s : 
   pub kid-wide : Wide b s (rowLeg t place s)
   kid-wide =
       let x = encoded .node in
-      let m : In s (left n x) = rw (rest-is, rest-left rows encoded) at (q .1 .1 .1 .1) in
+      let m : In s (left n x) = rw (rest-is, restOf-left rows encoded) at (q .1 .1 .1 .1) in
       let room : path (legs t) x + rowLeg t place s < 2 ^ 32 = omega (arith, path-most rows encoded, leg-most) in
       subst (λ (r : Record). Wide r s (rowLeg t place s)) (sym (encoded .same))
       (encode-wide n (rows .few) (legs t) k x (encoded .partial) s m (rowLeg t place s) room)

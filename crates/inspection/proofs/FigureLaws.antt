@@ -1,17 +1,17 @@
 -- The figures of a record: what the checks that a job passes say of its table, and the bound from the set of a node's record.
 -- Assumes nothing.
-use mathlib.Core.Path.{_≡_, refl, ap, sym, _∙_}
+use mathlib.Core.Path.{_≡_, refl, sym, _∙_}
 use mathlib.Core.Bool.{Bool, true, false}
 use mathlib.Core.List.{List, [], _∷_}
 use mathlib.Core.Logic.{_≢_}
-use Prim.Native.Nat.{ℕ, zero, suc, _+_, _*_, _-_, _^_, _%_, _≤_, _<_}
+use Prim.Native.Nat.{ℕ, zero, suc, _+_, _*_, _-_, _^_, _%_, _≤_}
 use native.Mathlib.Nat.{mod-eq-of-lt}
 use native.Mathlib.Omega.{arith}
 use lib.Dec.{T}
 use lib.ListN.{length}
-use lib.Pow.{pow-pos, pow-mono}
+use lib.Pow.{pow-mono}
 use Rattle.lists.proofs.Tests.{to-true}
-use Rattle.orders.specs.Orders.{set, left, size}
+use Rattle.orders.specs.Orders.{set, size}
 use Rattle.orders.proofs.Sets.{size-left}
 use Rattle.stops.specs.Legs.{Legs, rows, legs, path, last}
 use Rattle.stops.specs.Bounds.{boundBy}
@@ -20,7 +20,7 @@ use Rattle.stops.specs.declared.node.Node.{Node as Record}
 use Rattle.stops.proofs.LegTable.{legs-within}
 use Rattle.stops.proofs.Bounds.{bound-ahead}
 use Rattle.records.specs.Records.{recordsIn}
-use Rattle.records.proofs.Mask.{mask-stops, stops-left}
+use Rattle.records.proofs.Mask.{mask-stops, rest-left}
 use Rattle.answer.specs.Call.{callOf}
 use Rattle.answer.specs.Checks.{cause₆, jobCause}
 use Rattle.answer.proofs.Passes.{Passes, passes}
@@ -73,16 +73,10 @@ module _ (n : ℕ) (x : Record) (node : T (isNode n x)) where
   pub set-within : x .set ≤ 2 ^ n - 1
   set-within = omega (arith, q .set-is, mask-stops n (flownStops x))
 
-  pub rest-small : 2 ^ n - 1 - x .set < 2 ^ 16
-  rest-small = omega (arith, pow-pos n, pow-mono {i = n} {j = 16} (q .few))
-
-  pub rest-left : stopsIn (2 ^ n - 1 - x .set) ≡ left n (flownStops x)
-  rest-left = ap (λ (m : ℕ). stopsIn (2 ^ n - 1 - m)) (q .set-is) ∙ stops-left n (q .few) (flownStops x)
-
   pub bound-sum :
       (L : Legs) (bound : ℕ) → bound ≤ 1
       → path L (flownStops x) + ahead bound L (last (flownStops x)) (stopsIn (2 ^ n - 1 - x .set)) ≡ boundBy bound n L (flownStops x)
-  bound-sum L bound h = rw rest-left (sym (bound-ahead bound h n L (flownStops x)))
+  bound-sum L bound h = rw (rest-left n (q .few) (flownStops x) (x .set) (q .set-is)) (sym (bound-ahead bound h n L (flownStops x)))
 
   pub figures-node :
       (table : List ℕ) (bound : ℕ) → jobCause (callOf n table 0 0 bound [] []) 0 ≡ 0

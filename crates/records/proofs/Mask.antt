@@ -1,6 +1,7 @@
 -- The sets of a node as numbers (`mask`: stop s adds 2 to the power s-1): the stops that it flies and those that it leaves.
 --   mask-stops, set-small      together the two numbers are 2 to the power n, less 1
 --   stops-set, stops-left      the stops can be read back
+--   rest-small, rest-left      what a number leaves of n stops fits 16 bits, and is what the node leaves where the number is its set's
 --   ones-set                   and those flown counted
 --   mask-extend, stops-child   what one more stop does to both
 -- Assumes nothing.
@@ -30,6 +31,10 @@ mask-leave n x s m = rw (left-extend n x s) (sum-without (λ r. 2 ^ (r - 1)) s (
 pub mask-extend : (n : ℕ) (x : Node) (s : ℕ) → In s (left n x) → mask (set n (extend x s)) ≡ mask (set n x) + 2 ^ (s - 1)
 mask-extend n x s m = omega (arith, mask-stops n x, mask-stops n (extend x s), mask-leave n x s m)
 
+-- the stops that any set leaves fit 16 bits
+pub rest-small : (n : ℕ) → n ≤ 16 → (m : ℕ) → 2 ^ n - 1 - m < 2 ^ 16
+rest-small n few m = omega (arith, pow-pos n, pow-mono {i = n} {j = 16} few)
+
 module _ (n : ℕ) (few : n ≤ 16) (x : Node) where
   pub set-small : mask (set n x) < 2 ^ 16
   set-small = omega (arith, mask-stops n x, pow-pos n, pow-mono {i = n} {j = 16} few)
@@ -41,6 +46,9 @@ module _ (n : ℕ) (few : n ≤ 16) (x : Node) where
   pub stops-left : stopsIn (2 ^ n - 1 - mask (set n x)) ≡ left n x
   unfolding mask set left
   stops-left = stopsIn-others (flown x) n few
+
+  pub rest-left : (m : ℕ) → m ≡ mask (set n x) → stopsIn (2 ^ n - 1 - m) ≡ left n x
+  rest-left m e = ap (λ (k : ℕ). stopsIn (2 ^ n - 1 - k)) e ∙ stops-left
 
   pub ones-set : ones (mask (set n x)) ≡ size n x
   unfolding size

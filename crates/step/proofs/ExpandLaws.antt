@@ -1,14 +1,13 @@
 -- What `expand` gathers from its callees: `expansion-made`. Assumes nothing.
-use mathlib.Core.Path.{_≡_, refl, sym, _∙_, ap, ap₂, subst}
+use mathlib.Core.Path.{_≡_, sym, _∙_, ap, ap₂, subst}
 use mathlib.Core.Bool.{cond}
 use mathlib.Core.List.{List}
 use mathlib.Core.Option.{Option}
-use Prim.Native.Nat.{ℕ, _-_, _^_, _/_, _≤_}
+use Prim.Native.Nat.{ℕ, _-_, _/_, _≤_}
 use native.Mathlib.Omega.{arith}
 use lib.ListN.{length, take, drop, length-map}
 use Rattle.search.specs.Step.{on, learn}
 use Rattle.stops.specs.Record.{stopsIn}
-use Rattle.stops.specs.Stops.{aboveEveryCost}
 use Rattle.stops.specs.declared.node.Node.{Node as Record}
 use Rattle.stops.proofs.SetBits.{stopsIn-few}
 use Rattle.records.specs.View.{records}
@@ -18,16 +17,16 @@ use Rattle.children.specs.OnRecords.{Table, Rows, Encoded, restOf, childOf, chi
 use Rattle.step.specs.Stepping.{Ready, Expansion}
 use Rattle.children.specs.declared.best.Best.{Best}
 use Rattle.step.specs.declared.Run.{Run}
-use Rattle.children.proofs.FamilyLaws.{rest-small}
+use Rattle.records.proofs.Mask.{rest-small}
 
 -- words as many as before are records as many as before
 pub same-records : (w w′ : List ℕ) → length w′ ≡ length w → length (records w′) ≡ length (records w)
 same-records w w′ e = length-records w′ ∙ ap (λ (j : ℕ). j / 6) e ∙ sym (length-records w)
 
 pub family-few : {n : ℕ} {t : Table} {k : ℕ} {b : Record} → Rows n t k → Encoded n t k b → length (childrenOf n t k b) ≤ 16
-unfolding childrenOf
+unfolding childrenOf restOf
 family-few {n} {t} {k} {b} rows e =
-    let few : length (stopsIn (restOf n b)) ≤ 16 = stopsIn-few (restOf n b) (rest-small rows e) in
+    let few : length (stopsIn (restOf n b)) ≤ 16 = stopsIn-few (restOf n b) (rest-small n (rows .few) (b .set)) in
     omega (arith, length-map (stopsIn (restOf n b)) (childOf n t k b))
 
 module _

@@ -8,8 +8,9 @@ use borrow.Author.Needs.{needs}
 use lib.ListN.{length}
 use Rattle.stops.proofs.SetLoops.{First, first-out, first-later}
 use Rattle.records.specs.View.{records}
+use Rattle.records.proofs.Mask.{rest-small}
 use Rattle.children.specs.OnRecords.{restOf, childOf, childrenOf}
-use Rattle.children.proofs.FamilyLaws.{rest-sum, rest-small, Written, written-starts, written-room, written-again, written-ends}
+use Rattle.children.proofs.FamilyLaws.{rest-sum, Written, written-starts, written-room, written-again, written-ends}
 use Rattle.children.proofs.family.family.Statement.{statement}
 use Rattle.children.proofs.family.family.Tie as tie
 
@@ -39,11 +40,12 @@ sub-rest-2 : tie.Need-sub-rest-2 Inv-loop μ-loop
 sub-rest-2 c = omega (arith, sums (c .before))
 
 loop-holds : tie.Need-loop-holds Inv-loop μ-loop
+unfolding restOf
 loop-holds c =
     let a = c .before .before .before .args in
     let p = c .before .before .before .pre in
     let e : 1 * 2 ^ a .n % 2 ^ 32 - 1 - a .b .set ≡ restOf (a .n) (a .b) = omega (arith, sums (c .before)) in
-    (e, refl, written-starts e (rest-small (p .0) (p .1 .0)) (p .1 .1))
+    (e, refl, written-starts e (rest-small (a .n) (p .0 .few) (a .b .set)) (p .1 .1))
 
 next-requires : tie.Need-next-requires Inv-loop μ-loop
 next-requires c κs = let h = c .before .loop .inv .2 .small in omega arith

@@ -10,10 +10,11 @@ use Rattle.stops.specs.Record.{stopsIn, Within}
 use Rattle.stops.specs.declared.node.Node.{Node as Record}
 use Rattle.stops.proofs.SetBits.{stopsIn-few}
 use Rattle.stops.proofs.SetLoops.{ahead-small}
+use Rattle.records.proofs.Mask.{rest-small}
 use Rattle.inspection.specs.Numbers.{ofNumbers}
 use Rattle.inspection.proofs.OrderLaws.{stops-same}
 use Rattle.inspection.proofs.FigureLaws.{job-few, job-square, job-bound, job-within, one-shifted, node-short, set-within}
-use Rattle.inspection.proofs.FigureLaws.{rest-small, bound-sum, figures-node}
+use Rattle.inspection.proofs.FigureLaws.{bound-sum, figures-node}
 use Rattle.inspection.proofs.cost.reckoned.Statement.{statement}
 use Rattle.inspection.proofs.cost.reckoned.Tie as tie
 
@@ -59,8 +60,7 @@ sub-rest-2 c =
 
 -- the stops to come are those that the set leaves
 rest-few : (c : tie.Start) → (1 * 2 ^ (c .args .n)) % 4294967296 - 1 - c .args .set < 65536
-unfolding ofNumbers
-rest-few c = rw (shifted c) (rest-small (c .args .n) (x c) (c .pre .0))
+rest-few c = rw (shifted c) (rest-small (c .args .n) (few c) (c .args .set))
 
 ahead-requires : tie.Need-ahead-requires
 ahead-requires c κs =
