@@ -5,23 +5,20 @@
 --   Flown, flown-none, flown-more          an order made into a record, stop by stop
 --   next-near, flown-wide, flown-room      the numbers of the next stop, and of the leg home, have room
 --   flown-best                             at the end the record's numbers are those of the order, for either bound
---   Read, read-none, read-more             the places of an order, read from its two words one by one
---   read-order                             they are the order, with zeros behind it
 -- Assumes nothing.
 use mathlib.Core.Path.{_≡_, refl, ap, sym, _∙_, subst}
 use mathlib.Core.Bool.{Bool, true, false, _&&_}
 use mathlib.Core.List.{List, [], _∷_, _++_, Memᴰ·append-right, List·Memᴰ·tail}
 use mathlib.Core.Logic.{_⊎_, inl, inr, _≢_}
 use mathlib.Core.Option.{Option, none, some, Option·map}
-use Prim.Native.Nat.{ℕ, zero, suc, _+_, _-_, _^_, _≤_, _<_}
+use Prim.Native.Nat.{ℕ, suc, _+_, _^_, _≤_, _<_}
 use native.Mathlib.Numerals.{add-one}
 use native.Mathlib.Omega.{arith}
 use borrow.Author.Tests.{lt-ltb, le-ltb, eq-eqb, ne-eqb}
 use lib.Dec.{eqb, ltb, not-T}
-use lib.ListN.{length, getD, set, take, drop, replicate, length-set, length-append, length-take, length-replicate, List·getD-append}
-use lib.Seq.{take-suc, take-all, split-at, getD-set-same, getD-set-other, ext-getD}
+use lib.ListN.{length, getD, take, drop, length-take}
+use lib.Seq.{take-suc, take-all, split-at}
 use Rattle.lists.specs.Lists.{In, Distinct}
-use Rattle.lists.proofs.Tests.{compared, ordered}
 use Rattle.lists.proofs.Members.{in-head}
 use Rattle.lists.proofs.Distinct.{append-apart}
 use Rattle.search.specs.Problem.{Problem, upper}
@@ -29,17 +26,16 @@ use Rattle.search.specs.Step.{replace, learn}
 use Rattle.orders.specs.Orders.{Node, Partial, Order, flown, left, size, extend}
 use Rattle.orders.proofs.Sets.{empty-set, in-left, left-in, flown-in, extend-child}
 use Rattle.orders.proofs.Partial.{partial-root, partial-child}
-use Rattle.orders.proofs.Order.{order-partial, order-complete, order-length}
+use Rattle.orders.proofs.Order.{order-complete, order-length}
 use Rattle.stops.specs.Legs.{Legs, legs, rowLeg, path, last, cost}
 use Rattle.stops.specs.Record.{emptyRecord, extended, Wide}
 use Rattle.stops.specs.Stops.{aboveEveryCost}
 use Rattle.stops.specs.declared.node.Node.{Node as Record}
 use Rattle.stops.proofs.Paths.{path-small, last-extend}
 use Rattle.stops.proofs.Bounds.{bound-exact}
-use Rattle.records.specs.Records.{mask, orderWord, stopAt, padded}
+use Rattle.records.specs.Records.{mask}
 use Rattle.records.specs.View.{encode}
-use Rattle.records.proofs.OrderWords.{stop-read}
-use Rattle.records.proofs.Encode.{unbounded, encode-extend, encode-wide, partial-digits}
+use Rattle.records.proofs.Encode.{unbounded, encode-extend, encode-wide}
 use Rattle.answer.specs.Answer.{given}
 use Rattle.children.specs.OnRecords.{Table, recProblem, IsBest, Rows}
 use Rattle.children.specs.declared.best.Best.{Best}
@@ -204,50 +200,3 @@ module _
   flown-best whole j h =
       rw (given-some y (omega (arith, order-length n y o, rows .some)), f .numbers, f .at, take-all k y whole)
       (sym (bound-exact j h n (legs t) y (order-complete n y o)), refl, refl)
-
-zero-behind : (x : Node) (m j : ℕ) → length x ≤ j → getD (x ++ replicate m 0) j 0 ≡ 0
-zero-behind [] zero j h = refl
-zero-behind [] (suc m) zero h = refl
-zero-behind [] (suc m) (suc j) h = zero-behind [] m j (omega arith)
-zero-behind (s ∷ x) m zero h = absurd (omega arith)
-zero-behind (s ∷ x) m (suc j) h = zero-behind x m j (omega arith)
-
--- Sixteen places are filled from the front: the first i hold what the two words say, the others zeros.
-pub record Read (first second i : ℕ) (places : List ℕ) : Type 0 where
-  pub sixteen : length places ≡ 16
-  pub front : (j : ℕ) → j < i → getD places j 0 ≡ stopAt first second j
-  pub behind : (j : ℕ) → i ≤ j → getD places j 0 ≡ 0
-
-pub read-none : (first second : ℕ) → Read first second 0 (replicate 16 0)
-read-none first second = record { sixteen = refl; front = λ j h. absurd (omega arith); behind = λ j h. zero-behind [] 16 j (omega arith) }
-
-pub read-more :
-    {first second i : ℕ} {places : List ℕ} → Read first second i places → i < 16
-    → Read first second (i + 1) (set places i (stopAt first second i))
-read-more {first} {second} {i} {places} r h = record {
-  sixteen = length-set places i (stopAt first second i) ∙ r .sixteen;
-  front = λ j k. go j k (compared j i);
-  behind = λ j k. getD-set-other places i j (stopAt first second i) 0 (λ e. omega arith) ∙ r .behind j (omega arith);
-}
-  where
-    go : (j : ℕ) → j < i + 1 → (j ≡ i) ⊎ (j ≢ i) → getD (set places i (stopAt first second i)) j 0 ≡ stopAt first second j
-    go j k (inl e) = rw e (getD-set-same places i (stopAt first second i) 0 (omega (arith, r .sixteen)))
-    go j k (inr e) = getD-set-other places i j (stopAt first second i) 0 e ∙ r .front j (omega arith)
-
-pub read-order :
-    {n : ℕ} {places : List ℕ} (x : Node) → n ≤ 16 → Order n x → Read (orderWord (take 8 x)) (orderWord (drop 8 x)) n places
-    → places ≡ padded 16 x
-unfolding padded
-read-order {n} {places} x few o r = ext-getD 0 places (padded 16 x) long (λ j h. go j (ordered n j))
-  where
-    whole : length x ≡ n
-    whole = order-length n x o
-
-    long : length places ≡ length (padded 16 x)
-    long = simp (length-append, length-replicate) (omega (arith, whole, r .sixteen))
-
-    go : (j : ℕ) → (n ≤ j) ⊎ (j < n) → getD places j 0 ≡ getD (padded 16 x) j 0
-    go j (inl h) = r .behind j h ∙ sym (zero-behind x (16 - length x) j (omega (arith, whole)))
-    go j (inr h) =
-        r .front j h ∙ stop-read x (partial-digits n few x (order-partial n x o)) j (omega (arith, whole))
-        ∙ sym (List·getD-append x (replicate (16 - length x) 0) 0 j (omega (arith, whole)))

@@ -1,21 +1,19 @@
 // U and its order, while a run goes on.
 ghost use mathlib.Core.Path.{_≡_};
-ghost use mathlib.Core.List.{List, [], _∷_};
+ghost use mathlib.Core.List.{[], _∷_};
 ghost use mathlib.Core.Logic.{_⊎_};
 ghost use mathlib.Core.Option.{Option, Option·map};
 ghost use Prim.Native.Nat.{ℕ, _≤_};
-ghost use lib.ListN.{length, take, drop};
+ghost use lib.ListN.{length, take};
 ghost use Rattle.lists.specs.Lists.{In};
 ghost use Rattle.search.specs.Step.{learn};
 ghost use Rattle.stops.specs.declared.node.Node.{Node as Record};
 ghost use Rattle.orders.specs.Orders.{Order};
 ghost use Rattle.stops.specs.Legs.{legs};
 ghost use Rattle.records.specs.View.{records, encode};
-ghost use Rattle.records.specs.Records.{padded, orderWord};
 ghost use Rattle.answer.specs.Answer.{given};
 ghost use Rattle.children.specs.OnRecords.{Table, IsBest, recProblem, Rows};
 use records::load;
-use records::order::stop_at;
 use stops::node::Node;
 
 // The cost of the best order known, and its two words; the largest number and zeros if none is known.
@@ -86,18 +84,4 @@ pub fn started(t: [[u32; 17]; 17], n: u32, start: &[u8]) -> Best
         first: x.first,
         second: x.second,
     }
-}
-
-// The stops of an order from its two words, and zeros past n.
-pub fn stops_of(n: u32, first: u32, second: u32) -> [u8; 16]
-    requires { ⌜ n ≤ 16 ⌝ }
-    ensures { λ r. ⌜ ((x : List ℕ) → Order n x → first ≡ orderWord (take 8 x) → second ≡ orderWord (drop 8 x) → r ≡ padded 16 x) ⌝ }
-{
-    let mut order = [0u8; 16];
-    let mut i = 0;
-    while i < n {
-        order[i as usize] = stop_at(first, second, i) as u8;
-        i += 1;
-    }
-    order
 }

@@ -1,20 +1,21 @@
 -- Laws of bytes.
 --   overwrite-none, overwrite-next, overwrite-one, length-overwrite, take-overwrite    a buffer whose front is written, a few bytes at a time
 --   overwrite-behind    a part of a buffer, behind what is written, is lent and written in its turn
---   padded-overwrite, take-padded, padded-one    an array of zeros whose front is written
+--   padded-overwrite, take-padded    an array of zeros whose front is written
 --   take-next, numbers-next, table-next    the lists that the loops write, one element more
 --   each-append, length-numbers, length-each-number    these lists in parts, and their lengths
 --   four-bytes    the number at a place, byte by byte
 --   value-bytes, bytes-value    a number and its bytes, least byte first: each way and back
 -- Assumes nothing.
 use mathlib.Core.Path.{_≡_, refl, ap, sym, _∙_}
-use mathlib.Core.List.{List, [], _∷_, _++_, map, append-assoc, append-nil, List·Memᴰ·tail}
+use mathlib.Core.List.{List, [], _∷_, _++_, append-assoc, append-nil, List·Memᴰ·tail}
 use Prim.Native.Nat.{ℕ, zero, suc, _+_, _*_, _-_, _^_, _/_, _%_, _≤_, _<_}
 use native.Mathlib.Numerals.{add-one, towards-suc}
 use native.Mathlib.Omega.{arith}
-use lib.ListN.{length, getD, set, take, drop, replicate, length-append, length-drop, length-map, length-replicate}
+use lib.ListN.{length, getD, set, take, drop, replicate, length-append, length-drop, length-map}
 use lib.Seq.{sets, sets-eq, take-append-seam, drop-append-seam, drop-append-add, drop-drop, take-suc, length-take-le}
 use Rattle.lists.specs.Lists.{from, each}
+use Rattle.lists.proofs.Map.{map-from}
 use Rattle.lists.proofs.Members.{in-head, length-from}
 use Rattle.records.specs.Records.{padded}
 use Rattle.job_format.specs.Bytes.{leastFirst, valueOf, number, numberAt, overwrite, AllBytes}
@@ -74,22 +75,13 @@ pub take-padded : (n : ℕ) (xs : List ℕ) → take (length xs) (padded n xs) �
 unfolding padded
 take-padded n xs = take-append-seam xs (zeros (n - length xs))
 
-pub padded-one :
-    (n : ℕ) (xs zs : List ℕ) (k y : ℕ) → length xs ≡ k → zs ≡ xs ++ (y ∷ []) → k < n → set (padded n xs) k y ≡ padded n zs
-padded-one n xs zs k y e f h =
-    rw (padded-overwrite n xs, padded-overwrite n zs) (overwrite-one xs zs (zeros n) k y e f (omega (arith, length-replicate {A = ℕ} n 0)))
-
 -- the lists that the loops write, one element more
 pub take-next : (xs : List ℕ) (k : ℕ) → k < length xs → take (k + 1) xs ≡ take k xs ++ (getD xs k 0 ∷ [])
 take-next xs k h = rw add-one (take-suc xs k 0 h)
 
-numbers-from : (f : ℕ → ℕ) (a k b : ℕ) → a + k ≡ b → map f (from a (suc k)) ≡ map f (from a k) ++ (f b ∷ [])
-numbers-from f a zero b e = rw (let e′ : a ≡ b = omega arith in e′)
-numbers-from f a (suc k) b e = ap (λ (l : List ℕ). f a ∷ l) (numbers-from f (suc a) k b (omega arith))
-
 pub numbers-next : (k : ℕ) (file : List ℕ) → numbersIn (k + 1) file ≡ numbersIn k file ++ (numberAt file (4 * k) ∷ [])
 unfolding numbersIn
-numbers-next k file = rw add-one (numbers-from (λ i. numberAt file (4 * i)) 0 k k (omega arith))
+numbers-next k file = rw add-one (map-from (λ i. numberAt file (4 * i)) 0 k k (omega arith))
 
 pub length-numbers : (k : ℕ) (file : List ℕ) → length (numbersIn k file) ≡ k
 unfolding numbersIn

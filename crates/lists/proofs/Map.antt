@@ -1,10 +1,11 @@
 -- Laws of mapped lists: where a test q says of f x what the test p says of x, `keep` and `any` of the mapped list are those of the
 -- list, mapped; likewise `least` of numbers. Assumes nothing.
-use mathlib.Core.Path.{_≡_, refl}
+use mathlib.Core.Path.{_≡_, refl, ap}
 use mathlib.Core.Bool.{Bool, true, false}
-use mathlib.Core.List.{List, [], _∷_, map, List·Memᴰ·tail}
-use Prim.Native.Nat.{ℕ}
-use Rattle.lists.specs.Lists.{In, put, keep, any, least}
+use mathlib.Core.List.{List, [], _∷_, _++_, map, List·Memᴰ·tail}
+use Prim.Native.Nat.{ℕ, zero, suc, _+_}
+use native.Mathlib.Omega.{arith}
+use Rattle.lists.specs.Lists.{In, put, keep, any, least, from}
 use Rattle.lists.proofs.Members.{in-head}
 
 module _ {A B : Type 0} (f : A → B) where
@@ -30,3 +31,8 @@ module _ {A B : Type 0} (f : A → B) where
   least-map g h [] same = refl
   least-map g h (x ∷ []) same = same x in-head
   least-map g h (x ∷ y ∷ ys) same = rw (same x in-head, least-map g h (y ∷ ys) (λ z m. same z (List·Memᴰ·tail m)))
+
+-- one number more
+pub map-from : {B : Type 0} (f : ℕ → B) (a k b : ℕ) → a + k ≡ b → map f (from a (suc k)) ≡ map f (from a k) ++ (f b ∷ [])
+map-from f a zero b e = rw (let e′ : a ≡ b = omega arith in e′)
+map-from {B} f a (suc k) b e = ap (λ (l : List B). f a ∷ l) (map-from f (suc a) k b (omega arith))

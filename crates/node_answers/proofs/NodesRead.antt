@@ -1,22 +1,20 @@
 -- The records that the pool holds, read back: the record of a node passes `isNode`, and its stops are the node. With `NodeLaws`, whose
 -- `NodeRecord` is what every record that passes is, the records that pass are just those of nodes, whatever path cost and bound they hold.
 -- Assumes nothing.
-use mathlib.Core.Path.{_≡_, refl, sym, _∙_, subst}
-use Prim.Native.Nat.{ℕ, _≤_, _<_}
+use mathlib.Core.Path.{_≡_, refl, sym, subst}
+use Prim.Native.Nat.{ℕ, _≤_, min}
 use native.Mathlib.Omega.{arith}
 use lib.Dec.{T}
-use lib.ListN.{length, getD}
-use lib.Seq.{ext-getD}
+use lib.ListN.{length}
 use Rattle.orders.specs.Orders.{Node, size, Partial}
 use Rattle.orders.proofs.Sets.{size-left}
 use Rattle.orders.proofs.Partial.{partial-size}
 use Rattle.stops.specs.Legs.{Legs}
 use Rattle.stops.specs.declared.node.Node.{Node as Record}
 use Rattle.records.specs.View.{encode}
-use Rattle.records.proofs.OrderWords.{stop-read}
+use Rattle.records.proofs.OrderStops.{stops-read}
 use Rattle.records.proofs.Encode.{partial-digits}
 use Rattle.node_answers.specs.Nodes.{flownStops, isNode}
-use Rattle.node_answers.proofs.StopLaws.{stopOf, stops-length, stop-here}
 use Rattle.node_answers.proofs.NodeLaws.{NodeRecord, record-node}
 
 module _ (n : ℕ) (few : n ≤ 16) (L : Legs) (k : ℕ) (x : Node) (p : Partial n x) where
@@ -30,15 +28,12 @@ module _ (n : ℕ) (few : n ≤ 16) (L : Legs) (k : ℕ) (x : Node) (p : Partial
   short : length x ≤ 16
   short = omega (arith, partial-size n x p, size-left n x)
 
-  stop-encode : (i : ℕ) → i < length x → stopOf w i ≡ getD x i 0
-  unfolding encode
-  stop-encode i h = stop-read x (partial-digits n few x p) i h
-
-  long : length (flownStops w) ≡ length x
-  long = omega (arith, stops-length w, size-encode, short)
+  all : min (w .size) 16 ≡ length x
+  all = omega (arith, size-encode, short)
 
   pub stops-encode : flownStops w ≡ x
-  stops-encode = ext-getD 0 (flownStops w) x long (λ i h. stop-here w i h ∙ stop-encode i (omega (arith, long)))
+  unfolding flownStops encode
+  stops-encode = rw all (stops-read x (partial-digits n few x p))
 
   pub node-encode : 1 ≤ n → T (isNode n w)
   unfolding encode

@@ -12,20 +12,22 @@ use mathlib.Core.Option.{Option, some}
 use Prim.Native.Nat.{ℕ, _+_, _-_, _/_, _%_, _≤_}
 use native.Mathlib.Omega.{arith}
 use lib.ListN.{length, take, drop, replicate, length-map, length-append, length-reverse}
+use Rattle.lists.specs.Lists.{from}
 use Rattle.search.specs.Problem.{State, upper}
 use Rattle.search.specs.Step.{on}
 use Rattle.search.specs.Run.{withBranched, held, Next, finish, next, finished, Overflows}
 use Rattle.search.proofs.Outcome.{next-overflows}
-use Rattle.orders.specs.Orders.{Node, Order}
+use Rattle.orders.specs.Orders.{Node}
 use Rattle.orders.proofs.Order.{order-complete}
 use Rattle.stops.specs.Legs.{legs, rows, cost}
 use Rattle.stops.specs.Stops.{problem, choices}
 use Rattle.stops.specs.Record.{emptyRecord}
 use Rattle.stops.specs.declared.node.Node.{Node as Record}
 use Rattle.stops.proofs.Bounds.{bound-exact}
-use Rattle.records.specs.Records.{padded, poolWords, recordsIn, orderWord}
+use Rattle.records.specs.Records.{padded, poolWords, recordsIn, orderWord, stopAt}
 use Rattle.records.specs.View.{records, encode}
 use Rattle.records.proofs.ViewLaws.{length-records}
+use Rattle.records.proofs.OrderStops.{order-stops}
 use Rattle.records.proofs.PoolWords.{pool-words}
 use Rattle.answer.specs.Call.{Call, Report, orderPlaces}
 use Rattle.answer.specs.Checks.{cause}
@@ -199,14 +201,16 @@ module _ {c : Call} {t : Table} {w : List ℕ} {r : Run} (here : Stands c t w r)
   pub finish-answers :
       {w₁ w₂ : List ℕ} → Turned (c .n) t (c .selection) (c .rules) (c .bound) w w₁ s Finish → Settled (recordsIn (c .pool)) w₁ r w₂
       → (places : List ℕ)
-      → ((x : Node) → Order (c .n) x → r .best .first ≡ orderWord (take 8 x) → r .best .second ≡ orderWord (drop 8 x) → places ≡ padded 16 x)
+      → places ≡ padded 16 (map (stopAt (r .best .first) (r .best .second)) (from 0 (c .n)))
       → (q : Report) → q ≡ reported 0 (r .best .upper) places r → record { report = q; pool = w₂ } ≡ ending c (outcome c)
   unfolding ending
   finish-answers {w₁} {w₂} turned settled places stops q e =
       ap₂ (λ (a : Report) (p : List ℕ). record { report = a; pool = p })
       (e
       ∙ counts-reported 0 (r .best .upper) places (x end)
-      (stops (x end) (order-known end .order) (numbers-known end .1) (numbers-known end .2))
+      (stops
+      ∙ ap (padded 16)
+      (order-stops (c .n) (passes c (here .passed) .few) (x end) (order-known end .order) _ _ (numbers-known end .1) (numbers-known end .2)))
       ∙ known-reported end)
       (settled-words w₁ w₂ (turned .1) settled)
       ∙ ap (ending c) (sym (ran end))

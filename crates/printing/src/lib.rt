@@ -1,7 +1,6 @@
 // What is printed: `report_text` and `refusal_text` are open to a caller; every other function is public for this crate alone, and what it
 // requires its callers meet. What is printed for every report, crate `report_format` says (specs/Printed).
 ghost use mathlib.Core.Path.{_≡_};
-ghost use Prim.Native.Nat.{min};
 ghost use Rattle.planner.specs.Promise.{reportOf};
 ghost use Rattle.report_format.specs.Printed.{refusedLine, printed};
 ghost use Rattle.printing.specs.Promise.{textOf};
@@ -12,6 +11,7 @@ pub mod put;
 use crate::lines::put_lines;
 use crate::put::put_line;
 use planner::run::Report;
+use records::order::places;
 
 // Places for a text.
 pub const TEXT: usize = 515;
@@ -20,13 +20,6 @@ pub const TEXT: usize = 515;
 pub struct Text {
     pub bytes: [u8; TEXT],
     pub length: usize,
-}
-
-// How many places of an order its first n stops take.
-fn places(n: u32) -> usize
-    ensures { λ r. ⌜ r ≡ min n 16 ⌝ }
-{
-    if n < 16 { n as usize } else { 16 }
 }
 
 // The line of a refusal.
@@ -47,6 +40,6 @@ pub fn report_text(n: u32, report: Report) -> Text
         return refusal_text(number);
     }
     let mut bytes = [0u8; TEXT];
-    let length = put_lines(&mut bytes, places(n), report);
+    let length = put_lines(&mut bytes, places(n) as usize, report);
     Text { bytes, length }
 }

@@ -22,6 +22,9 @@ slice-aggregate-put-lines c = search needs
 places-requires : tie.Need-places-requires
 places-requires c κs = search needs
 
+cast-put-lines : tie.Need-cast-put-lines
+cast-put-lines c = search needs
+
 put-lines-requires : tie.Need-put-lines-requires
 put-lines-requires c κs = search needs
 
@@ -43,5 +46,6 @@ report-text-spec =
     returns
     slice-aggregate-put-lines
     places-requires
+    cast-put-lines
     put-lines-requires
     returns-2)

@@ -7,7 +7,8 @@ use native.Mathlib.Omega.{arith}
 use Rattle.records.specs.Records.{padded}
 use Rattle.job_format.specs.Reader.{numbersIn}
 use Rattle.job_file.specs.Promise.{tablePlaces}
-use Rattle.job_format.proofs.ByteLaws.{padded-one, numbers-next, length-numbers}
+use Rattle.records.proofs.Padded.{padded-one}
+use Rattle.job_format.proofs.ByteLaws.{numbers-next, length-numbers}
 use Rattle.job_file.proofs.reader.table_of.Statement.{statement}
 use Rattle.job_file.proofs.reader.table_of.Tie as tie
 
