@@ -1,15 +1,17 @@
 -- Laws of what is written into a buffer.
 --   put-none, put-one, put-then, put-last, put-length    nothing, a byte, one write behind another, a last byte, the buffer's length
---   put-next       one turn of the loop that writes bytes
+--   put-lent       bytes written into the part of a buffer that is lent
 --   put-text       a text written into an array of zeros
 --   numbered-next  the stops that the loop writes, one more
 -- Assumes nothing.
-use mathlib.Core.Path.{_≡_, refl, ap, _∙_}
-use mathlib.Core.List.{List, [], _∷_, _++_}
-use Prim.Native.Nat.{ℕ, suc, _+_, _≤_, _<_}
+use mathlib.Core.Path.{_≡_, refl, ap, sym, _∙_}
+use mathlib.Core.List.{List, [], _∷_, _++_, append-nil, append-assoc}
+use Prim.Native.Nat.{ℕ, suc, _+_, _-_, _≤_, _<_}
 use native.Mathlib.Omega.{arith}
-use lib.ListN.{length, getD, set, take, replicate, length-append, length-replicate}
-use lib.Seq.{sets, sets-eq, length-sets}
+use lib.ListN.{length, getD, set, take, drop, replicate, length-append, length-replicate}
+use lib.Seq.{sets, sets-eq, length-sets, drop-length, drop-drop}
+use borrow.Rule.Slice.PartMut.{midOf, putMid, post-is}
+use Rattle.stops.proofs.RowLaws.{part-from}
 use Rattle.records.specs.Records.{padded}
 use Rattle.job_format.specs.Bytes.{overwrite}
 use Rattle.job_format.proofs.ByteLaws.{padded-overwrite, take-next, each-append}
@@ -41,13 +43,17 @@ put-length {l} {m} {xs} {a} p = ap length (p .written) ∙ length-sets l a xs
 pub put-last : {l m xs : List ℕ} {a b : ℕ} → Put l a xs m b → (y : ℕ) → Put l a (xs ++ (y ∷ [])) (set m b y) (b + 1)
 put-last {m = m} {b = b} p y = put-then p (put-one m b y)
 
--- one turn of the loop that writes bytes
-pub put-next :
-    (xs : List ℕ) (k : ℕ) → k < length xs → {l m : List ℕ} {a : ℕ} → Put l a (take k xs) m (a + k)
-    → Put l a (take (k + 1) xs) (set m (a + k) (getD xs k 0)) (a + (k + 1))
-put-next xs k h {l} {m} {a} p =
-    let e : a + k + 1 ≡ a + (k + 1) = omega arith in
-    rw (take-next xs k h, ← e) (put-last p (getD xs k 0))
+-- bytes written at the front of the part of a buffer that is lent
+pub put-lent :
+    (l xs v : List ℕ) (a : ℕ) → a + length xs ≤ length l → v ≡ overwrite xs (midOf a (length l - a) l)
+    → Put l a xs (putMid a (length l - a) l v) (a + length xs)
+unfolding overwrite
+put-lent l xs v a h e = record {
+  written =
+      rw (post-is a (length l) l (omega arith), drop-length l, append-nil, e, part-from a l, drop-drop (length xs) a l)
+      (sym (sets-eq xs l a h ∙ append-assoc (take a l) xs (drop (a + length xs) l)));
+  behind = refl;
+}
 
 -- a text written into an array of zeros
 pub put-text :

@@ -10,12 +10,8 @@ pub fn put_bytes(buffer: &mut [u8], at: usize, bytes: &[u8]) -> usize
     requires { ⌜ at + length (now bytes) ≤ length (now buffer) ⌝ }
     ensures { λ r. ⌜ Put (now (buffer .entry)) at (now (bytes .entry)) (now (buffer .exit)) r ⌝ }
 {
-    let mut k = 0;
-    while k < bytes.len() {
-        buffer[at + k] = bytes[k];
-        k += 1;
-    }
-    at + k
+    bytes::put_bytes(bytes, &mut buffer[at..]);
+    at + bytes.len()
 }
 
 // Writes a space and a number in decimal.
