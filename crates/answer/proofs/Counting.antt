@@ -1,14 +1,14 @@
 -- generated = branched + eliminated + active: at every state of every run, and in every report (demand 2).
 -- Assumes nothing.
 use mathlib.Core.Path.{_≡_, refl, subst, sym}
-use Prim.Native.Nat.{ℕ, _+_}
+use Prim.Native.Nat.{_+_}
 use lib.ListN.{length}
 use Rattle.search.specs.Problem.{State}
 use Rattle.search.proofs.Plain.{tree, planOf, cutOf, adds}
 use Rattle.search.proofs.Counts.{counts-agree}
 use Rattle.orders.specs.Orders.{Node}
 use Rattle.records.specs.Records.{recordsIn}
-use Rattle.answer.specs.Call.{Call, Report, Answer, refusal}
+use Rattle.answer.specs.Call.{Call, Answer, refusal}
 use Rattle.answer.specs.Checks.{cause}
 use Rattle.answer.specs.Answer.{problemOf, choicesOf, given, reportWith, ending, answer, StateOf}
 use Rattle.answer.proofs.Passes.{passes}

@@ -10,7 +10,7 @@ use native.Mathlib.Omega.{arith}
 use Rattle.search.specs.Problem.{State}
 use Rattle.search.specs.Run.{Outcome, finished, full, unfinished}
 use Rattle.orders.specs.Orders.{Node}
-use Rattle.answer.specs.Call.{Call, Report, Answer, refusal}
+use Rattle.answer.specs.Call.{Call, Answer, refusal}
 use Rattle.answer.specs.Checks.{cause₁, cause₂, cause₃, cause₄, cause₅, cause₆, orLater, jobCause, cause}
 use Rattle.answer.specs.Answer.{outcome, reportWith, ending, respond, answer}
 use Rattle.answer.proofs.Instance.{outcome-ends}

@@ -7,7 +7,7 @@ use mathlib.Core.Path.{_≡_, ap, _∙_}
 use mathlib.Core.List.{[]}
 use Prim.Native.Nat.{ℕ}
 use Rattle.search.specs.Problem.{State}
-use Rattle.search.specs.Run.{finish, next, finished, full, Overflows}
+use Rattle.search.specs.Run.{finish, next, full, Overflows}
 use Rattle.search.proofs.Outcome.{finish-whatever-pool}
 use Rattle.orders.specs.Orders.{Node}
 use Rattle.records.specs.Records.{recordsIn}

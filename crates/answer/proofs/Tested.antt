@@ -12,10 +12,10 @@ use lib.Dec.{T, leb, eqb, leb→le, eqb→eq, eqb-refl, le→leb}
 use Rattle.lists.specs.Lists.{In}
 use Rattle.lists.proofs.Tests.{same-tests}
 use Rattle.search.specs.Problem.{Problem, Choices, State, upper}
-use Rattle.search.specs.Selection.{Choice, chosen, select, empty, finishes}
-use Rattle.search.proofs.General.{cap, pick}
+use Rattle.search.specs.Selection.{chosen, select, empty, finishes}
+use Rattle.search.proofs.General.{cap}
 use Rattle.search.proofs.Plain.{tree, planOf, cutOf}
-use Rattle.search.proofs.PlainSelection.{lateBy, rankBy, select-is-pick}
+use Rattle.search.proofs.PlainSelection.{select-is-pick}
 use Rattle.search.proofs.Optimal.{active-some, tested-within}
 use Rattle.orders.specs.Orders.{Node, size}
 use Rattle.records.specs.Records.{recordsIn}

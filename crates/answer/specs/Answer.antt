@@ -3,7 +3,7 @@
 use mathlib.Core.List.{List, [], _∷_}
 use mathlib.Core.Option.{Option, none, some}
 use Prim.Native.Nat.{ℕ, zero, suc}
-use lib.ListN.{length, replicate}
+use lib.ListN.{length}
 use Rattle.search.specs.Problem.{Problem, Choices, State, upper, start}
 use Rattle.search.specs.Run.{Outcome, finished, full, unfinished, run, Steps}
 use Rattle.orders.specs.Orders.{Node, nodes}

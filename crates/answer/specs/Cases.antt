@@ -2,8 +2,8 @@
 -- of them. (Case k, on the bounds, is in `stops`, whose definitions it tests. Our own cases, with the pool's words, are in `OwnCases`.)
 -- Every pool is dirty before the call: its words are all 7. Assumes nothing.
 use mathlib.Core.Path.{_≡_, refl}
-use mathlib.Core.Bool.{true, false}
-use mathlib.Core.List.{List, [], _∷_, _++_}
+use mathlib.Core.Bool.{false}
+use mathlib.Core.List.{List, [], _∷_}
 use Prim.Native.Nat.{ℕ, _*_}
 use lib.ListN.{replicate}
 use Rattle.search.specs.Problem.{start}

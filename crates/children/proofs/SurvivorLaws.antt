@@ -2,21 +2,19 @@
 -- all if it is off (`sifted-off`). Two passes, one over what the other left, are one by both tests (`sifted-twice`, crate `records`). So two passes by
 -- the records before i and by those behind i are one by the records without that at i (`sifted-around`), and three by the rules leave
 -- the survivors (`survivors-sifted`). Assumes nothing.
-use mathlib.Core.Path.{_≡_, refl, ap, sym, subst, _∙_}
+use mathlib.Core.Path.{_≡_, refl, sym, subst}
 use mathlib.Core.Bool.{Bool, true, false, not, _&&_, _||_}
-use mathlib.Core.List.{List, _++_}
+use mathlib.Core.List.{List}
 use Prim.Native.Nat.{ℕ, suc, _+_, _-_, _/_, _%_, _≤_, _<_}
 use native.Mathlib.Numerals.{add-one}
 use native.Mathlib.Omega.{arith}
 use borrow.Author.Tests.{eq-eqb, ne-eqb}
-use lib.Dec.{leb}
-use lib.ListN.{length, take, drop, length-take}
-use lib.Seq.{slice, take-take, drop-drop, length-take-le}
+use lib.ListN.{length, take, drop}
+use lib.Seq.{slice, take-take}
 use Rattle.lists.specs.Lists.{In, keep}
 use Rattle.lists.proofs.Keep.{keep-all, keep-keep}
 use Rattle.lists.proofs.Members.{in-keep}
 use Rattle.search.specs.Step.{on}
-use Rattle.stops.specs.Record.{recDominates}
 use Rattle.stops.specs.Stops.{aboveEveryCost}
 use Rattle.stops.specs.declared.node.Node.{Node as Record}
 use Rattle.records.specs.Passes.{Sifted, dropAt}

@@ -4,7 +4,7 @@ use mathlib.Core.Path.{_≡_, refl, subst}
 use mathlib.Core.Bool.{Bool, true, false, not, _&&_, _||_}
 use mathlib.Core.Logic.{_⊎_, inl, inr, _≢_}
 use Prim.Native.Nat.{ℕ, _≤_, _<_}
-use lib.Dec.{T, leb, ltb, eqb, leb→le, ltb→lt, nleb→lt, nltb→le, le→leb, lt→ltb, eqb→eq, eqb-refl, T-not, not-T}
+use lib.Dec.{T, leb, eqb, leb→le, ltb→lt, nleb→lt, nltb→le, le→leb, lt→ltb, eqb→eq, eqb-refl, T-not, not-T}
 
 -- `omega (arith, tests)` reads and proves T (leb a b), T (ltb a b), T (not (leb a b)), T (not (ltb a b)) and reads T (eqb a b)
 pub ruleset tests = (leb→le, ltb→lt, nleb→lt, nltb→le, le→leb, lt→ltb, eqb→eq)

@@ -8,7 +8,6 @@
 --   each k xs        one list after another, each made of an element of xs by k
 --   Distinct xs      no element stands twice
 -- Laws are in proofs/. Assumes nothing.
-use mathlib.Core.Path.{_≡_}
 use mathlib.Core.Bool.{Bool, true, false, _&&_, _||_}
 use mathlib.Core.List.{List, [], _∷_, _++_, List·Memᴰ}
 use Prim.Native.Nat.{ℕ, zero, suc, _+_, min}

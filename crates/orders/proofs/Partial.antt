@@ -7,7 +7,7 @@ use Prim.Native.Nat.{ℕ, _≤_}
 use native.Mathlib.Omega.{arith}
 use lib.Dec.{T-not, not-T}
 use lib.ListN.{length, length-append}
-use Rattle.lists.specs.Lists.{In, Distinct, none, more}
+use Rattle.lists.specs.Lists.{In, none, more}
 use Rattle.lists.proofs.Members.{in-head}
 use Rattle.lists.proofs.Empty.{no-members}
 use Rattle.lists.proofs.Distinct.{distinct-append, append-apart}

@@ -1,7 +1,6 @@
 -- Orders and nodes: document 01, "Legs and orders" and "Nodes", as far as they need no leg.
 -- A node is a partial order: the list of its stops as they are flown. The empty one, e, is [].
 -- Assumes nothing.
-use mathlib.Core.Path.{_≡_}
 use mathlib.Core.Bool.{Bool, not, _&&_}
 use mathlib.Core.List.{List, [], _∷_, _++_, map}
 use Prim.Native.Nat.{ℕ, zero, suc, _+_, _*_, _≤_}

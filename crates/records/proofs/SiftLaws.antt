@@ -3,19 +3,19 @@
 -- out (`sifted-fails`). A run that passes is moved as one (`sifted-run`), and the records behind one that is taken out move up
 -- (`taken-out`). Then laws of passes over the first records, one over what the other left (`sifted-twice`). Assumes nothing.
 use mathlib.Core.Path.{_≡_, refl, ap, sym, _∙_}
-use mathlib.Core.Bool.{Bool, true, false, not, cond, _&&_, _||_, or-true, or-false}
+use mathlib.Core.Bool.{Bool, true, false, cond, _&&_}
 use mathlib.Core.List.{List, [], _∷_, _++_, append-assoc, append-nil}
 use mathlib.Core.Logic.{⊎-elim}
-use Prim.Native.Nat.{ℕ, zero, suc, _+_, _-_, _≤_, _<_}
+use Prim.Native.Nat.{ℕ, _+_, _-_, _≤_, _<_}
 use native.Mathlib.Numerals.{add-one}
 use native.Mathlib.Nat.{add-zero}
 use native.Mathlib.Omega.{arith}
 use borrow.Author.Tests.{lt-ltb, le-ltb}
-use lib.Dec.{T, leb, ltb}
+use lib.Dec.{T, ltb}
 use lib.ListN.{length, getD, take, drop, set, length-append, length-take, length-drop, length-set}
-use lib.Seq.{slice, slice-empty, length-slice, length-take-le, take-suc, take-suc-set, take-add, take-at, drop-at, drop-append-le, drop-set-lt, drop-drop, getD-drop}
-use Rattle.lists.specs.Lists.{In, put, keep, any}
-use Rattle.lists.proofs.Keep.{keep-same, keep-all, keep-keep, any-append}
+use lib.Seq.{slice, slice-empty, length-slice, length-take-le, take-suc-set, take-add, take-at, drop-at, drop-set-lt, drop-drop, getD-drop}
+use Rattle.lists.specs.Lists.{In, put, keep}
+use Rattle.lists.proofs.Keep.{keep-same, keep-all, keep-keep}
 use Rattle.lists.proofs.Numbers.{keep-parts}
 use Rattle.lists.proofs.Tests.{ordered}
 use Rattle.stops.specs.Record.{emptyRecord}

@@ -1,8 +1,7 @@
 -- Worked examples of records and of the pool's words. Assumes nothing.
 use mathlib.Core.Path.{_≡_, refl}
-use mathlib.Core.List.{List, [], _∷_, map}
+use mathlib.Core.List.{[], _∷_, map}
 use mathlib.Core.Option.{none}
-use Prim.Native.Nat.{ℕ}
 use Rattle.lists.specs.Lists.{from}
 use Rattle.search.specs.Problem.{State}
 use Rattle.search.specs.Run.{held}

@@ -4,12 +4,12 @@
 -- them make what `sifted` and `replace` promise (`gathered-written`). Assumes nothing.
 use mathlib.Core.Path.{_≡_, ap, sym, _∙_}
 use mathlib.Core.Bool.{Bool}
-use mathlib.Core.List.{List, [], _∷_, _++_, append-assoc}
-use Prim.Native.Nat.{ℕ, zero, suc, _+_, _-_, _≤_, _<_}
-use native.Mathlib.Numerals.{add-one, unary-clauses}
+use mathlib.Core.List.{List, _++_, append-assoc}
+use Prim.Native.Nat.{ℕ, _+_, _-_, _≤_, _<_}
+use native.Mathlib.Numerals.{add-one}
 use native.Mathlib.Omega.{arith}
 use lib.ListN.{length, take, drop, length-append}
-use lib.Seq.{slice, length-slice, length-take-le, take-take, take-nil, drop-drop, paste, take-paste, drop-paste}
+use lib.Seq.{slice, length-slice, length-take-le, take-take, paste, take-paste, drop-paste}
 use Rattle.lists.specs.Lists.{keep}
 use Rattle.lists.proofs.Keep.{keep-all}
 use Rattle.lists.proofs.Numbers.{keep-parts}

@@ -2,9 +2,9 @@
 -- is free of some records if it is free of those of them that are near (`free-near`). Gathering these goes from one near record to the
 -- next (`gathered-none`, `gathered-run`, `gathered-passes`), and passes over children by what was gathered of one slice after another are
 -- one pass by the whole slice (`sifted-near`). Assumes nothing.
-use mathlib.Core.Path.{_≡_, refl, ap, sym, subst, _∙_}
+use mathlib.Core.Path.{_≡_, refl, ap, subst, _∙_}
 use mathlib.Core.Bool.{Bool, true, false, not, _&&_, _||_, and-false}
-use mathlib.Core.List.{List, [], _∷_, _++_, append-nil}
+use mathlib.Core.List.{List, [], _++_, append-nil}
 use mathlib.Core.Logic.{_⊎_, inl, inr, _≢_}
 use Prim.Native.Nat.{ℕ, _+_, _-_, _*_, _%_, _^_, _≤_, _<_}
 use native.Mathlib.Numerals.{add-one}
@@ -12,8 +12,8 @@ use native.Mathlib.Omega.{arith}
 use borrow.Author.Tests.{ne-eqb}
 use lib.Bits.{bitAnd, and-block, and-mask}
 use lib.Dec.{T, leb, eqb, eqb→eq, eqb-refl, not-T}
-use lib.ListN.{length, getD, take, drop, set, length-set}
-use lib.Seq.{slice, slice-empty, take-suc-set, take-add, drop-append-le, drop-at, length-take-le}
+use lib.ListN.{length, getD, take, set, length-set}
+use lib.Seq.{slice, slice-empty, take-suc-set}
 use Rattle.lists.specs.Lists.{In, put, keep, any}
 use Rattle.lists.proofs.Keep.{any-append}
 use Rattle.lists.proofs.Tests.{same-tests, to-false, and-left, and-right, and-both, compared}

@@ -15,7 +15,7 @@ use lib.Dec.{leb, ltb}
 use lib.ListN.{length}
 use Rattle.lists.specs.Lists.{any}
 use Rattle.search.specs.Problem.{Problem, State, upper}
-use Rattle.search.specs.Selection.{Choice, nothing, chosen, behind, empty}
+use Rattle.search.specs.Selection.{Choice, nothing, chosen, empty}
 use Rattle.search.specs.Step.{survivors, lost, learn}
 use Rattle.search.specs.Run.{withBranched}
 use Rattle.search.specs.Examples

@@ -1,14 +1,13 @@
 -- What the theory asks of a tree, a selection and a bound. Statements only. Assumes nothing.
 use mathlib.Core.Path.{_≡_}
-use mathlib.Core.Bool.{Bool, false, not}
-use mathlib.Core.List.{List, [], _∷_}
+use mathlib.Core.Bool.{false, not}
 use mathlib.Core.Logic.{_⊎_}
 use mathlib.Core.Option.{Option, none, some}
 use Prim.Native.Nat.{ℕ, suc, _+_, _≤_, _<_}
 use lib.Dec.{T}
 use Rattle.lists.specs.Lists.{In, sum}
-use Rattle.search.specs.Problem.{Problem, upper}
-use Rattle.search.proofs.General.{Tree, Plan, Cut}
+use Rattle.search.specs.Problem.{Problem}
+use Rattle.search.proofs.General.{Tree, Plan}
 
 -- y is reached from x by children
 pub data Leads {N : Type 0} (P : Problem N) : N → N → Type 0 where

@@ -5,14 +5,14 @@
 -- A tree is given by tables: the children of node i, the complete nodes, the bounds (for a complete node its cost), and which nodes
 -- dominate which. Each example says how the run ends and the state that then stands. Assumes nothing.
 use mathlib.Core.Path.{_≡_, refl}
-use mathlib.Core.Bool.{Bool, _&&_}
+use mathlib.Core.Bool.{_&&_}
 use mathlib.Core.List.{List, [], _∷_}
 use mathlib.Core.Option.{Option, none, some}
 use Prim.Native.Nat.{ℕ, _/_, _%_}
 use lib.Dec.{eqb}
 use lib.ListN.{getD}
 use Rattle.lists.specs.Lists.{any}
-use Rattle.search.specs.Problem.{Problem, Choices, State, start}
+use Rattle.search.specs.Problem.{Problem, State, start}
 use Rattle.search.specs.Selection.{selectBy, select, finishes}
 use Rattle.search.specs.Step.{children₁, best₂, over₃, children₃, rest₃, dominated₄, children₄, dominated₅, children₅, dominated₆, rest₆, active₇, step}
 use Rattle.search.specs.Run.{Outcome, finished, full, held, fitting, decide, next, run}

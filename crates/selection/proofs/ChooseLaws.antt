@@ -2,7 +2,7 @@
 -- rank and, of those of its rank, it is the earliest or the latest. The node at the place that leads is the one that `pick`, and so
 -- document 01's selection, chooses; the others are the list without it. A loop goes from each place that leads so far to the next that goes
 -- before it. Assumes nothing.
-use mathlib.Core.Path.{_≡_, refl, ap, sym, _∙_}
+use mathlib.Core.Path.{_≡_, refl, ap, _∙_}
 use mathlib.Core.Bool.{Bool, true, false, not, cond}
 use mathlib.Core.List.{List, [], _∷_, _++_}
 use mathlib.Core.Logic.{_⊎_, inl, inr, _≢_}
@@ -18,7 +18,7 @@ use borrow.Author.Tests.{
   ltb-true,
   ltb-false,
 }
-use lib.Dec.{leb, ltb, eqb}
+use lib.Dec.{ltb, eqb}
 use lib.ListN.{length, getD, take, drop, length-append}
 use lib.Seq.{getD-append-seam, getD-take, length-take-le}
 use Rattle.lists.proofs.Tests.{compared, ordered}

@@ -1,27 +1,27 @@
 -- What the pool and the counts show after a step (`stage-shown`): the active records at the front, b in front of those held at the far
 -- end, and each count as the written step has it. Assumes nothing.
-use mathlib.Core.Path.{_≡_, refl, sym, _∙_, ap, ap₂, subst}
+use mathlib.Core.Path.{_≡_, refl, sym, _∙_, ap, ap₂}
 use mathlib.Core.Bool.{Bool, true, false, cond}
 use mathlib.Core.List.{List, [], _∷_, _++_, reverse, reverse-append}
-use Prim.Native.Nat.{ℕ, zero, suc, _+_, _-_, _≤_, _<_, min, max}
+use Prim.Native.Nat.{ℕ, suc, _+_, _-_, _≤_, _<_, min, max}
 use native.Mathlib.Omega.{arith}
-use lib.Dec.{eqb, eqb→eq, eqb-refl}
+use lib.Dec.{eqb}
 use lib.ListN.{length, take, drop, set, length-append, length-reverse, length-set, length-take, length-drop, drop-of-length-le}
 use lib.Seq.{take-set-le, drop-cons, drop-set-lt, getD-set-same}
-use borrow.Author.Tests.{eq-eqb, ne-eqb}
+use borrow.Author.Tests.{ne-eqb}
 use Rattle.search.specs.Problem.{State}
 use Rattle.search.specs.Step.{on, children₁, best₂, active₇, step}
 use Rattle.stops.specs.Record.{emptyRecord}
 use Rattle.stops.specs.declared.node.Node.{Node as Record}
 use Rattle.records.specs.View.{records}
 use Rattle.records.specs.Passes.{dropAt}
-use Rattle.children.specs.OnRecords.{Table, recProblem, recChoices, childrenOf}
+use Rattle.children.specs.OnRecords.{Table, recProblem}
 use Rattle.replacement.specs.Active.{stayingOf, heldWith}
 use Rattle.step.specs.Stepping.{farOf, Ready, Shown, stepOf}
 use Rattle.children.specs.declared.best.Best.{Best}
 use Rattle.step.specs.declared.Run.{Run}
 use Rattle.step.proofs.StepLaws.{Bounded, eliminated-are}
-use Rattle.step.proofs.StepShown.{Stage, stage-active, active-number, stage-kept}
+use Rattle.step.proofs.StepShown.{Stage, stage-active, active-number}
 
 pub dropped-length : (i : ℕ) (xs : List Record) → i < length xs → length (dropAt i xs) ≡ length xs - 1
 unfolding dropAt

@@ -2,27 +2,25 @@
 -- and the one subtraction that counts the eliminated nodes is the sum over its parts.
 --   limit      the largest bound that rule 1 keeps: U, or the largest number of 32 bits where rule 1 is off
 -- Assumes nothing.
-use mathlib.Core.Path.{_≡_, refl, sym, _∙_, ap, ap₂, subst}
+use mathlib.Core.Path.{_≡_, refl, sym, _∙_, ap, ap₂}
 use mathlib.Core.Bool.{Bool, true, false, not, _&&_, _||_, cond}
 use mathlib.Core.List.{List, [], _∷_, _++_, reverse, reverse-cons, List·Memᴰ·tail}
-use mathlib.Core.Option.{Option, none, some}
-use Prim.Native.Nat.{ℕ, suc, _+_, _-_, _≤_, _<_}
+use Prim.Native.Nat.{ℕ, _+_, _-_, _≤_}
 use native.Mathlib.Omega.{arith}
 use lib.Dec.{T, leb, ltb, le→leb, not-T}
-use lib.ListN.{length, take, drop, length-append}
+use lib.ListN.{length, length-append}
 use Rattle.lists.specs.Lists.{In, keep, any, put}
-use Rattle.lists.proofs.Tests.{to-true, same-tests, tests, either}
+use Rattle.lists.proofs.Tests.{to-true, same-tests, tests}
 use Rattle.lists.proofs.Members.{in-head}
 use Rattle.lists.proofs.Keep.{keep-same, keep-keep, keep-all, any-append}
 use Rattle.lists.proofs.Numbers.{keep-parts}
 use Rattle.search.specs.Problem.{Problem, Choices, State, upper}
-use Rattle.search.specs.Step.{on, learn, children₁, best₂, over₃, children₃, rest₃, dominated₄, children₄, dominated₅, children₅, dominated₆, rest₆, active₇, step}
+use Rattle.search.specs.Step.{on, children₁, best₂, over₃, children₃, rest₃, dominated₄, children₄, dominated₅, children₅, dominated₆, rest₆, step}
 use Rattle.stops.specs.Record.{recDominates}
 use Rattle.stops.specs.Stops.{aboveEveryCost}
 use Rattle.stops.specs.declared.node.Node.{Node as Record}
 use Rattle.passes.specs.Staying.{isWithin, isStaying}
 use Rattle.rivals.specs.Rivals.{isFree}
-use Rattle.records.specs.Passes.{dropAt}
 use Rattle.children.specs.OnRecords.{Table, recProblem, recChoices, childrenOf, survivorsOf, passing}
 use Rattle.step.specs.Stepping.{farOf}
 

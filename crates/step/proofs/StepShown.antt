@@ -4,33 +4,32 @@
 --   stage-kept      the nodes to keep are as many as the code counts
 --   stage-all       where `all` says so, every active record but b stays
 -- Assumes nothing.
-use mathlib.Core.Path.{_≡_, refl, sym, _∙_, ap, ap₂, subst}
+use mathlib.Core.Path.{_≡_, sym, _∙_, ap, ap₂, subst}
 use mathlib.Core.Bool.{Bool, true, false, not, _&&_, cond}
-use mathlib.Core.List.{List, [], _∷_, _++_, reverse, List·Memᴰ·append-cases, Memᴰ·append-left, Memᴰ·append-right, List·Memᴰ·tail}
+use mathlib.Core.List.{List, [], _∷_, _++_, reverse, List·Memᴰ·append-cases, Memᴰ·append-left, Memᴰ·append-right}
 use mathlib.Core.Logic.{_⊎_, inl, inr}
 use mathlib.Core.Option.{Option, none, some}
-use Prim.Native.Nat.{ℕ, zero, suc, _+_, _-_, _^_, _≤_, _<_, max}
+use Prim.Native.Nat.{ℕ, suc, _+_, _-_, _≤_}
 use native.Mathlib.Omega.{arith}
-use lib.Dec.{T, T-not, leb, ltb, eqb, le→leb, eqb→eq}
-use lib.ListN.{length, take, drop, getD, set, length-append, length-reverse, take-append-drop}
-use Rattle.lists.specs.Lists.{In, keep, any}
+use lib.Dec.{T, leb, ltb, eqb, le→leb, eqb→eq}
+use lib.ListN.{length, take, drop, length-append, length-reverse, take-append-drop}
+use Rattle.lists.specs.Lists.{In, keep}
 use Rattle.lists.proofs.Tests.{tests, and-left, and-right, and-both}
 use Rattle.lists.proofs.Keep.{keep-all}
-use Rattle.search.specs.Problem.{Problem, State, upper}
+use Rattle.search.specs.Problem.{State, upper}
 use Rattle.search.specs.Step.{on, learn, children₁, best₂, children₅, rest₆, active₇, step}
 use Rattle.search.specs.Run.{held, withBranched}
-use Rattle.stops.specs.Record.{emptyRecord, recDominates}
 use Rattle.stops.specs.Stops.{aboveEveryCost}
 use Rattle.stops.specs.declared.node.Node.{Node as Record}
 use Rattle.records.specs.View.{records}
 use Rattle.records.specs.Passes.{dropAt}
 use Rattle.passes.specs.Staying.{isStaying}
 use Rattle.children.specs.OnRecords.{Table, recProblem, recChoices, childrenOf, survivorsOf, IsBest}
-use Rattle.replacement.specs.Active.{stayingOf, heldWith}
+use Rattle.replacement.specs.Active.{stayingOf}
 use Rattle.step.specs.Stepping.{farOf, Ready, Shown, Expansion, stepOf}
 use Rattle.children.specs.declared.best.Best.{Best}
 use Rattle.step.specs.declared.Run.{Run}
-use Rattle.step.proofs.StepLaws.{Bounded, survivors-are, staying-are, eliminated-are}
+use Rattle.step.proofs.StepLaws.{Bounded, survivors-are, staying-are}
 
 -- what the functions of a step gave, of the pool w, b at i and the run r
 pub record Stage

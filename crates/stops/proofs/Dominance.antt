@@ -1,5 +1,5 @@
 -- Laws of `recDominates`, one for each of its tests: the first that decides. Assumes nothing.
-use mathlib.Core.Path.{_≡_, refl}
+use mathlib.Core.Path.{_≡_}
 use mathlib.Core.Bool.{true, false, not}
 use Prim.Native.Nat.{_≤_, _<_}
 use lib.Dec.{eqb}

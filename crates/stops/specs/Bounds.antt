@@ -3,9 +3,8 @@ use mathlib.Core.Bool.{Bool, not, _&&_, cond}
 use mathlib.Core.List.{List, [], _∷_}
 use Prim.Native.Nat.{ℕ, zero, suc, _+_}
 use lib.Dec.{leb, eqb}
-use lib.ListN.{length}
-use Rattle.lists.specs.Lists.{keep, all, sum, least}
-use Rattle.orders.specs.Orders.{Node, set, left, size, complete}
+use Rattle.lists.specs.Lists.{keep, sum, least}
+use Rattle.orders.specs.Orders.{Node, set, left, complete}
 use Rattle.stops.specs.Legs.{Legs, path, last, cost}
 
 -- "0, plain: the path cost; for a complete node, path cost plus leg home."

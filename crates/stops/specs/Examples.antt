@@ -2,9 +2,8 @@
 -- the definitions, and the laws name this module so that it is checked before them: a wrong definition is met here first. Assumes nothing.
 use mathlib.Core.Path.{_≡_, refl}
 use mathlib.Core.Bool.{true, false}
-use mathlib.Core.List.{List, [], _∷_, map}
-use Prim.Native.Nat.{ℕ}
-use Rattle.orders.specs.Orders.{Node, flown, set, left, size, complete, children, level, orders}
+use mathlib.Core.List.{[], _∷_, map}
+use Rattle.orders.specs.Orders.{flown, set, left, size, complete, children, level, orders}
 use Rattle.stops.specs.Legs.{Legs, entry, rows, rowLeg, legs, path, last, cost}
 use Rattle.stops.specs.Bounds.{plain, cheapestInto, remainder, close, dominates}
 

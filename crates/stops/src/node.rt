@@ -1,6 +1,6 @@
 // A node as the six numbers of its record. A host that holds records has them in this layout: six 32-bit numbers in a row.
 ghost use mathlib.Core.Path.{_≡_};
-ghost use Prim.Native.Nat.{_+_, _-_, _^_, _≤_, _<_};
+ghost use Prim.Native.Nat.{_+_, _-_, _<_};
 ghost use Rattle.stops.specs.Record.{Wide, extended, lastStop, emptyRecord, recDominates};
 
 #[repr(C)]

@@ -1,11 +1,9 @@
 -- `sift` meets its contract. The loop's invariant is `Sifted` itself, up to i. Assumes nothing.
 use mathlib.Core.Path.{_≡_, refl}
-use mathlib.Core.Bool.{false}
-use Prim.Native.Nat.{_+_, _-_, _≤_, _<_}
+use Prim.Native.Nat.{_-_, _≤_}
 use native.Mathlib.Omega.{arith}
 use borrow.Author.Needs.{needs}
-use lib.ListN.{length, getD, take}
-use Rattle.stops.specs.Record.{emptyRecord}
+use lib.ListN.{length, take}
 use Rattle.records.specs.View.{records}
 use Rattle.records.specs.Passes.{Sifted}
 use Rattle.passes.specs.Staying.{isStaying}

@@ -1,5 +1,5 @@
 -- `unbeaten` meets its contract. The loop's invariant: none of the first k kids dominates x. Assumes nothing.
-use mathlib.Core.Path.{_≡_, refl, sym}
+use mathlib.Core.Path.{_≡_, refl}
 use mathlib.Core.Bool.{false}
 use Prim.Native.Nat.{_-_, _≤_}
 use native.Mathlib.Omega.{arith}

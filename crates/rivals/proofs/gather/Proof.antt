@@ -1,7 +1,7 @@
 -- `gather` meets its contract. The loop's invariant is `Gathering` up to i, with room for one more, and the record at i is near. Assumes
 -- nothing.
-use mathlib.Core.Path.{_≡_, refl, sym, ap, _∙_}
-use mathlib.Core.Bool.{true, false}
+use mathlib.Core.Path.{_≡_, refl}
+use mathlib.Core.Bool.{true}
 use Prim.Native.Nat.{_+_, _-_, _≤_, _<_}
 use native.Mathlib.Omega.{arith}
 use borrow.Author.Needs.{needs}
@@ -9,7 +9,6 @@ use lib.ListN.{length, getD}
 use Rattle.stops.specs.Record.{emptyRecord}
 use Rattle.records.specs.View.{records}
 use Rattle.rivals.specs.Rivals.{Gathering, near}
-use Rattle.records.specs.Passes.{RunsTo}
 use Rattle.records.proofs.ViewLaws.{length-records}
 use Rattle.rivals.proofs.RivalLaws.{gathered-none, gathered-run, gathered-passes}
 use Rattle.rivals.proofs.gather.Statement.{statement}

@@ -1,6 +1,6 @@
 -- `four_below` meets its contract: the first record that is below the limit decides, else the last one. Assumes nothing.
-use mathlib.Core.Path.{_≡_, _∙_}
-use Prim.Native.Nat.{ℕ, _+_}
+use mathlib.Core.Path.{_∙_}
+use Prim.Native.Nat.{_+_}
 use native.Mathlib.Omega.{arith}
 use Rattle.stops.specs.Record.{emptyRecord}
 use Rattle.records.specs.View.{records}

@@ -1,7 +1,7 @@
 -- `least_bound` meets its contract. The loop's invariant: of the first i records, `best` is the one that the side picks, and the record at
 -- i, if there is one, goes before it. Assumes nothing.
 use mathlib.Core.Path.{_≡_}
-use Prim.Native.Nat.{_+_, _*_, _-_, _≤_, _<_}
+use Prim.Native.Nat.{_+_, _-_, _≤_, _<_}
 use native.Mathlib.Omega.{arith}
 use borrow.Author.Needs.{needs}
 use Rattle.records.specs.View.{records}

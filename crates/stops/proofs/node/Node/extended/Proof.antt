@@ -1,5 +1,5 @@
 -- `Node::extended` meets its contract: the shifts put one bit into the set and one digit into the order (`Digits`). Assumes nothing.
-use mathlib.Core.Path.{_≡_, refl}
+use mathlib.Core.Path.{refl}
 use native.Mathlib.Omega.{arith}
 use borrow.Author.Needs.{needs}
 use borrow.Author.Tests.{lt-ltb, le-ltb}
