@@ -3,8 +3,9 @@
 //! `cargo run --release -p bench [tables] [seconds] [R, P or Q]`: tables a row
 //! (default 5), how long the peer may take for one (default 10; those over it
 //! are left out and counted), and the job to run alone (default all three).
-//! Each table is planned three times by each of the two in turn, and the least
-//! time counts, so that what else the machine does shows little.
+//! Each table is planned three times by each of the two in turn, thirty times
+//! where that is short, and the least time counts, so that what else the machine
+//! does shows little.
 
 mod peer;
 mod tables;
@@ -26,6 +27,8 @@ const KINDS: [Kind; 3] = [
 ];
 
 const RUNS: usize = 3;
+const SHORT_RUNS: usize = 30;
+const SHORT: Duration = Duration::from_millis(20);
 
 fn main() {
     let mut words = std::env::args().skip(1);
@@ -70,7 +73,7 @@ fn row(wind: &str, n: usize, kind: &Kind, tables: u64, seconds: u64, pool: &mut 
 fn least_times(n: usize, table: &[u32], kind: &Kind, start: &[u8], seconds: u64, pool: &mut [Record]) -> Option<(Found, (Duration, Duration))> {
     let (found, mut theirs) = time_peer(n, table, kind, start, seconds, pool)?;
     let mut ours = time_ours(n, table, kind, start, &found, pool);
-    for _ in 1..RUNS {
+    for _ in 1..if theirs < SHORT { SHORT_RUNS } else { RUNS } {
         if let Some((_, again)) = time_peer(n, table, kind, start, seconds, pool) {
             theirs = theirs.min(again);
         }
