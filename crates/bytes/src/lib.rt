@@ -1,5 +1,5 @@
 // Bytes read and written: numbers of 32 bits, least byte first, and runs of bytes, as crate `job_format` says (specs/Bytes). The functions
-// are public for the crate above and not for hosts; what they require, that crate meets.
+// are public for the crates above and not for hosts; what they require, those crates meet.
 ghost use mathlib.Core.Path.{_≡_};
 ghost use Prim.Native.Nat.{_+_, _≤_, _<_};
 ghost use lib.ListN.{length};

@@ -1,6 +1,5 @@
--- The stops of a table as a problem on records, and what the functions of this crate compute. `proofs/`
--- shows that it is the problem of crate `stops`, node by node. These definitions are the code's own: a reader of the promise needs none
--- of them.
+-- The stops of a table as a problem on records, and what the functions of this crate compute. `proofs/` shows that it is the problem of
+-- crate `stops`, node by node. These definitions are the code's own: a reader of the promise needs none of them.
 --   Rows             the table's rows, as a run has them
 --   childrenOf       the children of a record, in ascending stop order
 --   recProblem       the problem of a table on records; recChoices: a caller's choices on them

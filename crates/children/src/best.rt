@@ -15,6 +15,7 @@ ghost use Rattle.answer.specs.Answer.{given};
 ghost use Rattle.children.specs.OnRecords.{Table, IsBest, recProblem, Rows};
 use records::load;
 use stops::node::Node;
+use stops::table::leg;
 
 // The cost of the best order known, and its two words; the largest number and zeros if none is known.
 pub struct Best {
@@ -71,16 +72,16 @@ pub fn started(t: [[u32; 17]; 17], n: u32, start: &[u8]) -> Best
         };
     }
     let mut x = Node::empty();
-    let mut place = 0usize;
+    let mut place = 0;
     let mut k = 0;
     while k < start.len() {
-        let s = start[k];
-        x = x.extended(s as u32, t[place][s as usize]);
-        place = s as usize;
+        let s = start[k] as u32;
+        x = x.extended(s, leg(&t, place, s));
+        place = s;
         k += 1;
     }
     Best {
-        upper: x.path + t[place][0],
+        upper: x.path + leg(&t, place, 0),
         first: x.first,
         second: x.second,
     }

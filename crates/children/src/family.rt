@@ -12,13 +12,14 @@ use stops::bound::later;
 use stops::bound::next;
 use stops::bound::without;
 use stops::node::Node;
+use stops::table::leg;
 
 // b extended by stop s, with its bound; place is b's last stop and rest the stops that b leaves.
 fn child(t: &[[u32; 17]; 17], n: u32, number: u32, b: Node, place: u32, rest: u32, s: u32) -> Node
     requires { ⌜ Rows n (now t) number × (Encoded n (now t) number b × ((place ≡ lastStop b) × ((rest ≡ restOf n b) × In s (stopsIn rest)))) ⌝ }
     ensures { λ r. ⌜ r ≡ childOf n (now (t .entry)) number b s ⌝ }
 {
-    let mut x = b.extended(s, t[place as usize][s as usize]);
+    let mut x = b.extended(s, leg(t, place, s));
     x.bound = x.path + ahead(t, number, s, without(rest, s));
     x
 }

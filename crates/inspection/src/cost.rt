@@ -16,6 +16,7 @@ use checks::job_cause;
 use node_answers::Figures;
 use records::order::stop_at;
 use stops::bound::ahead;
+use stops::table::leg;
 use stops::table::rows;
 
 // Where a path stands: what it cost, and its last place.
@@ -34,7 +35,7 @@ fn along(t: &[[u32; 17]; 17], size: u32, first: u32, second: u32) -> Walked
     let mut k = 0;
     while k < size {
         let s = stop_at(first, second, k);
-        path += t[place as usize][s as usize];
+        path += leg(t, place, s);
         place = s;
         k += 1;
     }

@@ -1,6 +1,6 @@
-// Job files: `read` and `write` are open to a caller; every other function is private, and what it requires its
-// callers meet. What `read` answers for every string of bytes, and what `write` does for every job and buffer, crate `job_format` says
-// (specs/Reader and specs/Writer).
+// Job files: `read` and `write` are open to a caller; every other function is private, and what it requires its callers meet. What `read`
+// answers for every string of bytes, and what `write` does for every job and buffer, crate `job_format` says (specs/Reader and
+// specs/Writer).
 pub mod reader;
 pub mod writer;
 

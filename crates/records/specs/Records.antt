@@ -33,10 +33,11 @@ unfoldable pub record-of : ℕ → Legs → ℕ → Node → List ℕ
 record-of n L bound x =
     size n x ∷ mask (set n x) ∷ path L x ∷ boundBy bound n L x ∷ orderWord (take 8 x) ∷ orderWord (drop 8 x) ∷ []
 
--- "the active nodes, earliest first; then, with rule 4, the branched nodes, earliest branched first; zeros behind", in a pool of some length
+-- some words, and zeros behind, up to a length
 unfoldable pub padded : ℕ → List ℕ → List ℕ
 padded len words = words ++ replicate (len - length words) 0
 
+-- "the active nodes, earliest first; then, with rule 4, the branched nodes, earliest branched first; zeros behind", in a pool of some length
 unfoldable pub poolWords : ℕ → Legs → ℕ → ℕ → ℕ → State Node → List ℕ
 poolWords n L bound rules len s = padded len (each (record-of n L bound) (held rules s))
 

@@ -7,6 +7,7 @@ ghost use Rattle.lists.specs.Lists.{In, least};
 ghost use Rattle.stops.specs.Legs.{rowLeg, legs};
 ghost use Rattle.stops.specs.Bounds.{remainder};
 ghost use Rattle.stops.specs.Record.{stopsIn, ahead, Within};
+use crate::table::leg;
 
 fn lesser(a: u32, b: u32) -> u32
     ensures { λ r. ⌜ r ≡ min a b ⌝ }
@@ -36,14 +37,6 @@ pub fn without(set: u32, stop: u32) -> u32
     ensures { λ r. ⌜ r ≡ set - 2 ^ (stop - 1) ⌝ }
 {
     set - (1u32 << (stop - 1))
-}
-
-// The leg from one place to another.
-fn leg(t: &[[u32; 17]; 17], from: u32, to: u32) -> u32
-    requires { ⌜ (from ≤ 16) × (to ≤ 16) ⌝ }
-    ensures { λ r. ⌜ r ≡ rowLeg (now (t .entry)) from to ⌝ }
-{
-    t[from as usize][to as usize]
 }
 
 // The cheapest leg into s from a place or one of some other stops.

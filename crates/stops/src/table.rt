@@ -5,7 +5,7 @@ ghost use Prim.Native.Nat.{suc, _+_, _*_, _≤_, _<_};
 ghost use lib.Dec.{ltb, eqb};
 ghost use lib.ListN.{length};
 ghost use Rattle.lists.specs.Lists.{any, from};
-ghost use Rattle.stops.specs.Legs.{entry, rows};
+ghost use Rattle.stops.specs.Legs.{entry, rows, rowLeg};
 ghost use Rattle.stops.specs.Record.{rowOf};
 
 // Whether no number is above 1,000,000.
@@ -64,4 +64,12 @@ pub fn rows(n: usize, table: &[u32]) -> [[u32; 17]; 17]
         i += 1;
     }
     t
+}
+
+// The leg from one place to another.
+pub fn leg(t: &[[u32; 17]; 17], from: u32, to: u32) -> u32
+    requires { ⌜ (from ≤ 16) × (to ≤ 16) ⌝ }
+    ensures { λ r. ⌜ r ≡ rowLeg (now (t .entry)) from to ⌝ }
+{
+    t[from as usize][to as usize]
 }

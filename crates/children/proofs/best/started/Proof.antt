@@ -6,7 +6,7 @@ use borrow.Author.Needs.{needs}
 use lib.ListN.{length, getD}
 use denote.Ref.{now}
 use Rattle.orders.specs.Orders.{Order}
-use Rattle.stops.specs.Legs.{rowLeg, legs}
+use Rattle.stops.specs.Legs.{legs}
 use Rattle.records.specs.View.{encode}
 use Rattle.children.specs.OnRecords.{Rows}
 use Rattle.children.proofs.BestLaws.{empty-best, Flown, flown-none, flown-more, flown-wide, flown-room, flown-best, next-near, order-given}
@@ -42,32 +42,16 @@ loop-holds c = let a = c .before .before .before .args in flown-none (a .n) (a .
 shared-slice-read-s : tie.Need-shared-slice-read-s Inv-loop μ-loop
 shared-slice-read-s c = omega arith
 
-cast-extended : tie.Need-cast-extended Inv-loop μ-loop
-cast-extended c = omega (arith, near (c .before))
+cast-s : tie.Need-cast-s Inv-loop μ-loop
+cast-s c = omega (arith, near (c .before))
 
-cast-extended-2 : tie.Need-cast-extended-2 Inv-loop μ-loop
-cast-extended-2 c = omega (arith, near (c .before))
-
-mul-extended : tie.Need-mul-extended Inv-loop μ-loop
-mul-extended c = omega arith
-
-mul-extended-2 : tie.Need-mul-extended-2 Inv-loop μ-loop
-mul-extended-2 c = omega (arith, near (c .before))
-
-index-1-extended : tie.Need-index-1-extended Inv-loop μ-loop
-index-1-extended c = omega arith
-
-index-2-extended : tie.Need-index-2-extended Inv-loop μ-loop
-index-2-extended c = omega (arith, near (c .before))
+leg-requires : tie.Need-leg-requires Inv-loop μ-loop
+leg-requires c κs = (omega arith, near (c .before .before))
 
 extended-requires : tie.Need-extended-requires Inv-loop μ-loop
-unfolding rowLeg
 extended-requires c κs =
-    let i = c .before .before in
-    flown-wide _ (rows (i .before)) (order (i .before)) (i .before .loop .inv) (i .loop-test .taken)
-
-cast-place : tie.Need-cast-place Inv-loop μ-loop
-cast-place c = omega (arith, near (c .before .before .before))
+    let i = c .before .before .before in
+    rw (c .leg .ensures) (flown-wide _ (rows (i .before)) (order (i .before)) (i .before .loop .inv) (i .loop-test .taken))
 
 add-k : tie.Need-add-k Inv-loop μ-loop
 add-k c = omega arith
@@ -76,29 +60,23 @@ loop-less : tie.Need-loop-less Inv-loop μ-loop
 loop-less c = omega arith
 
 loop-again : tie.Need-loop-again Inv-loop μ-loop
-unfolding rowLeg
 loop-again c =
-    let i = c .before .before .before in
-    rw (c .extended .ensures) (flown-more _ (rows (i .before)) (order (i .before)) (i .before .loop .inv) (i .loop-test .taken))
+    let i = c .before .before .before .before in
+    rw (c .extended .ensures, c .before .leg .ensures)
+    (flown-more _ (rows (i .before)) (order (i .before)) (i .before .loop .inv) (i .loop-test .taken))
 
-mul-t9 : tie.Need-mul-t9 Inv-loop μ-loop
-mul-t9 c = omega arith
+leg-requires-2 : tie.Need-leg-requires-2 Inv-loop μ-loop
+leg-requires-2 c κs = omega arith
 
-index-1-t27 : tie.Need-index-1-t27 Inv-loop μ-loop
-index-1-t27 c = omega arith
-
-index-2-t27 : tie.Need-index-2-t27 Inv-loop μ-loop
-index-2-t27 c = omega arith
-
-add-t28 : tie.Need-add-t28 Inv-loop μ-loop
-unfolding rowLeg
-add-t28 c =
-    let l = c .before .before .before in record { fits = flown-room _ (rows l) (order l) (l .loop .inv) 0 }
+add-t19 : tie.Need-add-t19 Inv-loop μ-loop
+add-t19 c =
+    let l = c .before .before .before .before in
+    record { fits = rw (c .before .leg2 .ensures) (flown-room _ (rows l) (order l) (l .loop .inv) 0) }
 
 returns-2 : tie.Need-returns-2 Inv-loop μ-loop
-unfolding rowLeg
 returns-2 c =
-    let l = c .before .before .before in flown-best _ (rows l) (order l) (l .loop .inv) (c .before .before .loop-test .left)
+    let l = c .before .before .before .before in
+    rw (c .before .leg2 .ensures) (flown-best _ (rows l) (order l) (l .loop .inv) (c .before .before .before .loop-test .left))
 
 pub started-spec : {M : Type 1} → statement M
 started-spec =
@@ -110,19 +88,12 @@ started-spec =
     empty-requires
     loop-holds
     shared-slice-read-s
-    cast-extended
-    cast-extended-2
-    mul-extended
-    mul-extended-2
-    index-1-extended
-    index-2-extended
+    cast-s
+    leg-requires
     extended-requires
-    cast-place
     add-k
     loop-less
     loop-again
-    mul-t9
-    index-1-t27
-    index-2-t27
-    add-t28
+    leg-requires-2
+    add-t19
     returns-2)

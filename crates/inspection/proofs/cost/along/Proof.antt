@@ -3,7 +3,7 @@
 use Prim.Native.Nat.{_-_}
 use mathlib.Core.Path.{sym, _∙_}
 use native.Mathlib.Omega.{arith}
-use Rattle.stops.specs.Legs.{rowLeg, legs}
+use Rattle.stops.specs.Legs.{legs}
 use Rattle.inspection.specs.Numbers.{ofNumbers}
 use Rattle.inspection.proofs.OrderLaws.{stop-same, size-same}
 use Rattle.inspection.proofs.PathLaws.{Along, along-starts, along-small, along-fits, along-more, along-ends}
@@ -22,29 +22,15 @@ loop-holds c = along-starts (sym (size-same (c .args .size) 0 (c .args .first) (
 stop-at-requires : tie.Need-stop-at-requires Inv-loop μ-loop
 stop-at-requires c κs = omega arith
 
-cast-path : tie.Need-cast-path Inv-loop μ-loop
-cast-path c = omega arith
-
-cast-path-2 : tie.Need-cast-path-2 Inv-loop μ-loop
-cast-path-2 c = omega arith
-
-mul-path : tie.Need-mul-path Inv-loop μ-loop
-mul-path c = omega arith
-
-mul-path-2 : tie.Need-mul-path-2 Inv-loop μ-loop
-mul-path-2 c = omega arith
-
-index-1-path : tie.Need-index-1-path Inv-loop μ-loop
-index-1-path c = omega arith
-
-index-2-path : tie.Need-index-2-path Inv-loop μ-loop
-index-2-path c = omega arith
-
 add-path : tie.Need-add-path Inv-loop μ-loop
-unfolding legs rowLeg
+unfolding legs
 add-path c =
     let s = c .before .before .before in
-    record { fits = along-fits (s .loop .inv) (s .before .pre .1) (c .before .before .loop-test .taken) (c .before .stop-at .result) }
+    record {
+      fits =
+          rw (c .leg .ensures)
+          (along-fits (s .loop .inv) (s .before .pre .1) (c .before .before .loop-test .taken) (c .before .stop-at .result));
+    }
 
 add-k : tie.Need-add-k Inv-loop μ-loop
 add-k c = omega arith
@@ -53,12 +39,13 @@ loop-less : tie.Need-loop-less Inv-loop μ-loop
 loop-less c = omega arith
 
 loop-again : tie.Need-loop-again Inv-loop μ-loop
-unfolding legs rowLeg
+unfolding legs
 loop-again c =
     let s = c .before .before .before in
     let a = s .before .args in
-    along-more (s .loop .inv) (c .before .before .loop-test .taken) (c .before .stop-at .ensures .0 ∙ stop-same (a .size) 0 (a .first)
-    (a .second) (s .loop .k))
+    rw (c .leg .ensures)
+    (along-more (s .loop .inv) (c .before .before .loop-test .taken)
+    (c .before .stop-at .ensures .0 ∙ stop-same (a .size) 0 (a .first) (a .second) (s .loop .k)))
 
 returns : tie.Need-returns Inv-loop μ-loop
 returns c =
@@ -74,12 +61,7 @@ along-spec =
     μ-loop
     loop-holds
     stop-at-requires
-    cast-path
-    cast-path-2
-    mul-path
-    mul-path-2
-    index-1-path
-    index-2-path
+    (λ c κs. omega arith)
     add-path
     add-k
     loop-less
