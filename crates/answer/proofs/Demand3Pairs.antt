@@ -27,7 +27,8 @@ use Rattle.stops.specs.Stops.{problem, choices}
 use Rattle.stops.proofs.Bounds.{bound-closer}
 use Rattle.stops.proofs.Instance.{order-below}
 use Rattle.records.specs.Records.{recordsIn}
-use Rattle.answer.specs.Call.{Call, Report, Answer}
+use Rattle.answer.specs.Call.{Call, Answer}
+use Rattle.answer.specs.declared.Report.{Report}
 use Rattle.answer.specs.Checks.{cause}
 use Rattle.answer.specs.Answer.{legsOf, problemOf, choicesOf, given, outcome, reportWith, ending, respond, answer}
 use Rattle.answer.proofs.Passes.{Passes, passes}
@@ -37,26 +38,31 @@ use Rattle.answer.proofs.Ending.{Finished, number-0}
 -- A stands to B as the letter asks.
 pub record Favours (a b : Call) : Type 0 where
   -- over one table
-  pub n : a .n ≡ b .n
+  pub n : a .job .n ≡ b .job .n
   pub table : a .table ≡ b .table
   -- share selection and dominance rules
-  pub selection : a .selection ≡ b .selection
-  pub rule-2 : on 2 (a .rules) ≡ on 2 (b .rules)
-  pub rule-4 : on 4 (a .rules) ≡ on 4 (b .rules)
-  pub rule-8 : on 8 (a .rules) ≡ on 8 (b .rules)
+  pub selection : a .job .selection ≡ b .job .selection
+  pub rule-2 : on 2 (a .job .rules) ≡ on 2 (b .job .rules)
+  pub rule-4 : on 4 (a .job .rules) ≡ on 4 (b .job .rules)
+  pub rule-8 : on 8 (a .job .rules) ≡ on 8 (b .job .rules)
   -- A uses the upper-cost rule if B does
-  pub rule-1 : T (on 1 (b .rules)) → T (on 1 (a .rules))
+  pub rule-1 : T (on 1 (b .job .rules)) → T (on 1 (a .job .rules))
   -- A starts from an order no dearer than B's, or B has none
   pub start : (b .start ≡ []) ⊎ ((a .start ≡ [] → ⊥) × (cost (legsOf a) (a .start) ≤ cost (legsOf a) (b .start)))
   -- A uses B's bound or, under FIFO and LIFO only, one at least as close: close (1) is at least as close as plain (0)
-  pub bound : (a .bound ≡ b .bound) ⊎ ((2 ≤ a .selection) × (b .bound ≤ a .bound))
+  pub bound : (a .job .bound ≡ b .job .bound) ⊎ ((2 ≤ a .job .selection) × (b .job .bound ≤ a .job .bound))
   -- A's pool is at least as large
   pub pool : length (b .pool) ≤ length (a .pool)
 
 -- B over A's own n, table and selection
 abbrev alongside : Call → ℕ → ℕ → List ℕ → List ℕ → Call
 alongside a rules bound start pool =
-    record { n = a .n; table = a .table; selection = a .selection; rules = rules; bound = bound; start = start; pool = pool }
+    record {
+      job = record { n = a .job .n; selection = a .job .selection; rules = rules; bound = bound };
+      table = a .table;
+      start = start;
+      pool = pool;
+    }
 
 -- the rank of a node under FIFO and LIFO does not look at its bound
 same-rank : (P : Problem Node) (f g : Node → ℕ) (k : ℕ) → 2 ≤ k → rankBy P f k ≡ rankBy P g k
@@ -67,32 +73,32 @@ same-rank P f g (suc (suc (suc k))) h = refl
 
 module _ (a : Call) (ok : Passes a) (rules bound : ℕ) (first pool : List ℕ) (favours : Favours a (alongside a rules bound first pool)) where
   -- the bound numbers are those of the checks: B's is at most A's
-  bound-below : bound ≤ a .bound
+  bound-below : bound ≤ a .job .bound
   bound-below = go (favours .bound)
     where
-      go : (a .bound ≡ bound) ⊎ ((2 ≤ a .selection) × (bound ≤ a .bound)) → bound ≤ a .bound
+      go : (a .job .bound ≡ bound) ⊎ ((2 ≤ a .job .selection) × (bound ≤ a .job .bound)) → bound ≤ a .job .bound
       go (inl e) = omega arith
       go (inr h) = h .1
 
   one-rank :
-      rankBy (problemOf a) (boundBy bound (a .n) (legsOf a)) (a .selection)
-      ≡ rankBy (problemOf a) (boundBy (a .bound) (a .n) (legsOf a)) (a .selection)
+      rankBy (problemOf a) (boundBy bound (a .job .n) (legsOf a)) (a .job .selection)
+      ≡ rankBy (problemOf a) (boundBy (a .job .bound) (a .job .n) (legsOf a)) (a .job .selection)
   one-rank = go (favours .bound)
     where
       go :
-          (a .bound ≡ bound) ⊎ ((2 ≤ a .selection) × (bound ≤ a .bound))
-          → rankBy (problemOf a) (boundBy bound (a .n) (legsOf a)) (a .selection)
-          ≡ rankBy (problemOf a) (boundBy (a .bound) (a .n) (legsOf a)) (a .selection)
-      go (inl e) = ap (λ (k : ℕ). rankBy (problemOf a) (boundBy k (a .n) (legsOf a)) (a .selection)) (sym e)
-      go (inr h) = same-rank (problemOf a) (boundBy bound (a .n) (legsOf a)) (boundBy (a .bound) (a .n) (legsOf a)) (a .selection) (h .0)
+          (a .job .bound ≡ bound) ⊎ ((2 ≤ a .job .selection) × (bound ≤ a .job .bound))
+          → rankBy (problemOf a) (boundBy bound (a .job .n) (legsOf a)) (a .job .selection)
+          ≡ rankBy (problemOf a) (boundBy (a .job .bound) (a .job .n) (legsOf a)) (a .job .selection)
+      go (inl e) = ap (λ (k : ℕ). rankBy (problemOf a) (boundBy k (a .job .n) (legsOf a)) (a .job .selection)) (sym e)
+      go (inr h) = same-rank (problemOf a) (boundBy bound (a .job .n) (legsOf a)) (boundBy (a .job .bound) (a .job .n) (legsOf a)) (a .job .selection) (h .0)
 
   -- both runs share the plan: ranks and dominance rules agree
   one-plan : planOf (problemOf a) (choicesOf (alongside a rules bound first pool)) ≡ planOf (problemOf a) (choicesOf a)
   unfolding choicesOf choices legsOf
   one-plan = λ i. record {
-    late = lateBy (a .selection);
+    late = lateBy (a .job .selection);
     rank = one-rank i;
-    lone = eqb (a .selection) 2 || eqb (a .selection) 3;
+    lone = eqb (a .job .selection) 2 || eqb (a .job .selection) 3;
     early = true;
     rule2 = sym (favours .rule-2) i;
     rule4 = sym (favours .rule-4) i;
@@ -102,7 +108,7 @@ module _ (a : Call) (ok : Passes a) (rules bound : ℕ) (first pool : List ℕ) 
   closer : Closer (cutOf (choicesOf a)) (cutOf (choicesOf (alongside a rules bound first pool)))
   unfolding choicesOf choices legsOf
   closer = record {
-    closer = bound-closer bound (a .bound) bound-below (ok .bound) (a .n) (legsOf a);
+    closer = bound-closer bound (a .job .bound) bound-below (ok .bound) (a .job .n) (legsOf a);
     stricter = favours .rule-1;
     longer = λ j k h t. tt;
   }
@@ -112,13 +118,13 @@ module _ (a : Call) (ok : Passes a) (rules bound : ℕ) (first pool : List ℕ) 
   unfolding problemOf problem
   lower-start = go (a .start) first (ok .start) (favours .start)
     where
-      below : (x : Node) → (x ≡ []) ⊎ Order (a .n) x → upper (problemOf a) (given x) ≤ problemOf a .above
+      below : (x : Node) → (x ≡ []) ⊎ Order (a .job .n) x → upper (problemOf a) (given x) ≤ problemOf a .above
       below [] o = omega arith
       below (s ∷ x) (inl e) = absurd (let z : _≡_ {A = ℕ} 0 1 = cc in omega arith)
-      below (s ∷ x) (inr o) = omega (arith, order-below (a .n) (ok .few) (legsOf a) (legs-small a ok) (s ∷ x) o)
+      below (s ∷ x) (inr o) = omega (arith, order-below (a .job .n) (ok .few) (legsOf a) (legs-small a ok) (s ∷ x) o)
 
       go :
-          (x y : Node) → (x ≡ []) ⊎ Order (a .n) x → (y ≡ []) ⊎ ((x ≡ [] → ⊥) × (cost (legsOf a) x ≤ cost (legsOf a) y))
+          (x y : Node) → (x ≡ []) ⊎ Order (a .job .n) x → (y ≡ []) ⊎ ((x ≡ [] → ⊥) × (cost (legsOf a) x ≤ cost (legsOf a) y))
           → upper (problemOf a) (given x) ≤ upper (problemOf a) (given y)
       go x [] o h = below x o
       go x (r ∷ y) o (inl e) = absurd (let z : _≡_ {A = ℕ} 0 1 = cc in omega arith)
@@ -140,17 +146,17 @@ module _ (a : Call) (ok : Passes a) (rules bound : ℕ) (first pool : List ℕ) 
   other-done :
       (e : State Node) → outcome (alongside a rules bound first pool) ≡ finished e
       → search (tree (problemOf a)) (planOf (problemOf a) (choicesOf a)) (cutOf (choicesOf (alongside a rules bound first pool))) (recordsIn pool)
-      (suc (nodes (a .n))) (start (problemOf a) (given first))
+      (suc (nodes (a .job .n))) (start (problemOf a) (given first))
       ≡ done e
   unfolding outcome problemOf choicesOf choices legsOf
   other-done e h =
       subst
       (λ (p : Plan Node).
-      search (tree (problemOf a)) p (cutOf (choicesOf (alongside a rules bound first pool))) (recordsIn pool) (suc (nodes (a .n)))
+      search (tree (problemOf a)) p (cutOf (choicesOf (alongside a rules bound first pool))) (recordsIn pool) (suc (nodes (a .job .n)))
       (start (problemOf a) (given first))
       ≡ done e)
       one-plan
-      (finished-iff-done (problemOf a) (choicesOf (alongside a rules bound first pool)) (recordsIn pool) (ok .selection) (suc (nodes (a .n)))
+      (finished-iff-done (problemOf a) (choicesOf (alongside a rules bound first pool)) (recordsIn pool) (ok .selection) (suc (nodes (a .job .n)))
       (start (problemOf a) (given first)) e .0 h)
 
   -- so A's run is finished too, with no higher counts
@@ -162,11 +168,11 @@ module _ (a : Call) (ok : Passes a) (rules bound : ℕ) (first pool : List ℕ) 
   beside-finishes e h =
       let (d, ran, branched, generated, most) =
       compare-runs (tree (problemOf a)) (planOf (problemOf a) (choicesOf a)) (cutOf (choicesOf a))
-      (cutOf (choicesOf (alongside a rules bound first pool))) (size (a .n)) (a .n) (call-lawful a ok) (adds (problemOf a)) (bound-laws a ok)
+      (cutOf (choicesOf (alongside a rules bound first pool))) (size (a .job .n)) (a .job .n) (call-lawful a ok) (adds (problemOf a)) (bound-laws a ok)
       (call-manner a ok) closer (recordsIn (a .pool)) (recordsIn pool) more-records (given (a .start)) (given first) lower-start root-within
-      (suc (nodes (a .n))) e (other-done e h) in (
+      (suc (nodes (a .job .n))) e (other-done e h) in (
         d,
-        finished-iff-done (problemOf a) (choicesOf a) (recordsIn (a .pool)) (selection-small a ok) (suc (nodes (a .n)))
+        finished-iff-done (problemOf a) (choicesOf a) (recordsIn (a .pool)) (selection-small a ok) (suc (nodes (a .job .n)))
             (start (problemOf a) (given (a .start))) d .1 ran,
         branched,
         generated,
@@ -174,13 +180,10 @@ module _ (a : Call) (ok : Passes a) (rules bound : ℕ) (first pool : List ℕ) 
       )
 
 -- B is the call alongside A that has its rules, bound, starting order and pool.
-same-call : (a b : Call) → Favours a b → b ≡ alongside a (b .rules) (b .bound) (b .start) (b .pool)
+same-call : (a b : Call) → Favours a b → b ≡ alongside a (b .job .rules) (b .job .bound) (b .start) (b .pool)
 same-call a b f = λ i. record {
-  n = sym (f .n) i;
+  job = record { n = sym (f .n) i; selection = sym (f .selection) i; rules = b .job .rules; bound = b .job .bound };
   table = sym (f .table) i;
-  selection = sym (f .selection) i;
-  rules = b .rules;
-  bound = b .bound;
   start = b .start;
   pool = b .pool;
 }
@@ -197,9 +200,9 @@ pub favoured-finishes :
 unfolding answer respond ending reportWith
 favoured-finishes a b f passed h =
     let fb : Finished b = number-0 b h in
-    let e : b ≡ alongside a (b .rules) (b .bound) (b .start) (b .pool) = same-call a b f in
+    let e : b ≡ alongside a (b .job .rules) (b .job .bound) (b .start) (b .pool) = same-call a b f in
     let (d, ran, branched, generated, most) =
-    beside-finishes a (passes a passed) (b .rules) (b .bound) (b .start) (b .pool) (subst (Favours a) e f) (fb .state)
+    beside-finishes a (passes a passed) (b .job .rules) (b .job .bound) (b .start) (b .pool) (subst (Favours a) e f) (fb .state)
     (ap outcome (sym e) ∙ fb .ran) in
     let answered : answer a ≡ ending a (finished d) = ap (respond a) passed ∙ ap (ending a) ran in
     subst (λ (x : Answer). NoWorse (x .report) (answer b .report)) (sym answered)

@@ -30,10 +30,10 @@ or-later false number later m h k = k
 cause-small : (c : Call) → cause c ≤ 6
 unfolding cause jobCause
 cause-small c =
-    or-later (cause₁ c) 1 _ 6 (omega arith)
-    (or-later (cause₂ c) 2 _ 6 (omega arith)
-    (or-later (cause₃ c) 3 _ 6 (omega arith)
-    (or-later (cause₄ c) 4 _ 6 (omega arith) (or-later (cause₅ c) 5 _ 6 (omega arith) (or-later (cause₆ c) 6 0 6 (omega arith) (omega arith))))))
+    or-later (cause₁ (c .job .n)) 1 _ 6 (omega arith)
+    (or-later (cause₂ (c .job .n) (c .table)) 2 _ 6 (omega arith)
+    (or-later (cause₃ (c .job .n) (c .table)) 3 _ 6 (omega arith)
+    (or-later (cause₄ (c .job)) 4 _ 6 (omega arith) (or-later (cause₅ (c .job .n) (c .start)) 5 _ 6 (omega arith) (or-later (cause₆ (c .pool)) 6 0 6 (omega arith) (omega arith))))))
 
 pub call-ends : (c : Call) → Ended c
 unfolding answer respond

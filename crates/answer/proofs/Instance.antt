@@ -17,7 +17,7 @@ use Rattle.orders.specs.Orders.{Node, size, Order, nodes}
 use Rattle.orders.proofs.Partial.{partial-root, partial-size}
 use Rattle.orders.proofs.Order.{order-complete, order-leads}
 use Rattle.stops.specs.Stops.{problem, choices}
-use Rattle.stops.specs.Record.{Within}
+use Rattle.stops.specs.Code.{Within}
 use Rattle.stops.proofs.LegTable.{legs-within}
 use Rattle.stops.proofs.Instance.{tree-lawful, bound-lawful, stops-weigh, stops-solvable}
 use Rattle.records.specs.Records.{recordsIn}
@@ -27,50 +27,50 @@ use Rattle.answer.proofs.Passes.{Passes}
 
 -- a node weighs as much as there are nodes below it, itself included
 pub weight : Call → Node → ℕ
-weight c x = nodes (c .n - size (c .n) x)
+weight c x = nodes (c .job .n - size (c .job .n) x)
 
 pub call-weighs : (c : Call) → Weighs (problemOf c) (weight c)
 unfolding problemOf weight
-call-weighs c = stops-weigh (c .n) (legsOf c)
+call-weighs c = stops-weigh (c .job .n) (legsOf c)
 
 -- e weighs less than the fuel
-root-light : (c : Call) → weight c (problemOf c .root) < suc (nodes (c .n))
+root-light : (c : Call) → weight c (problemOf c .root) < suc (nodes (c .job .n))
 unfolding problemOf problem weight
 root-light c =
-    let e : size (c .n) [] ≡ 0 = partial-size (c .n) [] (partial-root (c .n)) in
-    let z : c .n - size (c .n) [] ≡ c .n = omega arith in
+    let e : size (c .job .n) [] ≡ 0 = partial-size (c .job .n) [] (partial-root (c .job .n)) in
+    let z : c .job .n - size (c .job .n) [] ≡ c .job .n = omega arith in
     rw z (omega arith)
 
 -- "the call ends": the fuel is never used up
 pub outcome-ends : (c : Call) (s : State Node) → outcome c ≡ unfinished s → ⊥
 unfolding outcome
 outcome-ends c s e =
-    start-ends (problemOf c) (choicesOf c) (recordsIn (c .pool)) (call-weighs c) (suc (nodes (c .n))) (given (c .start)) (root-light c) s e
+    start-ends (problemOf c) (choicesOf c) (recordsIn (c .pool)) (call-weighs c) (suc (nodes (c .job .n))) (given (c .start)) (root-light c) s e
 
 pub finished-state : (c : Call) (s : State Node) → outcome c ≡ finished s → StateOf c s × (next (problemOf c) (choicesOf c) (recordsIn (c .pool)) s ≡ finish)
 unfolding outcome
 finished-state c s e =
-    finished-means (problemOf c) (choicesOf c) (recordsIn (c .pool)) (suc (nodes (c .n))) (start (problemOf c) (given (c .start))) s e
+    finished-means (problemOf c) (choicesOf c) (recordsIn (c .pool)) (suc (nodes (c .job .n))) (start (problemOf c) (given (c .start))) s e
 
 pub full-state : (c : Call) (s : State Node) → outcome c ≡ full s → StateOf c s × Overflows (problemOf c) (choicesOf c) (recordsIn (c .pool)) s
 unfolding outcome
 full-state c s e =
-    full-means (problemOf c) (choicesOf c) (recordsIn (c .pool)) (suc (nodes (c .n))) (start (problemOf c) (given (c .start))) s e
+    full-means (problemOf c) (choicesOf c) (recordsIn (c .pool)) (suc (nodes (c .job .n))) (start (problemOf c) (given (c .start))) s e
 
 -- the active nodes at the start weigh less than the fuel
-start-light : (c : Call) → sum (weight c) (start (problemOf c) (given (c .start)) .active) < suc (nodes (c .n))
+start-light : (c : Call) → sum (weight c) (start (problemOf c) (given (c .start)) .active) < suc (nodes (c .job .n))
 unfolding start
 start-light c = omega (arith, root-light c)
 
 pub overflow-outcome : (c : Call) {s : State Node} → StateOf c s → Overflows (problemOf c) (choicesOf c) (recordsIn (c .pool)) s → outcome c ≡ full s
 unfolding outcome
 overflow-outcome c steps over =
-    overflow-full (problemOf c) (choicesOf c) (recordsIn (c .pool)) (call-weighs c) (suc (nodes (c .n))) (start-light c) steps over
+    overflow-full (problemOf c) (choicesOf c) (recordsIn (c .pool)) (call-weighs c) (suc (nodes (c .job .n))) (start-light c) steps over
 
 pub finish-outcome : (c : Call) {s : State Node} → StateOf c s → next (problemOf c) (choicesOf c) (recordsIn (c .pool)) s ≡ finish → outcome c ≡ finished s
 unfolding outcome
 finish-outcome c steps end =
-    finish-finished (problemOf c) (choicesOf c) (recordsIn (c .pool)) (call-weighs c) (suc (nodes (c .n))) (start-light c) steps end
+    finish-finished (problemOf c) (choicesOf c) (recordsIn (c .pool)) (call-weighs c) (suc (nodes (c .job .n))) (start-light c) steps end
 
 -- the same states in the words of the general run
 abbrev pub Reaches : Call → State Node → Type 0
@@ -81,15 +81,15 @@ Reaches c s =
 module _ (c : Call) (ok : Passes c) where
   pub legs-small : Within 1_000_000 (legsOf c)
   unfolding legsOf
-  legs-small = legs-within (c .n) (c .table) 1_000_000 (ok .cheap)
+  legs-small = legs-within (c .job .n) (c .table) 1_000_000 (ok .cheap)
 
-  pub call-lawful : Lawful (tree (problemOf c)) (size (c .n)) (c .n)
+  pub call-lawful : Lawful (tree (problemOf c)) (size (c .job .n)) (c .job .n)
   unfolding problemOf
-  call-lawful = tree-lawful (c .n) (ok .some) (legsOf c)
+  call-lawful = tree-lawful (c .job .n) (ok .some) (legsOf c)
 
   pub bound-laws : BoundLaws (tree (problemOf c)) (choicesOf c .bound)
   unfolding problemOf choicesOf choices
-  bound-laws = bound-lawful (c .bound) (ok .bound) (c .n) (legsOf c)
+  bound-laws = bound-lawful (c .job .bound) (ok .bound) (c .job .n) (legsOf c)
 
   pub selection-small : choicesOf c .selection ≤ 3
   unfolding choicesOf choices
@@ -100,16 +100,16 @@ module _ (c : Call) (ok : Passes c) where
 
   pub call-solvable : Solvable (problemOf c)
   unfolding problemOf
-  call-solvable = stops-solvable (c .n) (ok .few) (legsOf c) legs-small
+  call-solvable = stops-solvable (c .job .n) (ok .few) (legsOf c) legs-small
 
   pub start-known : KnownIn (problemOf c) (given (c .start))
   unfolding problemOf problem
   start-known = go (c .start) (ok .start)
     where
-      go : (x : List ℕ) → (x ≡ []) ⊎ Order (c .n) x → KnownIn (problemOf c) (given x)
+      go : (x : List ℕ) → (x ≡ []) ⊎ Order (c .job .n) x → KnownIn (problemOf c) (given x)
       go [] h = unknown
       go (s ∷ x) (inl e) = absurd (let z : _≡_ {A = ℕ} 0 1 = cc in omega arith)
-      go (s ∷ x) (inr o) = known (s ∷ x) (order-complete (c .n) (s ∷ x) o) (order-leads (c .n) (problemOf c) (λ y. refl) (s ∷ x) o)
+      go (s ∷ x) (inr o) = known (s ∷ x) (order-complete (c .job .n) (s ∷ x) o) (order-leads (c .job .n) (problemOf c) (λ y. refl) (s ∷ x) o)
 
   pub state-reached : {s : State Node} → StateOf c s → Reaches c s
   state-reached steps = steps-reached (problemOf c) (choicesOf c) (recordsIn (c .pool)) selection-small steps

@@ -5,11 +5,12 @@
 -- Assumes nothing.
 use mathlib.Core.Path.{_≡_, refl, sym, _∙_}
 use mathlib.Core.Bool.{Bool, true, false}
-use mathlib.Core.List.{List, []}
+use mathlib.Core.List.{List}
 use mathlib.Core.Logic.{_≢_}
 use Prim.Native.Nat.{ℕ, suc}
 use native.Mathlib.Omega.{arith}
-use Rattle.answer.specs.Call.{Call, callOf}
+use Rattle.answer.specs.Call.{callOf}
+use Rattle.answer.specs.declared.Job.{Job}
 use Rattle.answer.specs.Checks.{cause₁, cause₂, cause₃, cause₄, cause₅, cause₆, orLater, jobCause, cause}
 
 -- f has a number of its own, which is not 0, or answers with what comes later
@@ -24,31 +25,22 @@ pub first-or : (b : Bool) (number : ℕ) {f : ℕ → ℕ} → First f → First
 first-or true number h = record { own = λ k later. refl; none = λ e later. absurd (omega arith) }
 first-or false number h = record { own = h .own; none = h .none }
 
-pub job-first : (c : Call) → First (jobCause c)
+pub job-first : (job : Job) (table start : List ℕ) → First (jobCause job table start)
 unfolding jobCause
-job-first c =
-    first-or (cause₁ c) 0 (first-or (cause₂ c) 1 (first-or (cause₃ c) 2 (first-or (cause₄ c) 3 (first-or (cause₅ c) 4 first-later))))
+job-first job table start =
+    first-or (cause₁ (job .n)) 0
+    (first-or (cause₂ (job .n) table) 1
+    (first-or (cause₃ (job .n) table) 2 (first-or (cause₄ job) 3 (first-or (cause₅ (job .n) start) 4 first-later))))
 
-module _ (n : ℕ) (table : List ℕ) (selection rules bound : ℕ) (start pool : List ℕ) where
-  abbrev job : Call
-  job = callOf n table selection rules bound start []
+module _ (job : Job) (table start pool : List ℕ) where
+  -- the number of cause 6, which is looked at last
+  abbrev later : ℕ
+  later = orLater (cause₆ pool) 6 0
 
-  abbrev call : Call
-  call = callOf n table selection rules bound start pool
+  pub job-refuses : (k : ℕ) → k ≡ jobCause job table start 0 → k ≢ 0 → k ≡ cause (callOf job table start pool)
+  unfolding cause callOf
+  job-refuses k e h = e ∙ job-first job table start .own (λ z. h (e ∙ z)) later
 
-  -- causes 1 to 5 do not look at the pool
-  pub job-alone : (later : ℕ) → jobCause job later ≡ jobCause call later
-  unfolding jobCause cause₁ cause₂ cause₃ cause₄ cause₅ callOf
-  job-alone later = refl
-
-  pub job-refuses : (k : ℕ) → k ≡ jobCause job 0 → k ≢ 0 → k ≡ cause call
-  unfolding cause
-  job-refuses k e h =
-      let later : ℕ = orLater (cause₆ call) 6 0 in
-      e ∙ job-first job .own (λ z. h (e ∙ z)) later ∙ job-alone later
-
-  pub job-passes : (k : ℕ) → k ≡ jobCause job 0 → k ≡ 0 → cause call ≡ orLater (cause₆ call) 6 0
-  unfolding cause
-  job-passes k e z =
-      let later : ℕ = orLater (cause₆ call) 6 0 in
-      sym (job-alone later) ∙ job-first job .none (sym e ∙ z) later
+  pub job-passes : (k : ℕ) → k ≡ jobCause job table start 0 → k ≡ 0 → cause (callOf job table start pool) ≡ later
+  unfolding cause callOf
+  job-passes k e z = job-first job table start .none (sym e ∙ z) later

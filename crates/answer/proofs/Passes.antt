@@ -13,20 +13,21 @@ use Rattle.lists.proofs.Members.{in-any}
 use Rattle.orders.specs.Orders.{Order, isOrder}
 use Rattle.orders.proofs.Order.{isOrder-order}
 use Rattle.stops.specs.Legs.{entry}
-use Rattle.records.specs.Records.{recordWords, recordsIn}
+use Rattle.sizes.specs.Sizes.{mostStops, dearest, recordWords}
+use Rattle.records.specs.Records.{recordsIn}
 use Rattle.answer.specs.Call.{Call}
 use Rattle.answer.specs.Checks.{cause₁, cause₂, cause₃, cause₄, cause₅, cause₆, isEmpty, orLater, jobCause, cause}
 use Rattle.answer.specs.Cases
 
 pub record Passes (c : Call) : Type 0 where
-  pub some : 1 ≤ c .n
-  pub few : c .n ≤ 16
-  pub square : length (c .table) ≡ suc (c .n) * suc (c .n)
-  pub cheap : (w : ℕ) → In w (c .table) → w ≤ 1_000_000
-  pub selection : c .selection ≤ 3
-  pub rules : c .rules ≤ 15
-  pub bound : c .bound ≤ 1
-  pub start : (c .start ≡ []) ⊎ Order (c .n) (c .start)
+  pub some : 1 ≤ c .job .n
+  pub few : c .job .n ≤ mostStops
+  pub square : length (c .table) ≡ suc (c .job .n) * suc (c .job .n)
+  pub cheap : (w : ℕ) → In w (c .table) → w ≤ dearest
+  pub selection : c .job .selection ≤ 3
+  pub rules : c .job .rules ≤ 15
+  pub bound : c .job .bound ≤ 1
+  pub start : (c .start ≡ []) ⊎ Order (c .job .n) (c .start)
   pub pool : 1 ≤ recordsIn (c .pool)
   pub whole : length (c .pool) % recordWords ≡ 0
 
@@ -44,32 +45,32 @@ positive k h = let e : k ≢ 0 = neq k 0 h in omega arith
 
 -- what each check lets pass
 module _ (c : Call) where
-  stops-pass : T (not (cause₁ c)) → (1 ≤ c .n) × (c .n ≤ 16)
+  stops-pass : T (not (cause₁ (c .job .n))) → (1 ≤ c .job .n) × (c .job .n ≤ mostStops)
   unfolding cause₁
-  stops-pass h = let (p, q) = not-either (eqb (c .n) 0) (ltb 16 (c .n)) h in (positive (c .n) p, nltb→le 16 (c .n) q)
+  stops-pass h = let (p, q) = not-either (eqb (c .job .n) 0) (ltb mostStops (c .job .n)) h in (positive (c .job .n) p, nltb→le mostStops (c .job .n) q)
 
-  table-passes : T (not (cause₂ c)) → length (c .table) ≡ suc (c .n) * suc (c .n)
+  table-passes : T (not (cause₂ (c .job .n) (c .table))) → length (c .table) ≡ suc (c .job .n) * suc (c .job .n)
   unfolding cause₂
-  table-passes h = let area : ℕ = suc (c .n) * suc (c .n) in eqb→eq (length (c .table)) area (twice-not (eqb (length (c .table)) area) h)
+  table-passes h = let area : ℕ = suc (c .job .n) * suc (c .job .n) in eqb→eq (length (c .table)) area (twice-not (eqb (length (c .table)) area) h)
 
-  legs-pass : T (not (cause₃ c)) → (w : ℕ) → In w (c .table) → w ≤ 1_000_000
+  legs-pass : T (not (cause₃ (c .job .n) (c .table))) → (w : ℕ) → In w (c .table) → w ≤ dearest
   unfolding cause₃
   legs-pass h w m =
-      let (p, q) = not-either (any (ltb 1_000_000) (c .table)) (any (λ i. not (eqb (entry (c .n) (c .table) i i) 0)) (from 0 (suc (c .n)))) h in
-      nltb→le 1_000_000 w (not-T (ltb 1_000_000 w) (λ k. T-not (any (ltb 1_000_000) (c .table)) p (in-any (ltb 1_000_000) (c .table) w m k)))
+      let (p, q) = not-either (any (ltb dearest) (c .table)) (any (λ i. not (eqb (entry (c .job .n) (c .table) i i) 0)) (from 0 (suc (c .job .n)))) h in
+      nltb→le dearest w (not-T (ltb dearest w) (λ k. T-not (any (ltb dearest) (c .table)) p (in-any (ltb dearest) (c .table) w m k)))
 
-  choices-pass : T (not (cause₄ c)) → (c .selection ≤ 3) × (c .rules ≤ 15) × (c .bound ≤ 1)
+  choices-pass : T (not (cause₄ (c .job))) → (c .job .selection ≤ 3) × (c .job .rules ≤ 15) × (c .job .bound ≤ 1)
   unfolding cause₄
   choices-pass h =
-      let (p, q) = not-either (ltb 3 (c .selection) || ltb 15 (c .rules)) (ltb 1 (c .bound)) h in
-      let (r, s) = not-either (ltb 3 (c .selection)) (ltb 15 (c .rules)) p in
-      (nltb→le 3 (c .selection) r, nltb→le 15 (c .rules) s, nltb→le 1 (c .bound) q)
+      let (p, q) = not-either (ltb 3 (c .job .selection) || ltb 15 (c .job .rules)) (ltb 1 (c .job .bound)) h in
+      let (r, s) = not-either (ltb 3 (c .job .selection)) (ltb 15 (c .job .rules)) p in
+      (nltb→le 3 (c .job .selection) r, nltb→le 15 (c .job .rules) s, nltb→le 1 (c .job .bound) q)
 
-  start-passes : T (not (cause₅ c)) → (c .start ≡ []) ⊎ Order (c .n) (c .start)
+  start-passes : T (not (cause₅ (c .job .n) (c .start))) → (c .start ≡ []) ⊎ Order (c .job .n) (c .start)
   unfolding cause₅
-  start-passes h = start-given (c .n) (c .start) (twice-not (isEmpty (c .start) || isOrder (c .n) (c .start)) h)
+  start-passes h = start-given (c .job .n) (c .start) (twice-not (isEmpty (c .start) || isOrder (c .job .n) (c .start)) h)
 
-  pool-passes : T (not (cause₆ c)) → (1 ≤ recordsIn (c .pool)) × (length (c .pool) % recordWords ≡ 0)
+  pool-passes : T (not (cause₆ (c .pool))) → (1 ≤ recordsIn (c .pool)) × (length (c .pool) % recordWords ≡ 0)
   unfolding cause₆
   pool-passes h =
       let part : ℕ = length (c .pool) % recordWords in
@@ -78,29 +79,29 @@ module _ (c : Call) where
 
   -- the numbers that are left when the first causes do not apply
   after₅ : ℕ
-  after₅ = orLater (cause₆ c) 6 0
+  after₅ = orLater (cause₆ (c .pool)) 6 0
 
   after₄ : ℕ
-  after₄ = orLater (cause₅ c) 5 after₅
+  after₄ = orLater (cause₅ (c .job .n) (c .start)) 5 after₅
 
   after₃ : ℕ
-  after₃ = orLater (cause₄ c) 4 after₄
+  after₃ = orLater (cause₄ (c .job)) 4 after₄
 
   after₂ : ℕ
-  after₂ = orLater (cause₃ c) 3 after₃
+  after₂ = orLater (cause₃ (c .job .n) (c .table)) 3 after₃
 
   after₁ : ℕ
-  after₁ = orLater (cause₂ c) 2 after₂
+  after₁ = orLater (cause₂ (c .job .n) (c .table)) 2 after₂
 
 pub passes : (c : Call) → cause c ≡ 0 → Passes c
 unfolding cause jobCause after₁ after₂ after₃ after₄ after₅
 passes c e =
-    let (h₁, e₁) = none-first (cause₁ c) 0 (after₁ c) e in
-    let (h₂, e₂) = none-first (cause₂ c) 1 (after₂ c) e₁ in
-    let (h₃, e₃) = none-first (cause₃ c) 2 (after₃ c) e₂ in
-    let (h₄, e₄) = none-first (cause₄ c) 3 (after₄ c) e₃ in
-    let (h₅, e₅) = none-first (cause₅ c) 4 (after₅ c) e₄ in
-    let (h₆, e₆) = none-first (cause₆ c) 5 0 e₅ in
+    let (h₁, e₁) = none-first (cause₁ (c .job .n)) 0 (after₁ c) e in
+    let (h₂, e₂) = none-first (cause₂ (c .job .n) (c .table)) 1 (after₂ c) e₁ in
+    let (h₃, e₃) = none-first (cause₃ (c .job .n) (c .table)) 2 (after₃ c) e₂ in
+    let (h₄, e₄) = none-first (cause₄ (c .job)) 3 (after₄ c) e₃ in
+    let (h₅, e₅) = none-first (cause₅ (c .job .n) (c .start)) 4 (after₅ c) e₄ in
+    let (h₆, e₆) = none-first (cause₆ (c .pool)) 5 0 e₅ in
     record {
       some = stops-pass c h₁ .0;
       few = stops-pass c h₁ .1;

@@ -28,7 +28,7 @@ use Rattle.answer.proofs.Instance.{state-reached, call-lawful, bound-la
 pub active-never-empty : (c : Call) → cause c ≡ 0 → (s : State Node) → StateOf c s → (x : Node) × In x (s .active)
 active-never-empty c e s steps =
     let ok : Passes c = passes c e in
-    active-some (tree (problemOf c)) (planOf (problemOf c) (choicesOf c)) (cutOf (choicesOf c)) (recordsIn (c .pool)) (size (c .n)) (c .n)
+    active-some (tree (problemOf c)) (planOf (problemOf c) (choicesOf c)) (cutOf (choicesOf c)) (recordsIn (c .pool)) (size (c .job .n)) (c .job .n)
     (call-lawful c ok) (bound-laws c ok) (given (c .start)) (start-known c ok) (call-solvable c ok) s (state-reached c ok steps)
 
 -- the bound counts in the finish test: under selections 0 and 1 always, under 2 and 3 where b is the only active node
@@ -42,7 +42,7 @@ pub tested-bound-within-U :
 unfolding select cap
 tested-bound-within-U c e s steps b rest chose counts =
     let ok : Passes c = passes c e in
-    tested-within (tree (problemOf c)) (planOf (problemOf c) (choicesOf c)) (cutOf (choicesOf c)) (recordsIn (c .pool)) (size (c .n)) (c .n)
+    tested-within (tree (problemOf c)) (planOf (problemOf c) (choicesOf c)) (cutOf (choicesOf c)) (recordsIn (c .pool)) (size (c .job .n)) (c .job .n)
     (call-lawful c ok) (bound-laws c ok) (given (c .start)) (start-known c ok) (call-solvable c ok) (call-manner c ok) s
     (state-reached c ok steps) b rest
     (sym (select-is-pick (problemOf c) (choicesOf c .bound) (choicesOf c .selection) (selection-small c ok) (s .active)) ∙ chose)

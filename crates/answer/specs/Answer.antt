@@ -10,17 +10,19 @@ use Rattle.orders.specs.Orders.{Node, nodes}
 use Rattle.stops.specs.Legs.{Legs, rows, legs}
 use Rattle.stops.specs.Stops.{problem, choices}
 use Rattle.records.specs.Records.{padded, poolWords, recordsIn}
-use Rattle.answer.specs.Call.{Call, Report, Answer, orderPlaces, refusal}
+use Rattle.sizes.specs.Sizes.{orderPlaces}
+use Rattle.answer.specs.Call.{Call, Answer, refusal}
+use Rattle.answer.specs.declared.Report.{Report}
 use Rattle.answer.specs.Checks.{cause}
 
 unfoldable pub legsOf : Call → Legs
-legsOf c = legs (rows (c .n) (c .table))
+legsOf c = legs (rows (c .job .n) (c .table))
 
 unfoldable pub problemOf : Call → Problem Node
-problemOf c = problem (c .n) (legsOf c)
+problemOf c = problem (c .job .n) (legsOf c)
 
 unfoldable pub choicesOf : Call → Choices Node
-choicesOf c = choices (c .n) (legsOf c) (c .selection) (c .rules) (c .bound)
+choicesOf c = choices (c .job .n) (legsOf c) (c .job .selection) (c .job .rules) (c .job .bound)
 
 -- the starting order, if one is given
 abbrev pub given : List ℕ → Option Node
@@ -30,7 +32,7 @@ given (s ∷ x) = some (s ∷ x)
 -- The run of a call. Its fuel, one more than the number of all nodes, is never used up (`proofs/`).
 unfoldable pub outcome : Call → Outcome Node
 outcome c =
-    run (problemOf c) (choicesOf c) (recordsIn (c .pool)) (suc (nodes (c .n))) (start (problemOf c) (given (c .start)))
+    run (problemOf c) (choicesOf c) (recordsIn (c .pool)) (suc (nodes (c .job .n))) (start (problemOf c) (given (c .start)))
 
 -- The states of a call's run: what steps of the written run come to, each of which fitted the pool.
 abbrev pub StateOf : Call → State Node → Type 0
@@ -55,7 +57,7 @@ reportWith number cost order s = record {
 
 -- "Contents before the run play no part": only the pool's length is looked at.
 unfoldable pub wordsOf : Call → State Node → List ℕ
-wordsOf c s = poolWords (c .n) (legsOf c) (c .bound) (c .rules) (length (c .pool)) s
+wordsOf c s = poolWords (c .job .n) (legsOf c) (c .job .bound) (c .job .rules) (length (c .pool)) s
 
 unfoldable pub ending : Call → Outcome Node → Answer
 ending c (finished s) = record { report = reportWith 0 (upper (problemOf c) (s .best)) (stopsOf (s .best)) s; pool = wordsOf c s }

@@ -10,19 +10,25 @@ use Rattle.search.specs.Problem.{start}
 use Rattle.search.specs.Selection.{selectBy, select, finishes}
 use Rattle.search.specs.Step.{children₁, best₂, over₃, children₃, rest₃, dominated₄, children₄, dominated₅, children₅, dominated₆, rest₆, active₇, step}
 use Rattle.search.specs.Run.{held, fitting, decide, next, run}
-use Rattle.orders.specs.Orders.{flown, set, left, size, complete, children, count, isOrder}
+use Rattle.orders.specs.Orders.{flown, setOf, left, size, complete, children, count, isOrder}
 use Rattle.stops.specs.Legs.{entry, rows, rowLeg, legs, path, last, cost}
 use Rattle.stops.specs.Bounds.{plain, cheapestInto, remainder, close, boundBy, dominates}
 use Rattle.stops.specs.Stops.{problem, choices}
 use Rattle.records.specs.Records.{mask, record-of, padded, poolWords, recordsIn}
-use Rattle.answer.specs.Call.{Call, Report, Answer, refusal}
+use Rattle.sizes.specs.Sizes.{orderPlaces, recordWords}
+use Rattle.answer.specs.Call.{Call, Answer, refusal}
+use Rattle.answer.specs.declared.Report.{Report}
 use Rattle.answer.specs.Checks.{cause₁, cause₂, cause₃, cause₄, cause₅, cause₆, jobCause, cause}
 use Rattle.answer.specs.Answer.{legsOf, problemOf, choicesOf, outcome, reportWith, wordsOf, ending, respond, answer}
 
 -- a call by its parts, with the number of the pool's records
 abbrev pub call : ℕ → List ℕ → ℕ → ℕ → ℕ → List ℕ → ℕ → Call
-call n table selection rules bound start records = record
-    { n = n; table = table; selection = selection; rules = rules; bound = bound; start = start; pool = replicate (6 * records) 7 }
+call n table selection rules bound start records = record {
+  job = record { n = n; selection = selection; rules = rules; bound = bound };
+  table = table;
+  start = start;
+  pool = replicate (recordWords * records) 7;
+}
 
 -- a report with number 0: cost, order, and branched, generated, eliminated, active, most
 abbrev pub found : ℕ → List ℕ → ℕ → ℕ → ℕ → ℕ → ℕ → Report
@@ -34,7 +40,7 @@ abbrev pub refused : ℕ → ℕ → ℕ → ℕ → ℕ → ℕ → Report
 refused number branched generated eliminated active most = record {
   number = number;
   cost = 0;
-  order = replicate 16 0;
+  order = replicate orderPlaces 0;
   branched = branched;
   generated = generated;
   eliminated = eliminated;
@@ -44,7 +50,7 @@ refused number branched generated eliminated active most = record {
 
 -- the answer, with every definition that it rests on open: a proof that says `unfolding computed` computes it
 unfoldable pub computed : Call → Answer
-unfolding start selectBy select finishes children₁ best₂ over₃ children₃ rest₃ dominated₄ children₄ dominated₅ children₅ dominated₆ rest₆ active₇ step held fitting decide next run flown set left size complete children count isOrder entry rows rowLeg legs path last cost plain cheapestInto remainder close boundBy dominates problem choices mask record-of padded poolWords recordsIn refusal cause₁ cause₂ cause₃ cause₄ cause₅ cause₆ jobCause cause legsOf problemOf choicesOf outcome reportWith wordsOf ending respond answer
+unfolding start selectBy select finishes children₁ best₂ over₃ children₃ rest₃ dominated₄ children₄ dominated₅ children₅ dominated₆ rest₆ active₇ step held fitting decide next run flown setOf left size complete children count isOrder entry rows rowLeg legs path last cost plain cheapestInto remainder close boundBy dominates problem choices mask record-of padded poolWords recordsIn refusal cause₁ cause₂ cause₃ cause₄ cause₅ cause₆ jobCause cause legsOf problemOf choicesOf outcome reportWith wordsOf ending respond answer
 computed c = answer c
 
 pub record Case : Type 0 where
@@ -161,7 +167,7 @@ unfolding cases
 cases-hold = (case-a, (case-b, (case-c, (case-d, (case-e, (case-f₁, (case-f₂, (case-g, (case-h, (case-i₀, (case-i₁, tt)))))))))))
 
 -- j. n = 16 passes check 1, 17 is 1.
-sixteen-stops-pass : cause₁ (call 16 [] 0 0 0 [] 1) ≡ false
+sixteen-stops-pass : cause₁ 16 ≡ false
 unfolding computed
 sixteen-stops-pass = refl
 

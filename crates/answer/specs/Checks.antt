@@ -1,56 +1,58 @@
--- Causes 1 to 6: document 01, "Causes and numbers". Assumes nothing.
+-- Causes 1 to 6, each over just what it looks at, and which is returned: document 01, "Causes and numbers".
 use mathlib.Core.Bool.{Bool, true, false, not, _||_}
 use mathlib.Core.List.{List, [], _∷_}
 use Prim.Native.Nat.{ℕ, suc, _*_, _%_}
 use lib.Dec.{ltb, eqb}
 use lib.ListN.{length}
+use Rattle.sizes.specs.Sizes.{mostStops, dearest, recordWords}
 use Rattle.lists.specs.Lists.{any, from}
 use Rattle.orders.specs.Orders.{isOrder}
 use Rattle.stops.specs.Legs.{entry}
-use Rattle.records.specs.Records.{recordWords, recordsIn}
+use Rattle.records.specs.Records.{recordsIn}
 use Rattle.answer.specs.Call.{Call}
+use Rattle.answer.specs.declared.Job.{Job}
 
--- n is 0 or above 16
-unfoldable pub cause₁ : Call → Bool
-cause₁ c = eqb (c .n) 0 || ltb 16 (c .n)
+-- no stop, or more than there may be
+unfoldable pub cause₁ : ℕ → Bool
+cause₁ n = eqb n 0 || ltb mostStops n
 
--- table length isn't (n+1) squared
-unfoldable pub cause₂ : Call → Bool
-cause₂ c = not (eqb (length (c .table)) (suc (c .n) * suc (c .n)))
+-- the table does not have n + 1 rows of n + 1 numbers
+unfoldable pub cause₂ : ℕ → List ℕ → Bool
+cause₂ n table = not (eqb (length table) (suc n * suc n))
 
--- a leg above 1,000,000 or a diagonal entry not 0
-unfoldable pub cause₃ : Call → Bool
-cause₃ c = any (ltb 1_000_000) (c .table) || any (λ i. not (eqb (entry (c .n) (c .table) i i) 0)) (from 0 (suc (c .n)))
+-- a leg is too dear, or an entry on the diagonal is not 0
+unfoldable pub cause₃ : ℕ → List ℕ → Bool
+cause₃ n table = any (ltb dearest) table || any (λ i. not (eqb (entry n table i i) 0)) (from 0 (suc n))
 
--- selection above 3, rules above 15 or bound above 1
-unfoldable pub cause₄ : Call → Bool
-cause₄ c = ltb 3 (c .selection) || ltb 15 (c .rules) || ltb 1 (c .bound)
+-- no such selection, sum of rules or bound
+unfoldable pub cause₄ : Job → Bool
+cause₄ job = ltb 3 (job .selection) || ltb 15 (job .rules) || ltb 1 (job .bound)
 
--- starting order neither empty nor a permutation of 1 to n
+-- the starting order is neither empty nor an order of 1 to n
 abbrev pub isEmpty : List ℕ → Bool
 isEmpty [] = true
 isEmpty (s ∷ x) = false
 
-unfoldable pub cause₅ : Call → Bool
-cause₅ c = not (isEmpty (c .start) || isOrder (c .n) (c .start))
+unfoldable pub cause₅ : ℕ → List ℕ → Bool
+cause₅ n start = not (isEmpty start || isOrder n start)
 
--- pool has no whole record, or a part record
-unfoldable pub cause₆ : Call → Bool
-cause₆ c = eqb (recordsIn (c .pool)) 0 || not (eqb (length (c .pool) % recordWords) 0)
+-- the pool has no whole record, or a part of one
+unfoldable pub cause₆ : List ℕ → Bool
+cause₆ pool = eqb (recordsIn pool) 0 || not (eqb (length pool % recordWords) 0)
 
--- "The lowest number that applies is returned": the number of the first cause, 0 if there is none
+-- the number of the first cause that applies, 0 if none does
 abbrev pub orLater : Bool → ℕ → ℕ → ℕ
 orLater true number later = number
 orLater false number later = later
 
--- causes 1 to 5, which look at the job alone; `later` where none applies
-unfoldable pub jobCause : Call → ℕ → ℕ
-jobCause c later =
-    orLater (cause₁ c) 1
-    (orLater (cause₂ c) 2
-    (orLater (cause₃ c) 3
-    (orLater (cause₄ c) 4
-    (orLater (cause₅ c) 5 later))))
+-- causes 1 to 5, of a job with its table and its starting order; `later` where none applies
+unfoldable pub jobCause : Job → List ℕ → List ℕ → ℕ → ℕ
+jobCause job table start later =
+    orLater (cause₁ (job .n)) 1
+    (orLater (cause₂ (job .n) table) 2
+    (orLater (cause₃ (job .n) table) 3
+    (orLater (cause₄ job) 4
+    (orLater (cause₅ (job .n) start) 5 later))))
 
 unfoldable pub cause : Call → ℕ
-cause c = jobCause c (orLater (cause₆ c) 6 0)
+cause c = jobCause (c .job) (c .table) (c .start) (orLater (cause₆ (c .pool)) 6 0)

@@ -1,2 +1,27 @@
-// What a call answers: what a caller hands in and what comes back, causes 1 to 6, the answer with document 01's cases (specs/); what holds
-// of every answer, demand 3 among it (proofs/). No code.
+// Calls, checks, reports and the answer to a call, as definitions (specs/), and the letter's demands of the reports (proofs/). No function: the two
+// structs that cross the border stand here, so that what reads a job or prints a report need not rest on the planner.
+use sizes::ORDER_PLACES;
+
+// What a caller chooses: how many stops, which selection, which rules and which bound.
+#[repr(C)]
+pub struct Job {
+    pub n: u32,
+    pub selection: u32,
+    pub rules: u32,
+    pub bound: u32,
+}
+
+// What the planner answers: number 0 with a cost and an order, or the number of a refusal; and the counts of the run.
+#[repr(C)]
+pub struct Report {
+    pub number: u32,
+    pub cost: u32,
+    // zeros past n
+    pub order: [u8; ORDER_PLACES],
+    pub branched: u64,
+    pub generated: u64,
+    pub eliminated: u64,
+    // at the end
+    pub active: u64,
+    pub most: u64,
+}

@@ -28,16 +28,16 @@ use Rattle.orders.proofs.Sets.{empty-set, in-left, left-in, flown-in, extend-ch
 use Rattle.orders.proofs.Partial.{partial-root, partial-child}
 use Rattle.orders.proofs.Order.{order-complete, order-length}
 use Rattle.stops.specs.Legs.{Legs, legs, rowLeg, path, last, cost}
-use Rattle.stops.specs.Record.{emptyRecord, extended, Wide}
+use Rattle.stops.specs.Code.{emptyRecord, extended, Wide}
 use Rattle.stops.specs.Stops.{aboveEveryCost}
-use Rattle.stops.specs.declared.node.Node.{Node as Record}
+use Rattle.stops.specs.declared.node_record.Record.{Record}
 use Rattle.stops.proofs.Paths.{path-small, last-extend}
 use Rattle.stops.proofs.Bounds.{bound-exact}
 use Rattle.records.specs.Records.{mask}
-use Rattle.records.specs.View.{encode}
+use Rattle.records.specs.Code.{encode}
 use Rattle.records.proofs.Encode.{unbounded, encode-extend, encode-wide}
 use Rattle.answer.specs.Answer.{given}
-use Rattle.children.specs.OnRecords.{Table, recProblem, IsBest, Rows}
+use Rattle.children.specs.Code.{Table, recProblem, IsBest, Rows}
 use Rattle.children.specs.declared.best.Best.{Best}
 
 -- part 2 of a step: the fold over one child more

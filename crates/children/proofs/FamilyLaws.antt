@@ -26,17 +26,17 @@ use Rattle.orders.specs.Orders.{left, extend}
 use Rattle.orders.proofs.Partial.{partial-size}
 use Rattle.orders.proofs.Sets.{size-left, size-extend}
 use Rattle.stops.specs.Legs.{rowLeg, legs, path}
-use Rattle.stops.specs.Record.{Wide, extended, lastStop, stopsIn, ahead}
-use Rattle.stops.specs.declared.node.Node.{Node as Record}
+use Rattle.stops.specs.Code.{Wide, extended, lastStop, stopsIn, ahead}
+use Rattle.stops.specs.declared.node_record.Record.{Record}
 use Rattle.stops.proofs.Paths.{path-small}
 use Rattle.stops.proofs.SetBits.{stopsIn-zero, stopsIn-range, stopsIn-few}
 use Rattle.stops.proofs.SetAnd.{stopsIn-added}
 use Rattle.stops.proofs.SetLoops.{First, ahead-small}
-use Rattle.records.specs.View.{encode}
-use Rattle.rivals.specs.Rivals.{near, AllNear}
+use Rattle.records.specs.Code.{encode}
+use Rattle.rivals.specs.Code.{near, AllNear}
 use Rattle.records.proofs.Mask.{mask-stops, rest-small, rest-left, ones-set, mask-extend}
 use Rattle.records.proofs.Encode.{encode-wide}
-use Rattle.children.specs.OnRecords.{Rows, Encoded, restOf, bounded, childOf, childrenOf}
+use Rattle.children.specs.Code.{Rows, Encoded, restOf, bounded, childOf, childrenOf}
 
 cond-most : {m : ℕ} (test : Bool) (x y : ℕ) → x ≤ m → y ≤ m → cond test x y ≤ m
 cond-most true x y h k = h

@@ -1,4 +1,4 @@
--- The run on records is the written run: the problem of a call on records (`OnRecords`) is its problem on nodes, each node encoded as
+-- The run on records is the written run: the problem of a call on records (`Code`) is its problem on nodes, each node encoded as
 -- its record. Assumes nothing.
 use mathlib.Core.Path.{_≡_, refl, sym, _∙_, ap}
 use mathlib.Core.List.{List, [], _∷_, map}
@@ -7,21 +7,21 @@ use native.Mathlib.Omega.{arith}
 use Rattle.lists.specs.Lists.{In}
 use Rattle.lists.proofs.Map.{map-same}
 use Rattle.search.proofs.Mapped.{Maps}
-use Rattle.orders.specs.Orders.{Node, Partial, extend, set, left, size, complete, children}
+use Rattle.orders.specs.Orders.{Node, Partial, extend, setOf, left, size, complete, children}
 use Rattle.orders.proofs.Sets.{empty-set}
 use Rattle.orders.proofs.Partial.{partial-root, partial-child, partial-size}
 use Rattle.stops.specs.Legs.{rowLeg, legs, path, last}
 use Rattle.stops.specs.Bounds.{boundBy}
-use Rattle.stops.specs.Record.{emptyRecord, extended, lastStop, stopsIn, ahead}
+use Rattle.stops.specs.Code.{emptyRecord, extended, lastStop, stopsIn, ahead}
 use Rattle.stops.specs.Stops.{problem, choices}
 use Rattle.stops.proofs.Paths.{path-extend}
 use Rattle.stops.proofs.Bounds.{bound-ahead, bound-exact}
 use Rattle.records.specs.Records.{mask}
-use Rattle.records.specs.View.{encode}
+use Rattle.records.specs.Code.{encode}
 use Rattle.records.proofs.Mask.{stops-left}
 use Rattle.records.proofs.Encode.{encode-last, encode-extend}
 use Rattle.records.proofs.EncodeLaws.{encode-child, encode-dominates}
-use Rattle.children.specs.OnRecords.{restOf, bounded, childOf, childrenOf, rootOf, recProblem, recChoices}
+use Rattle.children.specs.Code.{restOf, bounded, childOf, childrenOf, rootOf, recProblem, recChoices}
 
 map-map : {A B C : Type 0} (f : B → C) (g : A → B) (xs : List A) → map f (map g xs) ≡ map (λ x. f (g x)) xs
 map-map f g [] = refl
@@ -36,11 +36,11 @@ module _ (n : ℕ) (few : n ≤ 16) (t : List (List ℕ)) (k : ℕ) (number : k 
       none : size n [] ≡ 0
       none = partial-size n [] (partial-root n)
 
-      unset : mask (set n []) ≡ 0
+      unset : mask (setOf n []) ≡ 0
       unset = ap mask (empty-set n)
 
       all : stopsIn (2 ^ n - 1) ≡ left n []
-      all = ap stopsIn (let e : 2 ^ n - 1 ≡ 2 ^ n - 1 - mask (set n []) = omega (arith, unset) in e) ∙ stops-left n few []
+      all = ap stopsIn (let e : 2 ^ n - 1 ≡ 2 ^ n - 1 - mask (setOf n []) = omega (arith, unset) in e) ∙ stops-left n few []
 
       bound : ahead k (legs t) 0 (stopsIn (2 ^ n - 1)) ≡ boundBy k n (legs t) []
       bound =
@@ -56,7 +56,7 @@ module _ (n : ℕ) (few : n ≤ 16) (t : List (List ℕ)) (k : ℕ) (number : k 
         ∙ ap (λ (v : ℕ). bounded v (encode n (legs t) k (extend x s))) bound
       where
         rest : ℕ
-        rest = ahead k (legs t) s (stopsIn (2 ^ n - 1 - mask (set n x) - 2 ^ (s - 1)))
+        rest = ahead k (legs t) s (stopsIn (2 ^ n - 1 - mask (setOf n x) - 2 ^ (s - 1)))
 
         place : lastStop (encode n (legs t) k x) ≡ last x
         place = encode-last n few (legs t) k x p

@@ -16,13 +16,13 @@ use Rattle.lists.proofs.Keep.{keep-all, keep-keep}
 use Rattle.lists.proofs.Members.{in-keep}
 use Rattle.search.specs.Step.{on}
 use Rattle.stops.specs.Stops.{aboveEveryCost}
-use Rattle.stops.specs.declared.node.Node.{Node as Record}
-use Rattle.records.specs.Passes.{Sifted, dropAt}
-use Rattle.passes.specs.Staying.{isWithin}
-use Rattle.rivals.specs.Rivals.{isFree, AllNear}
+use Rattle.stops.specs.declared.node_record.Record.{Record}
+use Rattle.records.specs.Code.{Sifted, dropAt}
+use Rattle.passes.specs.Code.{isWithin}
+use Rattle.rivals.specs.Code.{isFree, AllNear}
 use Rattle.records.proofs.SiftLaws.{sifted-all, sifted-fewer, sifted-twice}
 use Rattle.rivals.proofs.RivalLaws.{free-append}
-use Rattle.children.specs.OnRecords.{passing, survivorsOf}
+use Rattle.children.specs.Code.{passing, survivorsOf}
 
 -- the test of a rule's pass: all pass if the rule is off
 abbrev ruled : Bool → (Record → Bool) → Record → Bool

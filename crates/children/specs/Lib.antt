@@ -1,1 +1,1 @@
-pub mod OnRecords
+pub mod Code

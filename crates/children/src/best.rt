@@ -7,14 +7,14 @@ ghost use Prim.Native.Nat.{ℕ, _≤_};
 ghost use lib.ListN.{length, take};
 ghost use Rattle.lists.specs.Lists.{In};
 ghost use Rattle.search.specs.Step.{learn};
-ghost use Rattle.stops.specs.declared.node.Node.{Node as Record};
+ghost use Rattle.stops.specs.declared.node_record.Record.{Record};
 ghost use Rattle.orders.specs.Orders.{Order};
 ghost use Rattle.stops.specs.Legs.{legs};
-ghost use Rattle.records.specs.View.{records, encode};
+ghost use Rattle.records.specs.Code.{records, encode};
 ghost use Rattle.answer.specs.Answer.{given};
-ghost use Rattle.children.specs.OnRecords.{Table, IsBest, recProblem, Rows};
+ghost use Rattle.children.specs.Code.{Table, IsBest, recProblem, Rows};
 use records::load;
-use stops::node::Node;
+use stops::node_record::Record;
 use stops::table::leg;
 
 // The cost of the best order known, and its two words; the largest number and zeros if none is known.
@@ -25,7 +25,7 @@ pub struct Best {
 }
 
 // A complete node cheaper than U replaces U and its order; an equal one does not.
-fn better(best: Best, x: Node, n: u32) -> Best
+fn better(best: Best, x: Record, n: u32) -> Best
     ensures { λ r. ⌜ ((t : Table) (k : ℕ) (o : Option Record) → IsBest best o → IsBest r (learn (recProblem n t k) o (x ∷ []))) ⌝ }
 {
     if x.size != n {
@@ -71,7 +71,7 @@ pub fn started(t: [[u32; 17]; 17], n: u32, start: &[u8]) -> Best
             second: 0,
         };
     }
-    let mut x = Node::empty();
+    let mut x = Record::empty();
     let mut place = 0;
     let mut k = 0;
     while k < start.len() {

@@ -5,11 +5,10 @@ ghost use Prim.Native.Nat.{_-_, _≤_, _<_};
 ghost use lib.ListN.{length, take, drop};
 ghost use Rattle.search.specs.Step.{on};
 ghost use Rattle.stops.specs.Stops.{aboveEveryCost};
-ghost use Rattle.records.specs.View.{records};
-ghost use Rattle.records.specs.Passes.{Sifted, dropAt};
-ghost use Rattle.rivals.specs.Rivals.{AllNear, isFree};
-ghost use Rattle.passes.specs.Staying.{isWithin};
-ghost use Rattle.children.specs.OnRecords.{survivorsOf};
+ghost use Rattle.records.specs.Code.{records, Sifted, dropAt};
+ghost use Rattle.rivals.specs.Code.{AllNear, isFree};
+ghost use Rattle.passes.specs.Code.{isWithin};
+ghost use Rattle.children.specs.Code.{survivorsOf};
 use passes::within;
 use rivals::unrivalled;
 

@@ -11,12 +11,12 @@ use lib.Dec.{T}
 use lib.ListN.{length}
 use lib.Pow.{pow-mono}
 use Rattle.lists.proofs.Tests.{to-true}
-use Rattle.orders.specs.Orders.{set, size}
+use Rattle.orders.specs.Orders.{setOf, size}
 use Rattle.orders.proofs.Sets.{size-left}
 use Rattle.stops.specs.Legs.{Legs, rows, legs, path, last}
 use Rattle.stops.specs.Bounds.{boundBy}
-use Rattle.stops.specs.Record.{stopsIn, ahead, Within}
-use Rattle.stops.specs.declared.node.Node.{Node as Record}
+use Rattle.stops.specs.Code.{stopsIn, ahead, Within}
+use Rattle.stops.specs.declared.node_record.Record.{Record}
 use Rattle.stops.proofs.LegTable.{legs-within}
 use Rattle.stops.proofs.Bounds.{bound-ahead}
 use Rattle.records.specs.Records.{recordsIn}
@@ -25,7 +25,7 @@ use Rattle.answer.specs.Call.{callOf}
 use Rattle.answer.specs.Checks.{cause₆, jobCause}
 use Rattle.answer.proofs.Passes.{Passes, passes}
 use Rattle.answer.proofs.JobCause.{job-passes}
-use Rattle.inspection.specs.Numbers.{ofNumbers}
+use Rattle.inspection.specs.Code.{ofNumbers}
 use Rattle.node_answers.specs.Nodes.{flownStops, isRecordOf, isNode}
 use Rattle.node_answers.specs.Answers.{isInside, recordAt, found, noFigures, figuresBy, figures}
 use Rattle.node_answers.specs.declared.Found.{Found}

@@ -4,7 +4,7 @@ use mathlib.Core.Path.{_≡_, refl}
 use Prim.Native.Nat.{ℕ}
 use lib.ListN.{set}
 use Rattle.records.specs.Records.{stopAt}
-use Rattle.inspection.specs.Numbers.{ofNumbers}
+use Rattle.inspection.specs.Code.{ofNumbers}
 use Rattle.node_answers.specs.Nodes.{flownStops}
 use Rattle.node_answers.proofs.StopLaws.{stopOf}
 

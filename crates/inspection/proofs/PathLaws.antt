@@ -6,8 +6,8 @@ use lib.ListN.{length, take}
 use lib.Seq.{take-all, length-take-le}
 use Rattle.orders.specs.Orders.{extend}
 use Rattle.stops.specs.Legs.{Legs, path, last}
-use Rattle.stops.specs.Record.{Within}
-use Rattle.stops.specs.declared.node.Node.{Node as Record}
+use Rattle.stops.specs.Code.{Within}
+use Rattle.stops.specs.declared.node_record.Record.{Record}
 use Rattle.stops.proofs.Paths.{path-extend, last-extend, path-small}
 use Rattle.records.proofs.OrderWords.{stop-range}
 use Rattle.node_answers.specs.Nodes.{flownStops}

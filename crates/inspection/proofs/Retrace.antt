@@ -15,15 +15,15 @@ use Rattle.lists.proofs.Tests.{same-tests}
 use Rattle.lists.proofs.Members.{in-head, keep-in}
 use Rattle.lists.proofs.Empty.{no-members}
 use Rattle.lists.proofs.Distinct.{append-apart}
-use Rattle.orders.specs.Orders.{Node, stops, flown, set, left, size, extend, Partial}
+use Rattle.orders.specs.Orders.{Node, stops, flown, setOf, left, size, extend, Partial}
 use Rattle.orders.proofs.Sets.{stops-in, in-set, in-flown, flown-in, left-in, extend-child}
 use Rattle.orders.proofs.Partial.{partial-root, partial-size, partial-child}
 use Rattle.stops.specs.Legs.{Legs, path}
-use Rattle.stops.specs.Record.{stopsIn, emptyRecord, extended, Wide, Within}
+use Rattle.stops.specs.Code.{stopsIn, emptyRecord, extended, Wide, Within}
 use Rattle.stops.proofs.Paths.{path-small}
-use Rattle.stops.specs.declared.node.Node.{Node as Record}
+use Rattle.stops.specs.declared.node_record.Record.{Record}
 use Rattle.records.specs.Records.{mask, orderWord}
-use Rattle.records.specs.View.{encode}
+use Rattle.records.specs.Code.{encode}
 use Rattle.records.proofs.OrderWords.{stop-range}
 use Rattle.records.proofs.Mask.{stops-set}
 use Rattle.records.proofs.Encode.{unbounded, encode-extend, encode-wide}
@@ -38,15 +38,15 @@ free = record { leg = λ r s. 0; home = λ s. 0 }
 abbrev built : ℕ → Node → Record
 built n z = unbounded (encode n free 0 z)
 
-set-none : (n : ℕ) → set n [] ≡ []
+set-none : (n : ℕ) → setOf n [] ≡ []
 unfolding flown
-set-none n = no-members (set n []) (λ s m. in-set n [] s m .2)
+set-none n = no-members (setOf n []) (λ s m. in-set n [] s m .2)
 
 built-none : (n : ℕ) → emptyRecord ≡ built n []
 unfolding encode emptyRecord size mask path
 built-none n = rw (set-none n) refl
 
-built-set : (n : ℕ) (z : Node) → built n z .set ≡ mask (set n z)
+built-set : (n : ℕ) (z : Node) → built n z .set ≡ mask (setOf n z)
 unfolding encode
 built-set n z = refl
 
@@ -84,17 +84,17 @@ module _ {n : ℕ} {x w : Record} {k : ℕ} (r : Retraced n x w k) where
   z : Node
   z = take k y
 
-  set-same : w .set ≡ mask (set n z)
+  set-same : w .set ≡ mask (setOf n z)
   unfolding y z
   set-same = ap (λ (v : Record). v .set) (r .same) ∙ built-set n (take k (flownStops x))
 
   -- whether the set that is built holds a stop is whether it is flown
   held : (s : ℕ) → 1 ≤ s → s ≤ n → flown (stopsIn (w .set)) s ≡ flown z s
-  unfolding set
+  unfolding setOf
   held s h j =
       ap (λ (m : ℕ). flown (stopsIn m) s) set-same ∙ ap (λ (l : List ℕ). flown l s) (stops-set n (r .few) z)
-      ∙ same-tests (flown (set n z) s) (flown z s) (λ t. in-set n z s (flown-in (set n z) s t) .2)
-      (λ t. in-flown (set n z) s (keep-in (flown z) (stops n) s (stops-in n s h j) t))
+      ∙ same-tests (flown (setOf n z) s) (flown z s) (λ t. in-set n z s (flown-in (setOf n z) s t) .2)
+      (λ t. in-flown (setOf n z) s (keep-in (flown z) (stops n) s (stops-in n s h j) t))
 
   module _ (more : k < x .size) where
     inside : k < length (flownStops x)
@@ -156,7 +156,7 @@ module _ {n : ℕ} {x w : Record} {k : ℕ} (r : Retraced n x w k) where
 
     -- what is built has the set and the order of the stops
     numbers :
-        (w .set ≡ mask (set n (flownStops x))) × (w .first ≡ orderWord (take 8 (flownStops x)))
+        (w .set ≡ mask (setOf n (flownStops x))) × (w .first ≡ orderWord (take 8 (flownStops x)))
         × (w .second ≡ orderWord (drop 8 (flownStops x)))
     unfolding encode
     numbers = rw (r .same, all-stops) (refl, refl, refl)

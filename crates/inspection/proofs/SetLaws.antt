@@ -8,7 +8,7 @@ use borrow.Author.Tests.{ne-eqb, eq-eqb}
 use lib.Dec.{eqb}
 use Rattle.lists.specs.Lists.{put, any}
 use Rattle.orders.specs.Orders.{flown}
-use Rattle.stops.specs.Record.{bits, stopsIn}
+use Rattle.stops.specs.Code.{bits, stopsIn}
 
 -- the stops of digits whose first stands for s are none below s
 bits-below : (k s m r : ℕ) → r < s → any (eqb r) (bits k s m) ≡ false

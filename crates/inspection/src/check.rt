@@ -2,13 +2,13 @@
 ghost use mathlib.Core.Path.{_≡_};
 ghost use Prim.Native.Nat.{_≤_};
 ghost use Rattle.orders.specs.Orders.{flown};
-ghost use Rattle.stops.specs.Record.{stopsIn};
+ghost use Rattle.stops.specs.Code.{stopsIn};
 ghost use Rattle.node_answers.specs.Nodes.{isNode};
-ghost use Rattle.inspection.specs.Numbers.{ofNumbers};
+ghost use Rattle.inspection.specs.Code.{ofNumbers};
 ghost use Rattle.node_answers.specs.Answers.{verdict};
 use node_answers::Verdict;
 use records::order::stop_at;
-use stops::node::Node;
+use stops::node_record::Record;
 
 // Whether a set holds stop s.
 fn holds(set: u32, s: u32) -> bool
@@ -31,7 +31,7 @@ pub fn is_record(size: u32, set: u32, first: u32, second: u32, n: u32) -> bool
     if n < size {
         return false;
     }
-    let mut x = Node::empty();
+    let mut x = Record::empty();
     let mut k = 0;
     while k < size {
         let s = stop_at(first, second, k);

@@ -1,6 +1,6 @@
 // The order of a record: its stops, four bits each.
 ghost use mathlib.Core.Path.{_≡_};
-ghost use Rattle.inspection.specs.Numbers.{ofNumbers};
+ghost use Rattle.inspection.specs.Code.{ofNumbers};
 ghost use Rattle.node_answers.specs.Answers.{flownAt};
 use node_answers::Flown;
 use records::order::places;

@@ -13,7 +13,8 @@ use native.Mathlib.Omega.{arith}
 use lib.ListN.{length, getD, take, drop, length-drop}
 use lib.Seq.{length-take-le}
 use Rattle.records.specs.Records.{padded}
-use Rattle.answer.specs.Call.{Call, callOf, orderPlaces}
+use Rattle.sizes.specs.Sizes.{orderPlaces}
+use Rattle.answer.specs.Call.{Call, callOf}
 use Rattle.answer.specs.Checks.{cause₁, jobCause}
 use Rattle.job_format.specs.Job.{Job, callFor, trailerLength, area, startPlaceOf, fileLength}
 use Rattle.job_format.specs.Reader.{numbersIn, trailerFrom, jobBy, misplaced, refusal, readingBy}

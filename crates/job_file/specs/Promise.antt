@@ -5,7 +5,7 @@ use mathlib.Core.List.{List}
 use Prim.Native.Nat.{ℕ}
 use lib.ListN.{length, take}
 use Rattle.records.specs.Records.{padded}
-use Rattle.answer.specs.Call.{orderPlaces}
+use Rattle.sizes.specs.Sizes.{orderPlaces}
 use Rattle.job_format.specs.Job.{Job, area}
 use Rattle.job_format.specs.Reader.{Reading}
 use Rattle.job_format.specs.Writer.{Writing, write}

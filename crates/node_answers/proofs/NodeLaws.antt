@@ -8,9 +8,9 @@ use lib.ListN.{take, drop}
 use Rattle.lists.specs.Lists.{all, Distinct, none, more}
 use Rattle.lists.proofs.Tests.{and-left, and-right, and-both, to-false, equal-eqb}
 use Rattle.lists.proofs.Members.{all-in, in-all}
-use Rattle.orders.specs.Orders.{Node, stops, flown, set, size, Partial}
+use Rattle.orders.specs.Orders.{Node, stops, flown, setOf, size, Partial}
 use Rattle.orders.proofs.Sets.{in-stops, stops-in, in-flown, flown-in}
-use Rattle.stops.specs.declared.node.Node.{Node as Record}
+use Rattle.stops.specs.declared.node_record.Record.{Record}
 use Rattle.records.specs.Records.{mask, orderWord}
 use Rattle.node_answers.specs.Nodes.{flownStops, distinct, isRecordOf, isNode}
 use Rattle.node_answers.specs.Examples
@@ -33,7 +33,7 @@ pub record NodeRecord (n : ℕ) (x : Record) (y : Node) : Type 0 where
   pub few : n ≤ 16
   pub node : Partial n y
   pub size-is : x .size ≡ size n y
-  pub set-is : x .set ≡ mask (set n y)
+  pub set-is : x .set ≡ mask (setOf n y)
   pub first-is : x .first ≡ orderWord (take 8 y)
   pub second-is : x .second ≡ orderWord (drop 8 y)
 
@@ -64,7 +64,7 @@ module _ (n : ℕ) (x : Record) (y : Node) where
   tests-record h =
       let r : T (leb 1 n && leb n 16) = and-left (leb 1 n && leb n 16) (isRecordOf n x y) h in
       let (d, o, s, m, e, f) =
-      six-parts (distinct y) (all (flown (stops n)) y) (eqb (x .size) (size n y)) (eqb (x .set) (mask (set n y)))
+      six-parts (distinct y) (all (flown (stops n)) y) (eqb (x .size) (size n y)) (eqb (x .set) (mask (setOf n y)))
       (eqb (x .first) (orderWord (take 8 y))) (eqb (x .second) (orderWord (drop 8 y)))
       (and-right (leb 1 n && leb n 16) (isRecordOf n x y) h) in
       record {
@@ -72,7 +72,7 @@ module _ (n : ℕ) (x : Record) (y : Node) where
         few = leb→le n 16 (and-right (leb 1 n) (leb n 16) r);
         node = record { once = distinct-list y d; only = λ s i. in-stops n s (flown-in (stops n) s (all-in (flown (stops n)) y o s i)) };
         size-is = eqb→eq (x .size) (size n y) s;
-        set-is = eqb→eq (x .set) (mask (set n y)) m;
+        set-is = eqb→eq (x .set) (mask (setOf n y)) m;
         first-is = eqb→eq (x .first) (orderWord (take 8 y)) e;
         second-is = eqb→eq (x .second) (orderWord (drop 8 y)) f;
       }
@@ -81,11 +81,11 @@ module _ (n : ℕ) (x : Record) (y : Node) where
   unfolding isRecordOf
   record-tests r =
       and-both (leb 1 n && leb n 16) (isRecordOf n x y) (and-both (leb 1 n) (leb n 16) (le→leb 1 n (r .some)) (le→leb n 16 (r .few)))
-      (parts-six (distinct y) (all (flown (stops n)) y) (eqb (x .size) (size n y)) (eqb (x .set) (mask (set n y)))
+      (parts-six (distinct y) (all (flown (stops n)) y) (eqb (x .size) (size n y)) (eqb (x .set) (mask (setOf n y)))
       (eqb (x .first) (orderWord (take 8 y))) (eqb (x .second) (orderWord (drop 8 y)))
       (list-distinct (r .node .once))
       (in-all (flown (stops n)) y (λ s i. let h = r .node .only s i in in-flown (stops n) s (stops-in n s (h .0) (h .1))))
-      (equal-eqb (x .size) (size n y) (r .size-is)) (equal-eqb (x .set) (mask (set n y)) (r .set-is))
+      (equal-eqb (x .size) (size n y) (r .size-is)) (equal-eqb (x .set) (mask (setOf n y)) (r .set-is))
       (equal-eqb (x .first) (orderWord (take 8 y)) (r .first-is)) (equal-eqb (x .second) (orderWord (drop 8 y)) (r .second-is)))
 
 module _ (n : ℕ) (x : Record) where

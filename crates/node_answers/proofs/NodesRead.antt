@@ -10,8 +10,8 @@ use Rattle.orders.specs.Orders.{Node, size, Partial}
 use Rattle.orders.proofs.Sets.{size-left}
 use Rattle.orders.proofs.Partial.{partial-size}
 use Rattle.stops.specs.Legs.{Legs}
-use Rattle.stops.specs.declared.node.Node.{Node as Record}
-use Rattle.records.specs.View.{encode}
+use Rattle.stops.specs.declared.node_record.Record.{Record}
+use Rattle.records.specs.Code.{encode}
 use Rattle.records.proofs.OrderStops.{stops-read}
 use Rattle.records.proofs.Encode.{partial-digits}
 use Rattle.node_answers.specs.Nodes.{flownStops, isNode}

@@ -11,10 +11,11 @@ use lib.Dec.{ltb}
 use lib.ListN.{length, getD}
 use Rattle.stops.specs.Legs.{Legs, rows, legs, path}
 use Rattle.stops.specs.Bounds.{boundBy}
-use Rattle.stops.specs.Record.{emptyRecord}
-use Rattle.stops.specs.declared.node.Node.{Node as Record}
+use Rattle.stops.specs.Code.{emptyRecord}
+use Rattle.stops.specs.declared.node_record.Record.{Record}
 use Rattle.records.specs.Records.{padded}
-use Rattle.answer.specs.Call.{callOf, orderPlaces}
+use Rattle.sizes.specs.Sizes.{orderPlaces}
+use Rattle.answer.specs.Call.{callOf}
 use Rattle.answer.specs.Checks.{jobCause}
 use Rattle.node_answers.specs.Nodes.{flownStops, isNode}
 use Rattle.node_answers.specs.declared.Found.{Found}

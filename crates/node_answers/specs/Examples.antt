@@ -4,11 +4,11 @@ use mathlib.Core.Path.{_≡_, refl}
 use mathlib.Core.Bool.{true, false}
 use mathlib.Core.List.{List, [], _∷_, map}
 use Prim.Native.Nat.{ℕ}
-use Rattle.orders.specs.Orders.{flown, set, left, size, complete}
+use Rattle.orders.specs.Orders.{flown, setOf, left, size, complete}
 use Rattle.stops.specs.Legs.{entry, rows, rowLeg, legs, path, last, cost}
 use Rattle.stops.specs.Bounds.{plain, cheapestInto, remainder, close, boundBy}
-use Rattle.stops.specs.Record.{emptyRecord}
-use Rattle.stops.specs.declared.node.Node.{Node as Record}
+use Rattle.stops.specs.Code.{emptyRecord}
+use Rattle.stops.specs.declared.node_record.Record.{Record}
 use Rattle.records.specs.Records.{mask, stopAt, padded}
 use Rattle.answer.specs.Call.{callOf}
 use Rattle.answer.specs.Checks.{cause₁, cause₂, cause₃, cause₄, cause₅, jobCause}
@@ -17,7 +17,7 @@ use Rattle.node_answers.specs.Answers.{isInside, recordAt, found, verdic
 
 -- the record of 21: two stops, bits 0 and 1, path cost 7 + 8; stop 2 stands in the lowest four bits, stop 1 in the next
 twoOne : Record
-unfolding flown set left size complete entry rows rowLeg legs path last cost plain cheapestInto remainder close boundBy emptyRecord mask padded
+unfolding flown setOf left size complete entry rows rowLeg legs path last cost plain cheapestInto remainder close boundBy emptyRecord mask padded
     callOf cause₁ cause₂ cause₃ cause₄ cause₅ jobCause stopAt flownStops isRecordOf isNode isInside recordAt found verdict flownAt noFigures
     figuresBy figures
 twoOne = record { size = 2; set = 3; path = 15; bound = 15; first = 1; second = 0 }
@@ -26,8 +26,8 @@ twoOne = record { size = 2; set = 3; path = 15; bound = 15; first = 1; second = 
 tenStops : Record
 tenStops = record { size = 10; set = 1023; path = 10; bound = 10; first = 0x7654_3210; second = 152 }
 
-T : List ℕ
-T = 0 ∷ 4 ∷ 7 ∷ 9 ∷ 5 ∷ 0 ∷ 2 ∷ 6 ∷ 3 ∷ 8 ∷ 0 ∷ 1 ∷ 6 ∷ 5 ∷ 4 ∷ 0 ∷ []
+legsT : List ℕ
+legsT = 0 ∷ 4 ∷ 7 ∷ 9 ∷ 5 ∷ 0 ∷ 2 ∷ 6 ∷ 3 ∷ 8 ∷ 0 ∷ 1 ∷ 6 ∷ 5 ∷ 4 ∷ 0 ∷ []
 
 -- the stops in flown order
 stops-of-21 : flownStops twoOne ≡ 2 ∷ 1 ∷ []
@@ -96,32 +96,32 @@ unfolding twoOne
 verdicts = refl
 
 -- 21 in T: path cost 7 + 8; plain adds nothing; close adds the leg 1 to 3, 6, and the leg home from 3, 6
-figures-plain : figures true twoOne 3 T 0 ≡ record { inside = true; number = 0; node = true; path = 15; bound = 15 }
-unfolding twoOne T
+figures-plain : figures true twoOne 3 legsT 0 ≡ record { inside = true; number = 0; node = true; path = 15; bound = 15 }
+unfolding twoOne legsT
 figures-plain = refl
 
-figures-close : figures true twoOne 3 T 1 ≡ record { inside = true; number = 0; node = true; path = 15; bound = 27 }
-unfolding twoOne T
+figures-close : figures true twoOne 3 legsT 1 ≡ record { inside = true; number = 0; node = true; path = 15; bound = 27 }
+unfolding twoOne legsT
 figures-close = refl
 
 -- refused by 1, 2, 3 and 4: "number, zeros"
 refusals :
-    figures true twoOne 17 T 1 .number ∷ figures true twoOne 2 T 1 .number
-    ∷ figures true twoOne 1 (0 ∷ 1_000_001 ∷ 5 ∷ 0 ∷ []) 1 .number ∷ figures true twoOne 3 T 2 .number ∷ [] ≡ 1 ∷ 2 ∷ 3 ∷ 4 ∷ []
-unfolding twoOne T
+    figures true twoOne 17 legsT 1 .number ∷ figures true twoOne 2 legsT 1 .number
+    ∷ figures true twoOne 1 (0 ∷ 1_000_001 ∷ 5 ∷ 0 ∷ []) 1 .number ∷ figures true twoOne 3 legsT 2 .number ∷ [] ≡ 1 ∷ 2 ∷ 3 ∷ 4 ∷ []
+unfolding twoOne legsT
 refusals = refl
 
-refused-zeros : figures true twoOne 3 T 2 ≡ record { inside = true; number = 4; node = false; path = 0; bound = 0 }
-unfolding twoOne T
+refused-zeros : figures true twoOne 3 legsT 2 ≡ record { inside = true; number = 4; node = false; path = 0; bound = 0 }
+unfolding twoOne legsT
 refused-zeros = refl
 
 -- no figures for a record that is no node, and none past the end
 no-node-zeros :
-    figures true (record { size = 2; set = 5; path = 15; bound = 15; first = 1; second = 0 }) 3 T 0
+    figures true (record { size = 2; set = 5; path = 15; bound = 15; first = 1; second = 0 }) 3 legsT 0
     ≡ record { inside = true; number = 0; node = false; path = 0; bound = 0 }
-unfolding twoOne T
+unfolding twoOne legsT
 no-node-zeros = refl
 
-outside-zeros : figures false emptyRecord 3 T 0 ≡ record { inside = false; number = 0; node = false; path = 0; bound = 0 }
-unfolding twoOne T
+outside-zeros : figures false emptyRecord 3 legsT 0 ≡ record { inside = false; number = 0; node = false; path = 0; bound = 0 }
+unfolding twoOne legsT
 outside-zeros = refl

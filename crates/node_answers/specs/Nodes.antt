@@ -8,8 +8,8 @@ use Prim.Native.Nat.{ℕ, min}
 use lib.Dec.{leb, eqb}
 use lib.ListN.{take, drop}
 use Rattle.lists.specs.Lists.{all, from}
-use Rattle.orders.specs.Orders.{Node, stops, flown, set, size}
-use Rattle.stops.specs.declared.node.Node.{Node as Record}
+use Rattle.orders.specs.Orders.{Node, stops, flown, setOf, size}
+use Rattle.stops.specs.declared.node_record.Record.{Record}
 use Rattle.records.specs.Records.{mask, orderWord, stopAt}
 
 -- as many as the size says, of the sixteen that the two numbers have bits for
@@ -26,7 +26,7 @@ distinct (s ∷ x) = not (flown x s) && distinct x
 unfoldable pub isRecordOf : ℕ → Record → Node → Bool
 isRecordOf n x y =
     distinct y && all (flown (stops n)) y
-    && eqb (x .size) (size n y) && eqb (x .set) (mask (set n y))
+    && eqb (x .size) (size n y) && eqb (x .set) (mask (setOf n y))
     && eqb (x .first) (orderWord (take 8 y)) && eqb (x .second) (orderWord (drop 8 y))
 
 -- "n is 1 to 16"

@@ -1,12 +1,12 @@
 // What the functions over node records answer: their structs, and as definitions which records are nodes and what each function answers
 // (specs/); the records that pass are just those of nodes (proofs/). No function.
-use stops::node::Node;
+use stops::node_record::Record;
 
 // Record i; zeros where it is not inside.
 #[repr(C)]
 pub struct Found {
     pub inside: bool,
-    pub node: Node,
+    pub node: Record,
 }
 
 // Whether record i is a node.

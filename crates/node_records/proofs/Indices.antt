@@ -7,8 +7,8 @@ use native.Mathlib.Omega.{arith}
 use lib.Dec.{T, ltb, nltb→le}
 use lib.ListN.{length, getD}
 use Rattle.lists.proofs.Tests.{to-true, to-false}
-use Rattle.stops.specs.Record.{emptyRecord}
-use Rattle.stops.specs.declared.node.Node.{Node as Record}
+use Rattle.stops.specs.Code.{emptyRecord}
+use Rattle.stops.specs.declared.node_record.Record.{Record}
 use Rattle.node_answers.specs.Answers.{isInside, recordAt, found}
 
 -- the byte offset of record i fits, and so does that of every record

@@ -32,9 +32,9 @@ use denote.Triple.Statement.{Contract, Triple}
 use denote.Triple.Call.{calls-at}
 use denote.Triple.Spec.{tripleOf}
 use denote.Triple.Clauses.{ensured, lasts}
-use Rattle.stops.specs.declared.node.Node.{Node as Record}
-use Rattle.stops.proofs.node.Node as T
-use Rattle.stops.proofs.node.Node.Laws as T′
+use Rattle.stops.specs.declared.node_record.Record.{Record}
+use Rattle.stops.proofs.node_record.Record as T
+use Rattle.stops.proofs.node_record.Record.Laws as T′
 use Rattle.node_answers.specs.declared.Found.{Found}
 use Rattle.node_answers.specs.Answers.{found}
 use Rattle.node_records.proofs.Walk.{hears, own-usize}

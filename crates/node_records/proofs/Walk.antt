@@ -26,9 +26,9 @@ use denote.Plain.{Boolean, uint-makes, bool-makes}
 use denote.Builtin.{u32, usize}
 use denote.Steps.{owned, peeks, heard}
 use denote.Struct.Laws as LL
-use Rattle.stops.specs.declared.node.Node.{Node as Record}
-use Rattle.stops.proofs.node.Node as T
-use Rattle.stops.proofs.node.Node.Laws as T′
+use Rattle.stops.specs.declared.node_record.Record.{Record}
+use Rattle.stops.proofs.node_record.Record as T
+use Rattle.stops.proofs.node_record.Record.Laws as T′
 
 -- ---- a record's machine value
 abbrev pub val : Record → Val

@@ -1,4 +1,4 @@
-// Node records in a run that a host holds: thin functions over `&[Node]` and `&mut [Node]`, open to a host. Their answers are those of crate
+// Node records in a run that a host holds: thin functions over `&[Record]` and `&mut [Record]`, open to a host. Their answers are those of crate
 // `node_answers`. Those that inspect a record take it apart and call a covered function of crate `inspection` on its numbers, which carries
 // the meaning. Nothing is asked of the arguments: an index past the end gives an answer that says so, and changes nothing.
 ghost use mathlib.Core.Path.{_≡_};
@@ -11,10 +11,10 @@ use node_answers::Figures;
 use node_answers::Flown;
 use node_answers::Found;
 use node_answers::Verdict;
-use stops::node::Node;
+use stops::node_record::Record;
 
 // Reads record i.
-pub fn read(pool: &[Node], i: usize) -> Found
+pub fn read(pool: &[Record], i: usize) -> Found
     ensures { λ r. ⌜ r ≡ found (now (pool .entry)) i ⌝ }
 {
     if i < pool.len() {
@@ -25,7 +25,7 @@ pub fn read(pool: &[Node], i: usize) -> Found
     }
     Found {
         inside: false,
-        node: Node {
+        node: Record {
             size: 0,
             set: 0,
             path: 0,
@@ -37,7 +37,7 @@ pub fn read(pool: &[Node], i: usize) -> Found
 }
 
 // Writes record i; whether there is one.
-pub fn write(pool: &mut [Node], i: usize, x: Node) -> bool
+pub fn write(pool: &mut [Record], i: usize, x: Record) -> bool
     ensures { λ r. ⌜ (r ≡ isInside (now (pool .entry)) i) × (now (pool .exit) ≡ set (now (pool .entry)) i x) ⌝ }
 {
     if i < pool.len() {
@@ -48,7 +48,7 @@ pub fn write(pool: &mut [Node], i: usize, x: Node) -> bool
 }
 
 // Whether record i is a node at all, for n stops.
-pub fn is_node(pool: &[Node], i: usize, n: u32) -> Verdict
+pub fn is_node(pool: &[Record], i: usize, n: u32) -> Verdict
     ensures { λ r. ⌜ r ≡ verdict (isInside (now (pool .entry)) i) (recordAt (now (pool .entry)) i) n ⌝ }
 {
     let r = read(pool, i);
@@ -63,7 +63,7 @@ pub fn is_node(pool: &[Node], i: usize, n: u32) -> Verdict
 }
 
 // The stops of record i in flown order.
-pub fn stops(pool: &[Node], i: usize) -> Flown
+pub fn stops(pool: &[Record], i: usize) -> Flown
     ensures { λ r. ⌜ r ≡ flownAt (isInside (now (pool .entry)) i) (recordAt (now (pool .entry)) i) ⌝ }
 {
     let r = read(pool, i);
@@ -71,7 +71,7 @@ pub fn stops(pool: &[Node], i: usize) -> Flown
 }
 
 // The path cost of record i and its bound by a number, against a table of n stops.
-pub fn costs(pool: &[Node], i: usize, n: u32, table: &[u32], bound: u32) -> Figures
+pub fn costs(pool: &[Record], i: usize, n: u32, table: &[u32], bound: u32) -> Figures
     ensures { λ r. ⌜ r ≡ figures (isInside (now (pool .entry)) i) (recordAt (now (pool .entry)) i) n (now (table .entry)) bound ⌝ }
 {
     let r = read(pool, i);

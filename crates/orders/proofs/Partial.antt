@@ -13,7 +13,7 @@ use Rattle.lists.proofs.Empty.{no-members}
 use Rattle.lists.proofs.Distinct.{distinct-append, append-apart}
 use Rattle.search.specs.Problem.{Problem}
 use Rattle.search.proofs.Laws.{Leads, stay, down}
-use Rattle.orders.specs.Orders.{Partial, Node, flown, set, left, size, extend, children}
+use Rattle.orders.specs.Orders.{Partial, Node, flown, setOf, left, size, extend, children}
 use Rattle.orders.proofs.Sets.{in-flown, flown-in, in-set, in-left, left-in, size-extend, child-extends, extend-child}
 
 pub partial-root : (n : ℕ) → Partial n []
@@ -57,7 +57,7 @@ module _ (n : ℕ) (Q : Node → Type 0) (root : Q []) (step : (x : Node) (s : �
 -- sizes
 size-root : (n : ℕ) → size n [] ≡ 0
 unfolding size flown
-size-root n = ap length (no-members (set n []) (λ s m. in-set n [] s m .2))
+size-root n = ap length (no-members (setOf n []) (λ s m. in-set n [] s m .2))
 
 pub partial-size : (n : ℕ) (x : Node) → Partial n x → size n x ≡ length x
 partial-size n =

@@ -15,7 +15,7 @@ use Rattle.lists.proofs.Empty.{no-members}
 use Rattle.lists.proofs.Numbers.{keep-parts}
 use Rattle.lists.proofs.Keep.{keep-same, keep-keep, any-append}
 use Rattle.lists.proofs.Distinct.{length-without}
-use Rattle.orders.specs.Orders.{Node, stops, flown, set, left, size, extend, children}
+use Rattle.orders.specs.Orders.{Node, stops, flown, setOf, left, size, extend, children}
 
 -- the stops 1 to n
 pub in-stops : (n s : ℕ) → In s (stops n) → (1 ≤ s) × (s ≤ n)
@@ -38,16 +38,16 @@ unfolding flown
 flown-append x y s = any-append (eqb s) x y
 
 -- set and left
-pub in-set : (n : ℕ) (x : Node) (s : ℕ) → In s (set n x) → (1 ≤ s) × (s ≤ n) × T (flown x s)
-unfolding set
+pub in-set : (n : ℕ) (x : Node) (s : ℕ) → In s (setOf n x) → (1 ≤ s) × (s ≤ n) × T (flown x s)
+unfolding setOf
 in-set n x s m = let (i, f) = in-keep (flown x) (stops n) s m in let h = in-stops n s i in (h .0, h .1, f)
 
-pub empty-set : (n : ℕ) → set n [] ≡ []
+pub empty-set : (n : ℕ) → setOf n [] ≡ []
 unfolding flown
-empty-set n = no-members (set n []) (λ s m. in-set n [] s m .2)
+empty-set n = no-members (setOf n []) (λ s m. in-set n [] s m .2)
 
-set-in : (n : ℕ) (x : Node) (s : ℕ) → 1 ≤ s → s ≤ n → T (flown x s) → In s (set n x)
-unfolding set
+set-in : (n : ℕ) (x : Node) (s : ℕ) → 1 ≤ s → s ≤ n → T (flown x s) → In s (setOf n x)
+unfolding setOf
 set-in n x s h k f = keep-in (flown x) (stops n) s (stops-in n s h k) f
 
 pub in-left : (n : ℕ) (x : Node) (s : ℕ) → In s (left n x) → (1 ≤ s) × (s ≤ n) × T (not (flown x s))
@@ -63,7 +63,7 @@ unfolding left
 distinct-left n x = distinct-keep (λ r. not (flown x r)) (distinct-from 1 n)
 
 pub size-left : (n : ℕ) (x : Node) → size n x + length (left n x) ≡ n
-unfolding size set left
+unfolding size setOf left
 size-left n x = keep-parts (flown x) (stops n) ∙ length-from 1 n
 
 -- one more stop
@@ -103,23 +103,23 @@ unfolding children
 extend-child n x s m = map-in (extend x) m
 
 -- nodes of one set
-set-same-flown : (n : ℕ) (w x : Node) → set n w ≡ set n x → (s : ℕ) → 1 ≤ s → s ≤ n → flown w s ≡ flown x s
+set-same-flown : (n : ℕ) (w x : Node) → setOf n w ≡ setOf n x → (s : ℕ) → 1 ≤ s → s ≤ n → flown w s ≡ flown x s
 set-same-flown n w x e s h k = same-tests (flown w s) (flown x s) (go w x e) (go x w (sym e))
   where
-    go : (w x : Node) → set n w ≡ set n x → T (flown w s) → T (flown x s)
+    go : (w x : Node) → setOf n w ≡ setOf n x → T (flown w s) → T (flown x s)
     go w x e f = in-set n x s (subst (λ (l : List ℕ). In s l) e (set-in n w s h k f)) .2
 
-flown-same-set : (n : ℕ) (w x : Node) → ((s : ℕ) → 1 ≤ s → s ≤ n → flown w s ≡ flown x s) → set n w ≡ set n x
-unfolding set
+flown-same-set : (n : ℕ) (w x : Node) → ((s : ℕ) → 1 ≤ s → s ≤ n → flown w s ≡ flown x s) → setOf n w ≡ setOf n x
+unfolding setOf
 flown-same-set n w x f = keep-same (flown w) (flown x) (stops n) (λ s m. let h = in-stops n s m in f s (h .0) (h .1))
 
-pub set-same-left : (n : ℕ) (w x : Node) → set n w ≡ set n x → left n w ≡ left n x
+pub set-same-left : (n : ℕ) (w x : Node) → setOf n w ≡ setOf n x → left n w ≡ left n x
 unfolding left
 set-same-left n w x e =
     keep-same (λ s. not (flown w s)) (λ s. not (flown x s)) (stops n)
     (λ s m. let h = in-stops n s m in ap not (set-same-flown n w x e s (h .0) (h .1)))
 
-pub set-extend-same : (n : ℕ) (w x : Node) (s : ℕ) → set n w ≡ set n x → set n (extend w s) ≡ set n (extend x s)
+pub set-extend-same : (n : ℕ) (w x : Node) (s : ℕ) → setOf n w ≡ setOf n x → setOf n (extend w s) ≡ setOf n (extend x s)
 set-extend-same n w x s e = flown-same-set n (extend w s) (extend x s) (λ r h k. go r (set-same-flown n w x e r h k))
   where
     go : (r : ℕ) → flown w r ≡ flown x r → flown (extend w s) r ≡ flown (extend x s) r

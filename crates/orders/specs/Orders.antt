@@ -20,15 +20,15 @@ unfoldable pub flown : Node → ℕ → Bool
 flown x s = any (eqb s) x
 
 -- the set of x: the stops of 1 to n that it flies, ascending; and those that it leaves
-unfoldable pub set : ℕ → Node → List ℕ
-set n x = keep (flown x) (stops n)
+unfoldable pub setOf : ℕ → Node → List ℕ
+setOf n x = keep (flown x) (stops n)
 
 unfoldable pub left : ℕ → Node → List ℕ
 left n x = keep (λ s. not (flown x s)) (stops n)
 
 -- "A node's size is the number of stops in its set." "A node of size n is complete."
 unfoldable pub size : ℕ → Node → ℕ
-size n x = length (set n x)
+size n x = length (setOf n x)
 
 unfoldable pub complete : ℕ → Node → Bool
 complete n x = eqb (size n x) n

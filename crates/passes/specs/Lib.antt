@@ -1,1 +1,1 @@
-pub mod Staying
+pub mod Code

@@ -7,16 +7,15 @@ ghost use lib.Dec.{ltb};
 ghost use lib.ListN.{length, take};
 ghost use lib.Seq.{slice};
 ghost use Rattle.lists.specs.Lists.{keep, any};
-ghost use Rattle.stops.specs.Record.{recDominates};
-ghost use Rattle.records.specs.View.{records};
-ghost use Rattle.records.specs.Passes.{Sifted, RunsTo, always};
-ghost use Rattle.passes.specs.Staying.{isWithin, isStaying, isSuspect};
-ghost use Rattle.rivals.specs.Rivals.{AllNear};
+ghost use Rattle.stops.specs.Code.{recDominates};
+ghost use Rattle.records.specs.Code.{records, Sifted, RunsTo, always};
+ghost use Rattle.passes.specs.Code.{isWithin, isStaying, isSuspect};
+ghost use Rattle.rivals.specs.Code.{AllNear};
 use records::load;
 use records::store;
 use rivals::beats;
 use rivals::near;
-use stops::node::Node;
+use stops::node_record::Record;
 
 // Rule 1 on children: keeps those of the first m whose bound is at most limit.
 pub fn within(kids: &mut [u32], m: usize, limit: u32) -> usize
@@ -37,7 +36,7 @@ pub fn within(kids: &mut [u32], m: usize, limit: u32) -> usize
 }
 
 // Whether none of the first r kids dominates x.
-fn unbeaten(x: Node, kids: &[u32], r: usize) -> bool
+fn unbeaten(x: Record, kids: &[u32], r: usize) -> bool
     requires { ⌜ r ≤ length (records (now kids)) ⌝ }
     ensures { λ b. ⌜ b ≡ not (any (λ y. recDominates y x) (take r (records (now (kids .entry))))) ⌝ }
 {
@@ -52,7 +51,7 @@ fn unbeaten(x: Node, kids: &[u32], r: usize) -> bool
 }
 
 // Whether x stays active: its bound is at most limit, and none of the first r kids, which are all near base, dominates it.
-fn stays(x: Node, limit: u32, size: u32, base: u32, kids: &[u32], r: usize) -> bool
+fn stays(x: Record, limit: u32, size: u32, base: u32, kids: &[u32], r: usize) -> bool
     requires { ⌜ (r ≤ length (records (now kids))) × AllNear size base (take r (records (now kids))) ⌝ }
     ensures { λ b. ⌜ b ≡ isStaying limit (take r (records (now (kids .entry)))) x ⌝ }
 {
@@ -91,7 +90,7 @@ pub fn staying(
 }
 
 // Whether x can be one that goes: its bound is above limit, or it is near base.
-fn suspect(x: Node, limit: u32, size: u32, base: u32) -> bool
+fn suspect(x: Record, limit: u32, size: u32, base: u32) -> bool
     ensures { λ b. ⌜ b ≡ isSuspect limit size base x ⌝ }
 {
     if x.bound > limit {

@@ -12,7 +12,9 @@ use native.Mathlib.Omega.{arith}
 use lib.ListN.{length, take, replicate, length-append}
 use borrow.Author.Tests.{lt-ltb, le-ltb}
 use Rattle.records.specs.Records.{padded}
-use Rattle.answer.specs.Call.{Report, Answer, callOf, orderPlaces}
+use Rattle.sizes.specs.Sizes.{orderPlaces}
+use Rattle.answer.specs.Call.{Answer, callOf}
+use Rattle.answer.specs.declared.Report.{Report}
 use Rattle.answer.specs.Answer.{answer}
 use Rattle.job_format.specs.Job.{Job, area, longest}
 use Rattle.job_format.specs.Reader.{read}

@@ -4,7 +4,7 @@ use mathlib.Core.List.{List}
 use Prim.Native.Nat.{ℕ, zero, suc, _*_}
 use lib.Dec.{ltb}
 use lib.ListN.{length, replicate}
-use Rattle.records.specs.Records.{recordWords}
+use Rattle.sizes.specs.Sizes.{recordWords}
 use Rattle.answer.specs.Call.{Call, callOf}
 use Rattle.answer.specs.Answer.{answer}
 use Rattle.job_format.specs.Job.{Job, longest}

@@ -7,7 +7,8 @@ use native.Mathlib.Omega.{arith}
 use lib.ListN.{length}
 use borrow.Author.Tests.{eq-eqb, ne-eqb}
 use Rattle.records.specs.Records.{recordsIn}
-use Rattle.answer.specs.Call.{Call, Report, Answer, refusal}
+use Rattle.answer.specs.Call.{Call, Answer, refusal}
+use Rattle.answer.specs.declared.Report.{Report}
 use Rattle.answer.specs.Checks.{cause₆, orLater, cause}
 use Rattle.answer.specs.Answer.{outcome, ending, respond, answer}
 

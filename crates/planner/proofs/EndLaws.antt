@@ -21,20 +21,22 @@ use Rattle.orders.specs.Orders.{Node}
 use Rattle.orders.proofs.Order.{order-complete}
 use Rattle.stops.specs.Legs.{legs, rows, cost}
 use Rattle.stops.specs.Stops.{problem, choices}
-use Rattle.stops.specs.Record.{emptyRecord}
-use Rattle.stops.specs.declared.node.Node.{Node as Record}
+use Rattle.stops.specs.Code.{emptyRecord}
+use Rattle.stops.specs.declared.node_record.Record.{Record}
 use Rattle.stops.proofs.Bounds.{bound-exact}
 use Rattle.records.specs.Records.{padded, poolWords, recordsIn, orderWord, stopAt}
-use Rattle.records.specs.View.{records, encode}
+use Rattle.records.specs.Code.{records, encode}
 use Rattle.records.proofs.ViewLaws.{length-records}
 use Rattle.records.proofs.OrderStops.{order-stops}
 use Rattle.records.proofs.PoolWords.{pool-words}
-use Rattle.answer.specs.Call.{Call, Report, orderPlaces}
+use Rattle.sizes.specs.Sizes.{orderPlaces}
+use Rattle.answer.specs.Call.{Call}
+use Rattle.answer.specs.declared.Report.{Report}
 use Rattle.answer.specs.Checks.{cause}
 use Rattle.answer.specs.Answer.{legsOf, problemOf, choicesOf, outcome, StateOf, stopsOf, reportWith, wordsOf, ending, respond, answer}
-use Rattle.children.specs.OnRecords.{Table, IsBest}
-use Rattle.step.specs.Stepping.{farOf, Shown}
-use Rattle.planner.specs.Turns.{Running, Turned, recordsOf}
+use Rattle.children.specs.Code.{Table, IsBest}
+use Rattle.step.specs.Code.{farOf, Shown}
+use Rattle.planner.specs.Code.{Running, Turned, recordsOf}
 use Rattle.step.specs.declared.Run.{Run}
 use Rattle.planner.specs.declared.run.Turn.the-variants.{Finish, Full}
 use Rattle.answer.proofs.Passes.{passes}

@@ -3,7 +3,8 @@
 use mathlib.Core.Path.{_≡_, sym, _∙_, ap, subst}
 use mathlib.Core.List.{List}
 use Prim.Native.Nat.{ℕ, _+_}
-use Rattle.answer.specs.Call.{Call, Report, Answer}
+use Rattle.answer.specs.Call.{Call, Answer}
+use Rattle.answer.specs.declared.Report.{Report}
 use Rattle.answer.specs.Checks.{cause}
 use Rattle.answer.specs.Answer.{answer}
 use Rattle.planner.specs.Promise.{reportOf, Promised}

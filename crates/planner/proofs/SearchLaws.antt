@@ -19,15 +19,15 @@ use Rattle.orders.specs.Orders.{Node, size, nodes}
 use Rattle.orders.proofs.Partial.{partial-root, partial-size}
 use Rattle.stops.specs.Legs.{legs, rows}
 use Rattle.stops.specs.Stops.{problem, choices}
-use Rattle.stops.specs.Record.{Within}
+use Rattle.stops.specs.Code.{Within}
 use Rattle.stops.proofs.Instance.{stops-weigh}
-use Rattle.records.specs.View.{records, encode}
+use Rattle.records.specs.Code.{records, encode}
 use Rattle.records.proofs.ViewLaws.{length-records}
 use Rattle.answer.specs.Call.{Call}
 use Rattle.answer.specs.Answer.{legsOf, given}
-use Rattle.children.specs.OnRecords.{Table, Rows}
-use Rattle.step.specs.Stepping.{Shown}
-use Rattle.planner.specs.Turns.{Running, Turned, recordsOf}
+use Rattle.children.specs.Code.{Table, Rows}
+use Rattle.step.specs.Code.{Shown}
+use Rattle.planner.specs.Code.{Running, Turned, recordsOf}
 use Rattle.step.specs.declared.Run.{Run}
 use Rattle.planner.specs.declared.run.Turn.the-variants.{Go}
 use Rattle.answer.proofs.Passes.{Passes}

@@ -23,15 +23,15 @@ use Rattle.orders.specs.Orders.{Partial, Order}
 use Rattle.orders.proofs.Order.{order-complete, order-leads}
 use Rattle.stops.specs.Legs.{Legs, legs}
 use Rattle.stops.specs.Bounds.{boundBy}
-use Rattle.stops.specs.Record.{emptyRecord, stopsIn, ahead}
+use Rattle.stops.specs.Code.{emptyRecord, stopsIn, ahead}
 use Rattle.stops.specs.Stops.{problem}
-use Rattle.stops.specs.declared.node.Node.{Node as Record}
+use Rattle.stops.specs.declared.node_record.Record.{Record}
 use Rattle.stops.proofs.Instance.{tree-lawful, bound-lawful, stops-solvable}
-use Rattle.records.specs.View.{records, encode}
+use Rattle.records.specs.Code.{records, encode}
 use Rattle.answer.specs.Answer.{given}
-use Rattle.children.specs.OnRecords.{Table, bounded, rootOf, IsBest, Rows}
-use Rattle.step.specs.Stepping.{farOf, Shown}
-use Rattle.planner.specs.Turns.{recordsOf}
+use Rattle.children.specs.Code.{Table, bounded, rootOf, IsBest, Rows}
+use Rattle.step.specs.Code.{farOf, Shown}
+use Rattle.planner.specs.Code.{recordsOf}
 use Rattle.children.specs.declared.best.Best.{Best}
 use Rattle.children.proofs.RecordRun.{encode-root}
 

@@ -33,17 +33,16 @@ use Rattle.search.proofs.MappedRun.{next-maps, steps-valid, start-valid}
 use Rattle.orders.specs.Orders.{Node, Partial, size, nodes}
 use Rattle.stops.specs.Legs.{legs}
 use Rattle.stops.specs.Bounds.{boundBy}
-use Rattle.stops.specs.Record.{emptyRecord}
+use Rattle.stops.specs.Code.{emptyRecord}
 use Rattle.stops.specs.Stops.{problem, choices}
-use Rattle.stops.specs.declared.node.Node.{Node as Record}
+use Rattle.stops.specs.declared.node_record.Record.{Record}
 use Rattle.stops.proofs.Instance.{tree-lawful, bound-lawful, stops-weigh, stops-solvable}
-use Rattle.records.specs.View.{records, encode}
-use Rattle.selection.specs.Choosing.{Chosen}
-use Rattle.records.specs.Passes.{dropAt}
+use Rattle.records.specs.Code.{records, encode, dropAt}
+use Rattle.selection.specs.Code.{Chosen}
 use Rattle.answer.specs.Answer.{given}
-use Rattle.children.specs.OnRecords.{Table, recProblem, recChoices, Encoded}
-use Rattle.step.specs.Stepping.{Ready, Shown, stepOf, Stepping}
-use Rattle.planner.specs.Turns.{recordsOf, Running, Turned}
+use Rattle.children.specs.Code.{Table, recProblem, recChoices, Encoded}
+use Rattle.step.specs.Code.{Ready, Shown, stepOf, Stepping}
+use Rattle.planner.specs.Code.{recordsOf, Running, Turned}
 use Rattle.step.specs.declared.Run.{Run}
 use Rattle.step.specs.declared.After.the-variants.{Full as FullAfter, Go as GoAfter}
 use Rattle.planner.specs.declared.run.Turn.the-variants.{Finish, Full, Go}

@@ -2,7 +2,8 @@
 use mathlib.Core.Path.{_≡_}
 use mathlib.Core.List.{List}
 use Prim.Native.Nat.{ℕ}
-use Rattle.answer.specs.Call.{Call, Report, Answer}
+use Rattle.answer.specs.Call.{Call, Answer}
+use Rattle.answer.specs.declared.Report.{Report}
 use Rattle.answer.specs.Answer.{answer}
 use Rattle.planner.specs.declared.run.Report.{Report as Returned}
 

@@ -1,5 +1,5 @@
 // The planner: `plan` is open to a caller; every other function is public for this crate alone, and what it requires its callers meet.
-// specs/Answer of crate `answer` says what `plan` answers; specs/Turns is the code's own.
+// specs/Answer of crate `answer` says what `plan` answers; specs/Code is the code's own.
 ghost use mathlib.Core.Path.{_≡_};
 ghost use Rattle.answer.specs.Call.{callOf};
 ghost use Rattle.answer.specs.Checks.{cause};

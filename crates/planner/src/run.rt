@@ -7,16 +7,16 @@ ghost use Prim.Native.Nat.{ℕ, _≤_, _<_};
 ghost use lib.Dec.{leb, eqb};
 ghost use lib.ListN.{length};
 ghost use Rattle.search.specs.Problem.{State, start};
-ghost use Rattle.orders.specs.Orders.{Node as Order-node, Order};
+ghost use Rattle.orders.specs.Orders.{Node, Order};
 ghost use Rattle.stops.specs.Legs.{legs};
 ghost use Rattle.stops.specs.Stops.{problem};
-ghost use Rattle.records.specs.View.{records};
+ghost use Rattle.records.specs.Code.{records};
 ghost use Rattle.answer.specs.Call.{callOf, refusal};
 ghost use Rattle.answer.specs.Checks.{cause};
 ghost use Rattle.answer.specs.Answer.{given, outcome, ending};
-ghost use Rattle.children.specs.OnRecords.{Rows};
-ghost use Rattle.step.specs.Stepping.{Shown};
-ghost use Rattle.planner.specs.Turns.{Running, Turned, recordsOf};
+ghost use Rattle.children.specs.Code.{Rows};
+ghost use Rattle.step.specs.Code.{Shown};
+ghost use Rattle.planner.specs.Code.{Running, Turned, recordsOf};
 ghost use Rattle.planner.specs.Promise.{reportOf};
 use children::best::started;
 use pool::settle::settle;
@@ -29,7 +29,7 @@ use step::After;
 use step::Run;
 use step::step;
 use stops::bound::ahead;
-use stops::node::Node;
+use stops::node_record::Record;
 use stops::table::rows;
 
 // What a call answers.
@@ -53,7 +53,7 @@ pub enum Turn {
 }
 
 // The finish test, on the chosen node.
-fn finishes(n: u32, selection: u32, b: Node, upper: u32, active: usize) -> bool
+fn finishes(n: u32, selection: u32, b: Record, upper: u32, active: usize) -> bool
     requires { ⌜ selection ≤ 3 ⌝ }
     ensures { λ r. ⌜ r ≡ (leb upper (b .bound) && (not (eqb selection 2 || eqb selection 3) || eqb active 1) || eqb (b .size) n) ⌝ }
 {
@@ -79,8 +79,8 @@ fn take_turn(
     w: &mut [u32],
     r: Run,
 ) -> Turn
-    requires { ⌜ ((first : List ℕ) × (s : State Order-node) × Running n t selection rules number first (now w) r s) ⌝ }
-    ensures { λ q. ⌜ ((first : List ℕ) (s : State Order-node) → Running n t selection rules number first (now (w .entry)) r s → Turned n t selection rules number (now (w .entry)) (now (w .exit)) s q) ⌝ }
+    requires { ⌜ ((first : List ℕ) × (s : State Node) × Running n t selection rules number first (now w) r s) ⌝ }
+    ensures { λ q. ⌜ ((first : List ℕ) (s : State Node) → Running n t selection rules number first (now (w .entry)) r s → Turned n t selection rules number (now (w .entry)) (now (w .exit)) s q) ⌝ }
 {
     let a = r.active;
     let place = choose(w, a, n, selection);
@@ -105,7 +105,7 @@ fn begun(t: [[u32; 17]; 17], n: u32, number: u32, start: &[u8], w: &mut [u32]) -
     ensures { λ r. ⌜ ((rules : ℕ) → Shown rules (now (w .exit)) r (recordsOf n t number (Rattle.search.specs.Problem.start (problem n (legs t)) (given (now (start .entry)))))) ⌝ }
 {
     let best = started(t, n, start);
-    let mut e = Node::empty();
+    let mut e = Record::empty();
     e.bound = ahead(&t, number, 0, (1u32 << n) - 1);
     store(w, 0, e);
     Run {

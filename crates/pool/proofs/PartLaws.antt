@@ -10,9 +10,8 @@ use native.Mathlib.Omega.{arith}
 use lib.ListN.{length, getD, take, drop, set, length-drop}
 use lib.Seq.{take-all, drop-length, drop-drop, getD-drop, paste, paste-suc, length-paste, drop-paste}
 use borrow.Rule.Slice.PartMut.{midOf, putMid, post-is}
-use Rattle.stops.specs.declared.node.Node.{Node as Record}
-use Rattle.records.specs.View.{records}
-use Rattle.records.specs.Passes.{Sifted, always}
+use Rattle.stops.specs.declared.node_record.Record.{Record}
+use Rattle.records.specs.Code.{records, Sifted, always}
 use Rattle.records.proofs.ViewLaws.{length-records, records-drop, records-join}
 use Rattle.records.proofs.SiftLaws.{taken-out}
 

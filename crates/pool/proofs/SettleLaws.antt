@@ -9,9 +9,9 @@ use native.Mathlib.Omega.{arith}
 use lib.ListN.{length, getD, set, take, drop, replicate, length-set, length-append, length-reverse, take-append-drop, drop-of-length-le}
 use lib.Seq.{slice, length-slice, slice-cons, take-all, take-append-le, drop-at, length-take-le, take-take, take-suc, take-suc-set, take-set-le, take-set-lt, drop-set-lt, drop-cons, drop-append-le, getD-set-same}
 use Rattle.lists.specs.Lists.{keep}
-use Rattle.stops.specs.Record.{emptyRecord}
-use Rattle.stops.specs.declared.node.Node.{Node as Record}
-use Rattle.records.specs.Passes.{Sifted, always}
+use Rattle.stops.specs.Code.{emptyRecord}
+use Rattle.stops.specs.declared.node_record.Record.{Record}
+use Rattle.records.specs.Code.{Sifted, always}
 
 module _ {A : Type 0} where
   -- the list with its elements from i to j in reverse order

@@ -3,8 +3,7 @@ ghost use mathlib.Core.Path.{_≡_};
 ghost use mathlib.Core.List.{_++_};
 ghost use Prim.Native.Nat.{_+_, _-_, _≤_, _<_};
 ghost use lib.ListN.{length, take, drop};
-ghost use Rattle.records.specs.View.{records};
-ghost use Rattle.records.specs.Passes.{Sifted, always};
+ghost use Rattle.records.specs.Code.{records, Sifted, always};
 use records::load;
 use records::store;
 

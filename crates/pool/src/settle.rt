@@ -5,12 +5,12 @@ ghost use mathlib.Core.List.{_++_, reverse};
 ghost use Prim.Native.Nat.{_+_, _-_, _≤_};
 ghost use lib.ListN.{length, take, drop, replicate};
 ghost use lib.Seq.{slice};
-ghost use Rattle.stops.specs.Record.{emptyRecord};
-ghost use Rattle.records.specs.View.{records};
+ghost use Rattle.stops.specs.Code.{emptyRecord};
+ghost use Rattle.records.specs.Code.{records};
 use passes::slide;
 use records::load;
 use records::store;
-use stops::node::Node;
+use stops::node_record::Record;
 
 // Turns the records from `from` to `to` around.
 fn turn(w: &mut [u32], from: usize, to: usize)
@@ -36,7 +36,7 @@ fn clear(w: &mut [u32], count: usize, from: usize)
 {
     let mut k = from;
     while k < count {
-        store(w, k, Node::empty());
+        store(w, k, Record::empty());
         k += 1;
     }
 }

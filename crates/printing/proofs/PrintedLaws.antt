@@ -9,7 +9,8 @@ use mathlib.Core.Logic.{_≢_}
 use Prim.Native.Nat.{ℕ, zero, suc, min}
 use native.Mathlib.Omega.{arith}
 use lib.ListN.{length, take}
-use Rattle.answer.specs.Call.{Report, orderPlaces}
+use Rattle.sizes.specs.Sizes.{orderPlaces}
+use Rattle.answer.specs.declared.Report.{Report}
 use Rattle.report_format.specs.Printed.{refusedLine, sevenLines, printedBy, printed}
 use Rattle.printing.specs.Code.{answerLines, countLines}
 

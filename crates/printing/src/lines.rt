@@ -2,7 +2,7 @@
 ghost use mathlib.Core.Path.{_≡_};
 ghost use Prim.Native.Nat.{_+_, _*_, _≤_};
 ghost use lib.ListN.{length};
-ghost use Rattle.answer.specs.Call.{orderPlaces};
+ghost use Rattle.sizes.specs.Sizes.{orderPlaces};
 ghost use Rattle.planner.specs.Promise.{reportOf};
 ghost use Rattle.report_format.specs.Text.{ascii, numbered, line};
 ghost use Rattle.report_format.specs.Printed.{sevenLines};

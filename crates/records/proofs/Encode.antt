@@ -18,16 +18,16 @@ use lib.ListN.{length, getD, take, drop}
 use Rattle.lists.specs.Lists.{In}
 use Rattle.lists.proofs.Tests.{ordered}
 use Rattle.lists.proofs.Empty.{in-nonempty}
-use Rattle.orders.specs.Orders.{Node, set, left, size, extend}
+use Rattle.orders.specs.Orders.{Node, setOf, left, size, extend}
 use Rattle.orders.proofs.Sets.{in-left, size-left}
 use Rattle.orders.specs.Orders.{Partial}
 use Rattle.orders.proofs.Partial.{partial-size}
 use Rattle.stops.specs.Legs.{Legs, lastFrom, path, last}
-use Rattle.stops.specs.Record.{extended, lastStop, Wide}
-use Rattle.stops.specs.declared.node.Node.{Node as Record}
+use Rattle.stops.specs.Code.{extended, lastStop, Wide}
+use Rattle.stops.specs.declared.node_record.Record.{Record}
 use Rattle.stops.proofs.Paths.{path-extend}
 use Rattle.records.specs.Records.{orderWord, record-of}
-use Rattle.records.specs.View.{six, encode}
+use Rattle.records.specs.Code.{six, encode}
 use Rattle.records.proofs.Mask.{set-small, ones-set, mask-extend}
 use Rattle.records.proofs.OrderWords.{Digits, first-digit, second-digit, first-below, second-below, first-extend, second-extend}
 

@@ -10,25 +10,25 @@ use native.Mathlib.Omega.{arith}
 use lib.Dec.{T, leb, eqb, leb→le, le→leb, eqb→eq, T-not, not-T}
 use Rattle.lists.specs.Lists.{In}
 use Rattle.lists.proofs.Tests.{and-left, and-right, and-both, same-tests, equal-eqb}
-use Rattle.orders.specs.Orders.{Node, set, left, size, extend}
+use Rattle.orders.specs.Orders.{Node, setOf, left, size, extend}
 use Rattle.orders.specs.Orders.{Partial}
 use Rattle.orders.proofs.Partial.{partial-size}
 use Rattle.stops.specs.Legs.{Legs, path, last}
 use Rattle.stops.specs.Bounds.{boundBy, same, dominates}
-use Rattle.stops.specs.Record.{stopsIn, lastStop, recDominates, ahead}
-use Rattle.stops.specs.declared.node.Node.{Node as Record}
+use Rattle.stops.specs.Code.{stopsIn, lastStop, recDominates, ahead}
+use Rattle.stops.specs.declared.node_record.Record.{Record}
 use Rattle.stops.proofs.Paths.{last-extend}
 use Rattle.stops.proofs.Bounds.{bound-ahead}
 use Rattle.stops.proofs.Alike.{Alike, and-parts, parts-and, same-refl, dominator-alike, alike-dominates, alike-size}
 use Rattle.records.specs.Records.{mask}
-use Rattle.records.specs.View.{encode}
+use Rattle.records.specs.Code.{encode}
 use Rattle.records.proofs.OrderWords.{orders-equal}
 use Rattle.records.proofs.Mask.{stops-set, stops-child}
 use Rattle.records.proofs.Encode.{partial-digits, encode-last}
 
 pub encode-child :
     (n : ℕ) → n ≤ 16 → (L : Legs) (k : ℕ) → k ≤ 1 → (x : Node) (s : ℕ) → In s (left n x)
-    → boundBy k n L (extend x s) ≡ path L (extend x s) + ahead k L s (stopsIn (2 ^ n - 1 - mask (set n x) - 2 ^ (s - 1)))
+    → boundBy k n L (extend x s) ≡ path L (extend x s) + ahead k L s (stopsIn (2 ^ n - 1 - mask (setOf n x) - 2 ^ (s - 1)))
 encode-child n few L k h x s m =
     rw (stops-child n few x s m, bound-ahead k h n L (extend x s), last-extend x s) refl
 
@@ -36,7 +36,7 @@ encode-child n few L k h x s m =
 dominator-differs : (n : ℕ) (L : Legs) (w x : Node) → T (dominates n L w x) → w ≡ x → ⊥
 unfolding dominates
 dominator-differs n L w x t e =
-    let (d, s, l, c) = and-parts (not (same w x)) (same (set n w) (set n x)) (eqb (last w) (last x)) (leb (path L w) (path L x)) t in
+    let (d, s, l, c) = and-parts (not (same w x)) (same (setOf n w) (setOf n x)) (eqb (last w) (last x)) (leb (path L w) (path L x)) t in
     T-not (same w x) d (rw e (same-refl x))
 
 -- the tests of dominance on records: those that a node like x passes, and whether the order words are the same

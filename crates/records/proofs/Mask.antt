@@ -13,22 +13,22 @@ use lib.ListN.{length}
 use lib.Pow.{pow-pos, pow-mono}
 use Rattle.lists.specs.Lists.{In}
 use Rattle.lists.proofs.Distinct.{sum-without}
-use Rattle.orders.specs.Orders.{Node, flown, set, left, size, extend}
+use Rattle.orders.specs.Orders.{Node, flown, setOf, left, size, extend}
 use Rattle.orders.proofs.Sets.{distinct-left, left-extend}
-use Rattle.stops.specs.Record.{stopsIn}
+use Rattle.stops.specs.Code.{stopsIn}
 use Rattle.stops.proofs.SetBits.{stopsIn-ones, stopsIn-mask, stopsIn-others, mask-small, mask-others}
 use Rattle.records.specs.Records.{mask}
 use Rattle.records.specs.Examples
 
-pub mask-stops : (n : ℕ) (x : Node) → mask (set n x) + mask (left n x) ≡ 2 ^ n - 1
-unfolding mask set left
+pub mask-stops : (n : ℕ) (x : Node) → mask (setOf n x) + mask (left n x) ≡ 2 ^ n - 1
+unfolding mask setOf left
 mask-stops n x = omega (arith, mask-small (flown x) n, mask-others (flown x) n)
 
 mask-leave : (n : ℕ) (x : Node) (s : ℕ) → In s (left n x) → mask (left n x) ≡ 2 ^ (s - 1) + mask (left n (extend x s))
 unfolding mask
 mask-leave n x s m = rw (left-extend n x s) (sum-without (λ r. 2 ^ (r - 1)) s (distinct-left n x) m)
 
-pub mask-extend : (n : ℕ) (x : Node) (s : ℕ) → In s (left n x) → mask (set n (extend x s)) ≡ mask (set n x) + 2 ^ (s - 1)
+pub mask-extend : (n : ℕ) (x : Node) (s : ℕ) → In s (left n x) → mask (setOf n (extend x s)) ≡ mask (setOf n x) + 2 ^ (s - 1)
 mask-extend n x s m = omega (arith, mask-stops n x, mask-stops n (extend x s), mask-leave n x s m)
 
 -- the stops that any set leaves fit 16 bits
@@ -36,25 +36,25 @@ pub rest-small : (n : ℕ) → n ≤ 16 → (m : ℕ) → 2 ^ n - 1 - m < 2 ^ 16
 rest-small n few m = omega (arith, pow-pos n, pow-mono {i = n} {j = 16} few)
 
 module _ (n : ℕ) (few : n ≤ 16) (x : Node) where
-  pub set-small : mask (set n x) < 2 ^ 16
+  pub set-small : mask (setOf n x) < 2 ^ 16
   set-small = omega (arith, mask-stops n x, pow-pos n, pow-mono {i = n} {j = 16} few)
 
-  pub stops-set : stopsIn (mask (set n x)) ≡ set n x
-  unfolding mask set
+  pub stops-set : stopsIn (mask (setOf n x)) ≡ setOf n x
+  unfolding mask setOf
   stops-set = stopsIn-mask (flown x) n few
 
-  pub stops-left : stopsIn (2 ^ n - 1 - mask (set n x)) ≡ left n x
-  unfolding mask set left
+  pub stops-left : stopsIn (2 ^ n - 1 - mask (setOf n x)) ≡ left n x
+  unfolding mask setOf left
   stops-left = stopsIn-others (flown x) n few
 
-  pub rest-left : (m : ℕ) → m ≡ mask (set n x) → stopsIn (2 ^ n - 1 - m) ≡ left n x
+  pub rest-left : (m : ℕ) → m ≡ mask (setOf n x) → stopsIn (2 ^ n - 1 - m) ≡ left n x
   rest-left m e = ap (λ (k : ℕ). stopsIn (2 ^ n - 1 - k)) e ∙ stops-left
 
-  pub ones-set : ones (mask (set n x)) ≡ size n x
+  pub ones-set : ones (mask (setOf n x)) ≡ size n x
   unfolding size
-  ones-set = stopsIn-ones (mask (set n x)) set-small ∙ ap length stops-set
+  ones-set = stopsIn-ones (mask (setOf n x)) set-small ∙ ap length stops-set
 
 pub stops-child :
     (n : ℕ) → n ≤ 16 → (x : Node) (s : ℕ) → In s (left n x)
-    → stopsIn (2 ^ n - 1 - mask (set n x) - 2 ^ (s - 1)) ≡ left n (extend x s)
+    → stopsIn (2 ^ n - 1 - mask (setOf n x) - 2 ^ (s - 1)) ≡ left n (extend x s)
 stops-child n few x s m = ap stopsIn (omega (arith, mask-extend n x s m)) ∙ stops-left n few (extend x s)

@@ -13,10 +13,10 @@ use lib.ListN.{length, replicate, length-map, replicate-append-replicate}
 use Rattle.lists.specs.Lists.{each}
 use Rattle.orders.specs.Orders.{Node}
 use Rattle.stops.specs.Legs.{Legs}
-use Rattle.stops.specs.Record.{emptyRecord}
-use Rattle.stops.specs.declared.node.Node.{Node as Record}
+use Rattle.stops.specs.Code.{emptyRecord}
+use Rattle.stops.specs.declared.node_record.Record.{Record}
 use Rattle.records.specs.Records.{record-of, padded}
-use Rattle.records.specs.View.{records, six, words, encode}
+use Rattle.records.specs.Code.{records, six, words, encode}
 use Rattle.records.proofs.ViewLaws.{length-records, words-records}
 use Rattle.records.proofs.Encode.{record-of-encode}
 

@@ -18,10 +18,10 @@ use Rattle.lists.specs.Lists.{In, put, keep}
 use Rattle.lists.proofs.Keep.{keep-same, keep-all, keep-keep}
 use Rattle.lists.proofs.Numbers.{keep-parts}
 use Rattle.lists.proofs.Tests.{ordered}
-use Rattle.stops.specs.Record.{emptyRecord}
-use Rattle.stops.specs.declared.node.Node.{Node as Record}
+use Rattle.stops.specs.Code.{emptyRecord}
+use Rattle.stops.specs.declared.node_record.Record.{Record}
 use Rattle.records.proofs.SliceLaws.{keep-append, keep-slice-more, slice-join, drop-further, slice-further, AllSo}
-use Rattle.records.specs.Passes.{Sifted, always}
+use Rattle.records.specs.Code.{Sifted, always}
 
 -- At most as many records are stored as are read, and the first is stored at or before the first read, so e is at most `to`
 -- (`sifted-within`). So a store at e changes no record that is still to be read, and those before e stay the ones kept so far.

@@ -10,9 +10,9 @@ use native.Mathlib.Omega.{arith}
 use lib.ListN.{length, getD, take, drop, set, length-drop, drop-of-length-le}
 use lib.Seq.{sets, sets-eq, set-split, drop-drop, getD-drop}
 use Rattle.lists.specs.Lists.{In}
-use Rattle.stops.specs.Record.{emptyRecord}
-use Rattle.stops.specs.declared.node.Node.{Node as Record}
-use Rattle.records.specs.View.{records, six, words}
+use Rattle.stops.specs.Code.{emptyRecord}
+use Rattle.stops.specs.declared.node_record.Record.{Record}
+use Rattle.records.specs.Code.{records, six, words}
 
 by-sixes :
     (P : List ℕ → Type 0) → ((w : List ℕ) → length w < 6 → P w) → ((a b c d e f : ℕ) (w : List ℕ) → P w → P (a ∷ b ∷ c ∷ d ∷ e ∷ f ∷ w))

@@ -1,4 +1,3 @@
 pub mod Records
 pub mod Examples
-pub mod View
-pub mod Passes
+pub mod Code

@@ -1,22 +1,22 @@
 // Node records: a record's six numbers and the pool's words for a state are document 01's (specs/Records); words are seen as a list of
-// records (specs/View), and one is read and written here; `order` reads the stops of an order. The functions are public for the crates above
+// records (specs/Code), and one is read and written here; `order` reads the stops of an order. The functions are public for the crates above
 // and not for hosts; what they require, those crates meet.
 ghost use mathlib.Core.Path.{_≡_};
 ghost use Prim.Native.Nat.{_<_};
 ghost use lib.ListN.{length, getD, set};
-ghost use Rattle.stops.specs.Record.{emptyRecord};
-ghost use Rattle.records.specs.View.{records};
+ghost use Rattle.stops.specs.Code.{emptyRecord};
+ghost use Rattle.records.specs.Code.{records};
 
 pub mod order;
 
-use stops::node::Node;
+use stops::node_record::Record;
 
-pub fn load(w: &[u32], i: usize) -> Node
+pub fn load(w: &[u32], i: usize) -> Record
     requires { ⌜ i < length (records (now w)) ⌝ }
     ensures { λ r. ⌜ r ≡ getD (records (now (w .entry))) i emptyRecord ⌝ }
 {
     let at = 6 * i;
-    Node {
+    Record {
         size: w[at],
         set: w[at + 1],
         path: w[at + 2],
@@ -26,7 +26,7 @@ pub fn load(w: &[u32], i: usize) -> Node
     }
 }
 
-pub fn store(w: &mut [u32], i: usize, x: Node)
+pub fn store(w: &mut [u32], i: usize, x: Record)
     requires { ⌜ i < length (records (now w)) ⌝ }
     ensures { λ r. ⌜ records (now (w .exit)) ≡ set (records (now (w .entry))) i x ⌝ }
 {

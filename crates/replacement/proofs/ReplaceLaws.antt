@@ -13,11 +13,11 @@ use lib.Seq.{slice, length-slice, length-take-le, take-take, paste, take-paste, 
 use Rattle.lists.specs.Lists.{keep}
 use Rattle.lists.proofs.Keep.{keep-all}
 use Rattle.lists.proofs.Numbers.{keep-parts}
-use Rattle.stops.specs.declared.node.Node.{Node as Record}
-use Rattle.records.specs.Passes.{Sifted, dropAt, always}
-use Rattle.passes.specs.Staying.{isStaying}
+use Rattle.stops.specs.declared.node_record.Record.{Record}
+use Rattle.records.specs.Code.{Sifted, dropAt, always}
+use Rattle.passes.specs.Code.{isStaying}
 use Rattle.records.proofs.SliceLaws.{keep-append, drop-further, slice-further}
-use Rattle.replacement.specs.Active.{Active, stayingOf}
+use Rattle.replacement.specs.Code.{Active, stayingOf}
 
 -- those to keep, in place of the first a of recs, stand at the front of recs′, e in number; the records from a on are as before
 pub record Gathered (kept recs : List Record) (a : ℕ) (recs′ : List Record) (e : ℕ) : Type 0 where

@@ -1,1 +1,1 @@
-pub mod Active
+pub mod Code

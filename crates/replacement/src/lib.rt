@@ -1,4 +1,4 @@
-// Parts 6 and 7 of a step: which active records stay, whether the nodes to keep fit the pool, and the pool afterwards. specs/Active has
+// Parts 6 and 7 of a step: which active records stay, whether the nodes to keep fit the pool, and the pool afterwards. specs/Code has
 // what the functions compute. They are public for the crate above and not for hosts; what they require, that crate meets.
 ghost use mathlib.Core.Path.{_≡_};
 ghost use mathlib.Core.Bool.{not, cond, _&&_};
@@ -7,15 +7,14 @@ ghost use Prim.Native.Nat.{ℕ, _+_, _-_, _^_, _≤_, _<_};
 ghost use lib.Dec.{T, leb, ltb, eqb};
 ghost use lib.ListN.{length, take, drop};
 ghost use Rattle.search.specs.Step.{on};
-ghost use Rattle.records.specs.View.{records};
-ghost use Rattle.records.specs.Passes.{dropAt};
-ghost use Rattle.replacement.specs.Active.{Active, stayingOf, heldWith};
+ghost use Rattle.records.specs.Code.{records, dropAt};
+ghost use Rattle.replacement.specs.Code.{Active, stayingOf, heldWith};
 use passes::sift;
 use passes::staying;
 use pool::part::take_out;
 use pool::part::write_at;
 use records::store;
-use stops::node::Node;
+use stops::node_record::Record;
 
 // How many children take part in rule 8.
 pub fn taking_of(rules: u32, left: usize) -> usize
@@ -140,7 +139,7 @@ pub fn replace(
 }
 
 // The branched node joins those at the far end, if the pool holds them.
-pub fn hold(w: &mut [u32], count: usize, held: usize, b: Node)
+pub fn hold(w: &mut [u32], count: usize, held: usize, b: Record)
     requires { ⌜ (count ≡ length (records (now w))) × (held ≤ count) ⌝ }
     ensures { λ u. ⌜ records (now (w .exit)) ≡ heldWith (records (now (w .entry))) count held b ⌝ }
 {

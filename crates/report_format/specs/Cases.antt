@@ -1,7 +1,8 @@
 -- Small cases of text, and document 01's case l. Assumes nothing.
 use mathlib.Core.Path.{_≡_, refl}
 use mathlib.Core.List.{[], _∷_}
-use Rattle.answer.specs.Call.{Report, refusal}
+use Rattle.answer.specs.Call.{refusal}
+use Rattle.answer.specs.declared.Report.{Report}
 use Rattle.report_format.specs.Text.{ascii, decimal, numbered, line}
 use Rattle.report_format.specs.Printed.{refusedLine, sevenLines, printedBy, printed}
 

@@ -2,7 +2,7 @@
 use mathlib.Core.List.{List, [], _∷_, _++_}
 use Prim.Native.Nat.{ℕ, zero, suc}
 use lib.ListN.{take}
-use Rattle.answer.specs.Call.{Report}
+use Rattle.answer.specs.declared.Report.{Report}
 use Rattle.report_format.specs.Text.{line}
 
 -- "A refusal prints one line, `refused` and the number."

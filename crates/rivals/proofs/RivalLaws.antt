@@ -18,10 +18,10 @@ use Rattle.lists.specs.Lists.{In, put, keep, any}
 use Rattle.lists.proofs.Keep.{any-append}
 use Rattle.lists.proofs.Tests.{same-tests, to-false, and-left, and-right, and-both, compared}
 use Rattle.lists.proofs.Members.{in-keep, keep-in, any-in, in-any}
-use Rattle.stops.specs.Record.{emptyRecord, recDominates}
-use Rattle.stops.specs.declared.node.Node.{Node as Record}
-use Rattle.records.specs.Passes.{Sifted}
-use Rattle.rivals.specs.Rivals.{isFree, near, AllNear, Gathering}
+use Rattle.stops.specs.Code.{emptyRecord, recDominates}
+use Rattle.stops.specs.declared.node_record.Record.{Record}
+use Rattle.records.specs.Code.{Sifted}
+use Rattle.rivals.specs.Code.{isFree, near, AllNear, Gathering}
 use Rattle.records.proofs.SliceLaws.{keep-append, keep-slice-more, slice-join, AllSo}
 use Rattle.records.proofs.SiftLaws.{sifted-all, sifted-none, sifted-twice, sifted-same}
 

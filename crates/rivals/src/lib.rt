@@ -7,16 +7,15 @@ ghost use lib.Dec.{leb};
 ghost use lib.ListN.{length, getD, take};
 ghost use lib.Seq.{slice};
 ghost use Rattle.lists.specs.Lists.{any};
-ghost use Rattle.stops.specs.Record.{emptyRecord, recDominates};
-ghost use Rattle.records.specs.View.{records};
-ghost use Rattle.records.specs.Passes.{Sifted, RunsTo};
-ghost use Rattle.rivals.specs.Rivals.{isFree, near, AllNear, Gathering};
+ghost use Rattle.stops.specs.Code.{emptyRecord, recDominates};
+ghost use Rattle.records.specs.Code.{records, Sifted, RunsTo};
+ghost use Rattle.rivals.specs.Code.{isFree, near, AllNear, Gathering};
 use records::load;
 use records::store;
-use stops::node::Node;
+use stops::node_record::Record;
 
 // Whether record i dominates x. Sets are compared before anything else is read.
-pub fn beats(w: &[u32], i: usize, x: Node) -> bool
+pub fn beats(w: &[u32], i: usize, x: Record) -> bool
     requires { ⌜ i < length (records (now w)) ⌝ }
     ensures { λ r. ⌜ r ≡ recDominates (getD (records (now (w .entry))) i emptyRecord) x ⌝ }
 {
@@ -27,7 +26,7 @@ pub fn beats(w: &[u32], i: usize, x: Node) -> bool
 }
 
 // Whether record i has a bound up to limit and dominates x.
-fn rival(w: &[u32], i: usize, x: Node, limit: u32) -> bool
+fn rival(w: &[u32], i: usize, x: Record, limit: u32) -> bool
     requires { ⌜ i < length (records (now w)) ⌝ }
     ensures { λ r. ⌜ r ≡ (leb (getD (records (now (w .entry))) i emptyRecord .bound) limit && recDominates (getD (records (now (w .entry))) i emptyRecord) x) ⌝ }
 {
@@ -62,7 +61,7 @@ fn undominated(kids: &mut [u32], m: usize, w: &[u32], from: usize, to: usize, li
 
 // Whether a record has some size and its set holds every stop of base. Size and set are tested as one number, since they stand side by
 // side and which of the two fails follows no pattern.
-pub fn near(x: Node, size: u32, base: u32) -> bool
+pub fn near(x: Record, size: u32, base: u32) -> bool
     ensures { λ r. ⌜ r ≡ near size base x ⌝ }
 {
     let high = base as u64 * 4294967296;

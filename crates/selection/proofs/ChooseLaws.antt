@@ -27,11 +27,10 @@ use Rattle.search.specs.Selection.{Choice, nothing, chosen}
 use Rattle.search.proofs.General.{beats, prefer, against, pick}
 use Rattle.search.proofs.Pick.{picked-of}
 use Rattle.search.proofs.PlainSelection.{select-is-pick, lateBy, rankBy}
-use Rattle.stops.specs.Record.{emptyRecord}
-use Rattle.stops.specs.declared.node.Node.{Node as Record}
-use Rattle.records.specs.View.{records}
-use Rattle.selection.specs.Choosing.{Chosen, Ahead, NextAhead, boundAt, isBelow}
-use Rattle.records.specs.Passes.{dropAt, RunsTo}
+use Rattle.stops.specs.Code.{emptyRecord}
+use Rattle.stops.specs.declared.node_record.Record.{Record}
+use Rattle.records.specs.Code.{records, dropAt, RunsTo}
+use Rattle.selection.specs.Code.{Chosen, Ahead, NextAhead, boundAt, isBelow}
 use Rattle.records.proofs.ViewLaws.{records-at}
 use Rattle.records.proofs.SliceLaws.{all-so-each}
 

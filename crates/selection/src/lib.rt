@@ -5,10 +5,9 @@ ghost use Prim.Native.Nat.{ℕ, _+_, _≤_, _<_};
 ghost use lib.ListN.{length, getD, take};
 ghost use lib.Seq.{slice};
 ghost use Rattle.lists.specs.Lists.{any};
-ghost use Rattle.stops.specs.Record.{emptyRecord};
-ghost use Rattle.records.specs.View.{records};
-ghost use Rattle.records.specs.Passes.{RunsTo};
-ghost use Rattle.selection.specs.Choosing.{Chose, Chosen, NextAhead, boundAt, isBelow};
+ghost use Rattle.stops.specs.Code.{emptyRecord};
+ghost use Rattle.records.specs.Code.{records, RunsTo};
+ghost use Rattle.selection.specs.Code.{Chose, Chosen, NextAhead, boundAt, isBelow};
 
 // Where the chosen node stands, or the number of a refusal.
 pub enum Place {

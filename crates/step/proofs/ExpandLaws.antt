@@ -7,14 +7,13 @@ use Prim.Native.Nat.{ℕ, _-_, _/_, _≤_}
 use native.Mathlib.Omega.{arith}
 use lib.ListN.{length, take, drop, length-map}
 use Rattle.search.specs.Step.{on, learn}
-use Rattle.stops.specs.Record.{stopsIn}
-use Rattle.stops.specs.declared.node.Node.{Node as Record}
+use Rattle.stops.specs.Code.{stopsIn}
+use Rattle.stops.specs.declared.node_record.Record.{Record}
 use Rattle.stops.proofs.SetBits.{stopsIn-few}
-use Rattle.records.specs.View.{records}
-use Rattle.records.specs.Passes.{dropAt}
+use Rattle.records.specs.Code.{records, dropAt}
 use Rattle.records.proofs.ViewLaws.{length-records}
-use Rattle.children.specs.OnRecords.{Table, Rows, Encoded, restOf, childOf, childrenOf, recProblem, IsBest, survivorsOf}
-use Rattle.step.specs.Stepping.{Ready, Expansion}
+use Rattle.children.specs.Code.{Table, Rows, Encoded, restOf, childOf, childrenOf, recProblem, IsBest, survivorsOf}
+use Rattle.step.specs.Code.{Ready, Expansion}
 use Rattle.children.specs.declared.best.Best.{Best}
 use Rattle.step.specs.declared.Run.{Run}
 use Rattle.records.proofs.Mask.{rest-small}

@@ -11,13 +11,12 @@ use lib.Seq.{take-set-le, drop-cons, drop-set-lt, getD-set-same}
 use borrow.Author.Tests.{ne-eqb}
 use Rattle.search.specs.Problem.{State}
 use Rattle.search.specs.Step.{on, children₁, best₂, active₇, step}
-use Rattle.stops.specs.Record.{emptyRecord}
-use Rattle.stops.specs.declared.node.Node.{Node as Record}
-use Rattle.records.specs.View.{records}
-use Rattle.records.specs.Passes.{dropAt}
-use Rattle.children.specs.OnRecords.{Table, recProblem}
-use Rattle.replacement.specs.Active.{stayingOf, heldWith}
-use Rattle.step.specs.Stepping.{farOf, Ready, Shown, stepOf}
+use Rattle.stops.specs.Code.{emptyRecord}
+use Rattle.stops.specs.declared.node_record.Record.{Record}
+use Rattle.records.specs.Code.{records, dropAt}
+use Rattle.children.specs.Code.{Table, recProblem}
+use Rattle.replacement.specs.Code.{stayingOf, heldWith}
+use Rattle.step.specs.Code.{farOf, Ready, Shown, stepOf}
 use Rattle.children.specs.declared.best.Best.{Best}
 use Rattle.step.specs.declared.Run.{Run}
 use Rattle.step.proofs.StepLaws.{Bounded, eliminated-are}

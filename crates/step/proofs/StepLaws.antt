@@ -16,13 +16,13 @@ use Rattle.lists.proofs.Keep.{keep-same, keep-keep, keep-all, any-append}
 use Rattle.lists.proofs.Numbers.{keep-parts}
 use Rattle.search.specs.Problem.{Problem, Choices, State, upper}
 use Rattle.search.specs.Step.{on, children₁, best₂, over₃, children₃, rest₃, dominated₄, children₄, dominated₅, children₅, dominated₆, rest₆, step}
-use Rattle.stops.specs.Record.{recDominates}
+use Rattle.stops.specs.Code.{recDominates}
 use Rattle.stops.specs.Stops.{aboveEveryCost}
-use Rattle.stops.specs.declared.node.Node.{Node as Record}
-use Rattle.passes.specs.Staying.{isWithin, isStaying}
-use Rattle.rivals.specs.Rivals.{isFree}
-use Rattle.children.specs.OnRecords.{Table, recProblem, recChoices, childrenOf, survivorsOf, passing}
-use Rattle.step.specs.Stepping.{farOf}
+use Rattle.stops.specs.declared.node_record.Record.{Record}
+use Rattle.passes.specs.Code.{isWithin, isStaying}
+use Rattle.rivals.specs.Code.{isFree}
+use Rattle.children.specs.Code.{Table, recProblem, recChoices, childrenOf, survivorsOf, passing}
+use Rattle.step.specs.Code.{farOf}
 
 -- any over a part, and over a list turned around
 any-keep : {A : Type 0} (p q : A → Bool) (xs : List A) → any p (keep q xs) ≡ any (λ x. q x && p x) xs

@@ -20,13 +20,12 @@ use Rattle.search.specs.Problem.{State, upper}
 use Rattle.search.specs.Step.{on, learn, children₁, best₂, children₅, rest₆, active₇, step}
 use Rattle.search.specs.Run.{held, withBranched}
 use Rattle.stops.specs.Stops.{aboveEveryCost}
-use Rattle.stops.specs.declared.node.Node.{Node as Record}
-use Rattle.records.specs.View.{records}
-use Rattle.records.specs.Passes.{dropAt}
-use Rattle.passes.specs.Staying.{isStaying}
-use Rattle.children.specs.OnRecords.{Table, recProblem, recChoices, childrenOf, survivorsOf, IsBest}
-use Rattle.replacement.specs.Active.{stayingOf}
-use Rattle.step.specs.Stepping.{farOf, Ready, Shown, Expansion, stepOf}
+use Rattle.stops.specs.declared.node_record.Record.{Record}
+use Rattle.records.specs.Code.{records, dropAt}
+use Rattle.passes.specs.Code.{isStaying}
+use Rattle.children.specs.Code.{Table, recProblem, recChoices, childrenOf, survivorsOf, IsBest}
+use Rattle.replacement.specs.Code.{stayingOf}
+use Rattle.step.specs.Code.{farOf, Ready, Shown, Expansion, stepOf}
 use Rattle.children.specs.declared.best.Best.{Best}
 use Rattle.step.specs.declared.Run.{Run}
 use Rattle.step.proofs.StepLaws.{Bounded, survivors-are, staying-are}

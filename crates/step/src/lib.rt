@@ -1,13 +1,13 @@
-// One step of a run on the pool's records: its seven parts, of crates `children` and `replacement`, one after the other. specs/Stepping has
+// One step of a run on the pool's records: its seven parts, of crates `children` and `replacement`, one after the other. specs/Code has
 // what its functions compute, and proofs/ shows that these are the written step of crate `search`. The functions are public for the crate
 // above and not for hosts; what they require, that crate meets.
 ghost use mathlib.Core.Path.{_≡_};
 ghost use Prim.Native.Nat.{_+_, _-_, _^_, _≤_, _<_, max};
 ghost use lib.ListN.{length};
 ghost use Rattle.search.specs.Problem.{State};
-ghost use Rattle.stops.specs.declared.node.Node.{Node as Record};
-ghost use Rattle.records.specs.View.{records};
-ghost use Rattle.step.specs.Stepping.{Ready, Shown, Stepping, Expansion};
+ghost use Rattle.stops.specs.declared.node_record.Record.{Record};
+ghost use Rattle.records.specs.Code.{records};
+ghost use Rattle.step.specs.Code.{Ready, Shown, Stepping, Expansion};
 use children::best::Best;
 use children::best::learn;
 use children::family::family;
@@ -19,7 +19,7 @@ use replacement::hold;
 use replacement::holding;
 use replacement::replace;
 use replacement::taking_of;
-use stops::node::Node;
+use stops::node_record::Record;
 
 // Where a run stands beside the pool: how many active records stand at its front and how many branched ones at its far end, U with
 // its order, and the counts.
@@ -76,7 +76,7 @@ fn expand(
     number: u32,
     w: &[u32],
     i: usize,
-    b: Node,
+    b: Record,
     r: Run,
     kids: &mut [u32],
 ) -> Expanded
@@ -108,7 +108,7 @@ pub fn step(
     number: u32,
     w: &mut [u32],
     i: usize,
-    b: Node,
+    b: Record,
     r: Run,
 ) -> After
     requires { ⌜ Ready n t number rules (now w) i b r ⌝ }

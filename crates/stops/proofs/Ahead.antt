@@ -16,7 +16,7 @@ use Rattle.lists.proofs.Distinct.{sum-without}
 use Rattle.lists.proofs.Numbers.{sum-mono, least-le, least-in}
 use Rattle.stops.specs.Legs.{Legs}
 use Rattle.stops.specs.Bounds.{without, cheapestInto, remainder}
-use Rattle.stops.specs.Record.{ahead}
+use Rattle.stops.specs.Code.{ahead}
 use Rattle.stops.specs.Examples
 
 -- the least of all candidates is at most the least of some of them

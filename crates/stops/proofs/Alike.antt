@@ -14,7 +14,7 @@ use lib.Dec.{T, leb, eqb, leb→le, le→leb, eqb→eq, eqb-refl}
 use lib.ListN.{length}
 use Rattle.lists.proofs.Tests.{and-left, and-right, and-both, either}
 use Rattle.search.proofs.Laws.{Leads, stay, down, Good}
-use Rattle.orders.specs.Orders.{Node, set, size, complete, extend}
+use Rattle.orders.specs.Orders.{Node, setOf, size, complete, extend}
 use Rattle.orders.proofs.Sets.{child-extends, extend-child, set-same-left, set-extend-same}
 use Rattle.stops.specs.Legs.{Legs, path, last, cost}
 use Rattle.stops.specs.Bounds.{boundBy, same, dominates}
@@ -48,7 +48,7 @@ parts-and a b c d p q r s = and-both (a && b && c) d (and-both (a && b) c (and-b
 
 -- w has the set and the last place of x, and no more path cost
 pub record Alike (n : ℕ) (L : Legs) (w x : Node) : Type 0 where
-  pub stops : set n w ≡ set n x
+  pub stops : setOf n w ≡ setOf n x
   pub place : last w ≡ last x
   pub cheaper : path L w ≤ path L x
 
@@ -56,8 +56,8 @@ module _ (n : ℕ) (L : Legs) where
   pub dominator-alike : (w x : Node) → T (dominates n L w x) → Alike n L w x
   unfolding dominates
   dominator-alike w x h =
-      let (d, s, l, p) = and-parts (not (same w x)) (same (set n w) (set n x)) (eqb (last w) (last x)) (leb (path L w) (path L x)) h in
-      record { stops = same-equal (set n w) (set n x) s; place = eqb→eq (last w) (last x) l; cheaper = leb→le (path L w) (path L x) p }
+      let (d, s, l, p) = and-parts (not (same w x)) (same (setOf n w) (setOf n x)) (eqb (last w) (last x)) (leb (path L w) (path L x)) h in
+      record { stops = same-equal (setOf n w) (setOf n x) s; place = eqb→eq (last w) (last x) l; cheaper = leb→le (path L w) (path L x) p }
 
   pub alike-trans : {w x y : Node} → Alike n L w x → Alike n L x y → Alike n L w y
   alike-trans a b = record { stops = a .stops ∙ b .stops; place = a .place ∙ b .place; cheaper = omega arith }
@@ -71,8 +71,8 @@ module _ (n : ℕ) (L : Legs) where
       go (inl h) = inl (same-equal w y h)
       go (inr h) =
           inr
-          (parts-and (not (same w y)) (same (set n w) (set n y)) (eqb (last w) (last y)) (leb (path L w) (path L y)) h
-          (rw (a .stops) (same-refl (set n y)))
+          (parts-and (not (same w y)) (same (setOf n w) (setOf n y)) (eqb (last w) (last y)) (leb (path L w) (path L y)) h
+          (rw (a .stops) (same-refl (setOf n y)))
           (rw (a .place) (eqb-refl (last y)))
           (le→leb (path L w) (path L y) (a .cheaper)))
 

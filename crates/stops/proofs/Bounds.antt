@@ -19,7 +19,7 @@ use Rattle.orders.proofs.Sets.{size-left, distinct-left, left-extend, child-ext
 use Rattle.stops.specs.Legs.{Legs, path, last, cost}
 use Rattle.stops.specs.Bounds.{plain, remainder, close, boundBy}
 use Rattle.stops.proofs.Paths.{path-extend, last-extend}
-use Rattle.stops.specs.Record.{ahead}
+use Rattle.stops.specs.Code.{ahead}
 use Rattle.stops.proofs.Ahead.{ahead-grows, ahead-closer}
 
 -- a node is complete when it leaves no stop

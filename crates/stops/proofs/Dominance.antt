@@ -4,8 +4,8 @@ use mathlib.Core.Bool.{true, false, not}
 use Prim.Native.Nat.{_≤_, _<_}
 use lib.Dec.{eqb}
 use borrow.Author.Tests.{eq-eqb, ne-eqb, le-leb, lt-leb}
-use Rattle.stops.specs.Record.{lastStop, recDominates}
-use Rattle.stops.specs.declared.node.Node.{Node as Record}
+use Rattle.stops.specs.Code.{lastStop, recDominates}
+use Rattle.stops.specs.declared.node_record.Record.{Record}
 
 module _ (y z : Record) where
   pub sizes-differ : (y .size ≡ z .size → ⊥) → false ≡ recDominates y z

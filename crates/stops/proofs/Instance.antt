@@ -18,7 +18,7 @@ use Rattle.orders.proofs.Order.{order-complete, order-length, order-leads}
 use Rattle.stops.specs.Legs.{Legs, cost}
 use Rattle.stops.specs.Bounds.{boundBy}
 use Rattle.stops.specs.Stops.{aboveEveryCost, problem}
-use Rattle.stops.specs.Record.{Within}
+use Rattle.stops.specs.Code.{Within}
 use Rattle.stops.proofs.Paths.{cost-small}
 use Rattle.stops.proofs.Bounds.{bound-grows, bound-exact}
 use Rattle.stops.proofs.Alike.{dominator-alike, alike-trans, alike-dominates, alike-size, alike-good, alike-bound}

@@ -15,7 +15,7 @@ use Rattle.lists.specs.Lists.{In, from}
 use Rattle.lists.proofs.Tests.{to-true, to-false, and-left, and-right, and-both, ordered}
 use Rattle.lists.proofs.Members.{in-head, length-from}
 use Rattle.stops.specs.Legs.{entry, rows, rowLeg, legs}
-use Rattle.stops.specs.Record.{Within}
+use Rattle.stops.specs.Code.{Within}
 use Rattle.stops.specs.Examples
 
 -- element i of the list of f of a, a + 1, ..

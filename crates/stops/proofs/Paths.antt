@@ -9,7 +9,7 @@ use native.Mathlib.Omega.{arith}
 use lib.ListN.{length}
 use Rattle.orders.specs.Orders.{Node, extend}
 use Rattle.stops.specs.Legs.{Legs, pathFrom, lastFrom, path, last, cost}
-use Rattle.stops.specs.Record.{Within}
+use Rattle.stops.specs.Code.{Within}
 use Rattle.stops.specs.Examples
 
 module _ (L : Legs) where

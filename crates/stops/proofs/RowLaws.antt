@@ -23,7 +23,7 @@ use Rattle.lists.proofs.Tests.{compared, same-tests, tests}
 use Rattle.lists.proofs.Map.{map-same}
 use Rattle.lists.proofs.Members.{length-from}
 use Rattle.stops.specs.Legs.{entry, rows}
-use Rattle.stops.specs.Record.{rowOf}
+use Rattle.stops.specs.Code.{rowOf}
 use Rattle.stops.proofs.LegTable.{getD-from}
 
 -- A loop looks for an element that passes a test. Where none of the first k passes, the answer lies with the rest of the list.

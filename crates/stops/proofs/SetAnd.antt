@@ -10,7 +10,7 @@ use lib.Bits.{bitAnd, and-step, and-self}
 use lib.Count.{trailingZeros}
 use lib.Pow.{pow-pos}
 use Rattle.lists.specs.Lists.{In}
-use Rattle.stops.specs.Record.{stopsIn}
+use Rattle.stops.specs.Code.{stopsIn}
 use Rattle.stops.proofs.SetBits.{Digits, no-digit, is-clear, is-set, digits-range, digits-without, stops-digits, stopsIn-range}
 
 -- the digits of m and of m - 1 agree above the lowest that is set

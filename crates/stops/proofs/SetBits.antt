@@ -21,7 +21,7 @@ use Rattle.lists.proofs.Tests.{compared, to-true, to-false, ne-neqb}
 use Rattle.lists.proofs.Members.{in-head, in-keep, in-from}
 use Rattle.lists.proofs.Distinct.{without-absent}
 use Rattle.stops.specs.Bounds.{without}
-use Rattle.stops.specs.Record.{bits, stopsIn}
+use Rattle.stops.specs.Code.{bits, stopsIn}
 use Rattle.stops.specs.Examples
 
 -- Digits k s m xs: m has k digits, and xs are the stops of those that are set, where the lowest digit stands for stop s. A number is

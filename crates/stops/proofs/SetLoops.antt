@@ -22,7 +22,7 @@ use Rattle.lists.proofs.Members.{in-head, in-keep, keep-in}
 use Rattle.lists.proofs.Numbers.{sum-mono, sum-const, least-le, least-same}
 use Rattle.stops.specs.Legs.{Legs, rowLeg, legs}
 use Rattle.stops.specs.Bounds.{without, cheapestInto, remainder}
-use Rattle.stops.specs.Record.{stopsIn, ahead, Within}
+use Rattle.stops.specs.Code.{stopsIn, ahead, Within}
 use Rattle.stops.specs.Examples
 use Rattle.stops.proofs.SetBits.{stopsIn-zero, stopsIn-next, stopsIn-without}
 

@@ -4,7 +4,7 @@ use mathlib.Core.List.{List, [], _∷_}
 use Prim.Native.Nat.{ℕ, zero, suc, _+_}
 use lib.Dec.{leb, eqb}
 use Rattle.lists.specs.Lists.{keep, sum, least}
-use Rattle.orders.specs.Orders.{Node, set, left, complete}
+use Rattle.orders.specs.Orders.{Node, setOf, left, complete}
 use Rattle.stops.specs.Legs.{Legs, path, last, cost}
 
 -- "0, plain: the path cost; for a complete node, path cost plus leg home."
@@ -42,4 +42,4 @@ same (x ∷ xs) (y ∷ ys) = eqb x y && same xs ys
 
 -- "y dominates z when they differ, have the same set and last stop, and y's path cost is at most z's."
 unfoldable pub dominates : ℕ → Legs → Node → Node → Bool
-dominates n L y z = not (same y z) && same (set n y) (set n z) && eqb (last y) (last z) && leb (path L y) (path L z)
+dominates n L y z = not (same y z) && same (setOf n y) (setOf n z) && eqb (last y) (last z) && leb (path L y) (path L z)

@@ -3,54 +3,54 @@
 use mathlib.Core.Path.{_≡_, refl}
 use mathlib.Core.Bool.{true, false}
 use mathlib.Core.List.{[], _∷_, map}
-use Rattle.orders.specs.Orders.{flown, set, left, size, complete, children, level, orders}
+use Rattle.orders.specs.Orders.{flown, setOf, left, size, complete, children, level, orders}
 use Rattle.stops.specs.Legs.{Legs, entry, rows, rowLeg, legs, path, last, cost}
 use Rattle.stops.specs.Bounds.{plain, cheapestInto, remainder, close, dominates}
 
 -- the legs of T, with every definition that the examples rest on open
-T : Legs
-unfolding flown set left size complete children level orders entry rows rowLeg legs path last cost plain cheapestInto remainder close dominates
-T = legs (rows 3 (0 ∷ 4 ∷ 7 ∷ 9 ∷ 5 ∷ 0 ∷ 2 ∷ 6 ∷ 3 ∷ 8 ∷ 0 ∷ 1 ∷ 6 ∷ 5 ∷ 4 ∷ 0 ∷ []))
+legsT : Legs
+unfolding flown setOf left size complete children level orders entry rows rowLeg legs path last cost plain cheapestInto remainder close dominates
+legsT = legs (rows 3 (0 ∷ 4 ∷ 7 ∷ 9 ∷ 5 ∷ 0 ∷ 2 ∷ 6 ∷ 3 ∷ 8 ∷ 0 ∷ 1 ∷ 6 ∷ 5 ∷ 4 ∷ 0 ∷ []))
 
 -- "Orders cost 123: 13, 132: 17, 213: 27, 231: 18, 312: 19, 321: 26."
 six-orders :
     orders 3 ≡ (1 ∷ 2 ∷ 3 ∷ []) ∷ (1 ∷ 3 ∷ 2 ∷ []) ∷ (2 ∷ 1 ∷ 3 ∷ []) ∷ (2 ∷ 3 ∷ 1 ∷ []) ∷ (3 ∷ 1 ∷ 2 ∷ []) ∷ (3 ∷ 2 ∷ 1 ∷ []) ∷ []
-unfolding T
+unfolding legsT
 six-orders = refl
 
-six-costs : map (cost T) (orders 3) ≡ 13 ∷ 17 ∷ 27 ∷ 18 ∷ 19 ∷ 26 ∷ []
-unfolding T
+six-costs : map (cost legsT) (orders 3) ≡ 13 ∷ 17 ∷ 27 ∷ 18 ∷ 19 ∷ 26 ∷ []
+unfolding legsT
 six-costs = refl
 
 -- k. "Bounds in T, close: e 10, node 1 10, node 2 18, node 3 19."
-case-k : map (close 3 T) ([] ∷ (1 ∷ []) ∷ (2 ∷ []) ∷ (3 ∷ []) ∷ []) ≡ 10 ∷ 10 ∷ 18 ∷ 19 ∷ []
-unfolding T
+case-k : map (close 3 legsT) ([] ∷ (1 ∷ []) ∷ (2 ∷ []) ∷ (3 ∷ []) ∷ []) ≡ 10 ∷ 10 ∷ 18 ∷ 19 ∷ []
+unfolding legsT
 case-k = refl
 
-plain-bounds : map (plain 3 T) ([] ∷ (1 ∷ []) ∷ (2 ∷ []) ∷ (3 ∷ []) ∷ (1 ∷ 2 ∷ 3 ∷ []) ∷ []) ≡ 0 ∷ 4 ∷ 7 ∷ 9 ∷ 13 ∷ []
-unfolding T
+plain-bounds : map (plain 3 legsT) ([] ∷ (1 ∷ []) ∷ (2 ∷ []) ∷ (3 ∷ []) ∷ (1 ∷ 2 ∷ 3 ∷ []) ∷ []) ≡ 0 ∷ 4 ∷ 7 ∷ 9 ∷ 13 ∷ []
+unfolding legsT
 plain-bounds = refl
 
 -- Two orders of one set with one last stop: the cheaper path dominates, the dearer does not.
-cheaper-dominates : dominates 3 T (1 ∷ 2 ∷ 3 ∷ []) (2 ∷ 1 ∷ 3 ∷ []) ≡ true
-unfolding T
+cheaper-dominates : dominates 3 legsT (1 ∷ 2 ∷ 3 ∷ []) (2 ∷ 1 ∷ 3 ∷ []) ≡ true
+unfolding legsT
 cheaper-dominates = refl
 
-dearer-does-not : dominates 3 T (2 ∷ 1 ∷ 3 ∷ []) (1 ∷ 2 ∷ 3 ∷ []) ≡ false
-unfolding T
+dearer-does-not : dominates 3 legsT (2 ∷ 1 ∷ 3 ∷ []) (1 ∷ 2 ∷ 3 ∷ []) ≡ false
+unfolding legsT
 dearer-does-not = refl
 
 -- Equal paths with one set and last stop dominate each other.
 equals-dominate : dominates 3 (record { leg = λ r s. 1; home = λ s. 1 }) (1 ∷ 2 ∷ 3 ∷ []) (2 ∷ 1 ∷ 3 ∷ []) ≡ true
-unfolding T
+unfolding legsT
 equals-dominate = refl
 
 -- 12 and 21 have one set, and 12 has the cheaper path, but their last stops differ.
-last-stops-differ : dominates 3 T (1 ∷ 2 ∷ []) (2 ∷ 1 ∷ []) ≡ false
-unfolding T
+last-stops-differ : dominates 3 legsT (1 ∷ 2 ∷ []) (2 ∷ 1 ∷ []) ≡ false
+unfolding legsT
 last-stops-differ = refl
 
 -- A node does not dominate itself.
-never-itself : dominates 3 T (1 ∷ 2 ∷ []) (1 ∷ 2 ∷ []) ≡ false
-unfolding T
+never-itself : dominates 3 legsT (1 ∷ 2 ∷ []) (1 ∷ 2 ∷ []) ≡ false
+unfolding legsT
 never-itself = refl

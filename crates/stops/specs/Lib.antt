@@ -2,4 +2,4 @@ pub mod Legs
 pub mod Bounds
 pub mod Stops
 pub mod Examples
-pub mod Record
+pub mod Code

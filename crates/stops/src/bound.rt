@@ -6,7 +6,7 @@ ghost use lib.Count.{trailingZeros};
 ghost use Rattle.lists.specs.Lists.{In, least};
 ghost use Rattle.stops.specs.Legs.{rowLeg, legs};
 ghost use Rattle.stops.specs.Bounds.{remainder};
-ghost use Rattle.stops.specs.Record.{stopsIn, ahead, Within};
+ghost use Rattle.stops.specs.Code.{stopsIn, ahead, Within};
 use crate::table::leg;
 
 fn lesser(a: u32, b: u32) -> u32

@@ -6,7 +6,7 @@ ghost use lib.Dec.{ltb, eqb};
 ghost use lib.ListN.{length};
 ghost use Rattle.lists.specs.Lists.{any, from};
 ghost use Rattle.stops.specs.Legs.{entry, rows, rowLeg};
-ghost use Rattle.stops.specs.Record.{rowOf};
+ghost use Rattle.stops.specs.Code.{rowOf};
 
 // Whether no number is above 1,000,000.
 pub fn small(table: &[u32]) -> bool

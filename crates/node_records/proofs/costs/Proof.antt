@@ -37,9 +37,9 @@ use denote.Triple.Spec.{Meets, tripleOf}
 use denote.Triple.Table.{entered, cited}
 use denote.Triple.Walked.{says, Stays, stay-none-slice, stay-none, walkOf, AllGo, goes-none, goes-none-slice, Walks, ends-at, walked}
 use denote.Triple.Walked.{walk-meets}
-use Rattle.stops.specs.declared.node.Node.{Node as Record}
-use Rattle.stops.proofs.node.Node as T
-use Rattle.inspection.specs.Numbers.{ofNumbers}
+use Rattle.stops.specs.declared.node_record.Record.{Record}
+use Rattle.stops.proofs.node_record.Record as T
+use Rattle.inspection.specs.Code.{ofNumbers}
 use Rattle.node_answers.specs.Answers.{isInside, recordAt, figures}
 use Rattle.node_answers.specs.declared.Found.{Found}
 use Rattle.node_answers.specs.declared.Figures.{Figures}

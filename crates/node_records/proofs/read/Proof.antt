@@ -41,11 +41,11 @@ use denote.Triple.Spec.{Meets, tripleOf}
 use denote.Triple.Table.{entered}
 use denote.Triple.Walked.{says, Stays, stay-none-slice, stay-none, walkOf, AllGo, goes-none, goes-none-slice, Walks, ends-at, walked}
 use denote.Triple.Walked.{walk-meets}
-use Rattle.stops.specs.Record.{emptyRecord}
-use Rattle.stops.specs.declared.node.Node.{Node as Record}
+use Rattle.stops.specs.Code.{emptyRecord}
+use Rattle.stops.specs.declared.node_record.Record.{Record}
 use Rattle.node_answers.specs.declared.Found.{Found}
-use Rattle.stops.proofs.node.Node as T
-use Rattle.stops.proofs.node.Node.Laws as T′
+use Rattle.stops.proofs.node_record.Record as T
+use Rattle.stops.proofs.node_record.Record.Laws as T′
 use Rattle.node_answers.proofs.Found as F
 use Rattle.node_answers.proofs.Found.Laws as F′
 use Rattle.node_records.proofs.Walk.{value, frees-all, val, vals, typed}

@@ -43,9 +43,9 @@ use denote.Triple.Entry.{onEntry}
 use denote.Triple.Spec.{Meets, tripleOf}
 use denote.Triple.Table.{entered}
 use denote.Triple.Walked.{says, Stays, stay-slice, stay-none, walkOf, AllGo, goes-none, goes-slice, Walks, ends-at, walked, walk-meets}
-use Rattle.stops.specs.declared.node.Node.{Node as Record}
-use Rattle.stops.proofs.node.Node as T
-use Rattle.stops.proofs.node.Node.Laws as T′
+use Rattle.stops.specs.declared.node_record.Record.{Record}
+use Rattle.stops.proofs.node_record.Record as T
+use Rattle.stops.proofs.node_record.Record.Laws as T′
 use Rattle.node_answers.specs.Answers.{isInside}
 use Rattle.node_records.proofs.Walk.{value, frees-all, own-bool, val, vals, typed}
 use Rattle.node_records.proofs.Indices.{offset-fits, is-inside, is-outside}

@@ -3,9 +3,9 @@ use mathlib.Core.Path.{_∙_}
 use Prim.Native.Nat.{_+_}
 use native.Mathlib.Omega.{arith}
 use borrow.Author.Needs.{needs}
-use Rattle.stops.specs.Record.{emptyRecord}
-use Rattle.records.specs.View.{records}
-use Rattle.passes.specs.Staying.{isSuspect}
+use Rattle.stops.specs.Code.{emptyRecord}
+use Rattle.records.specs.Code.{records}
+use Rattle.passes.specs.Code.{isSuspect}
 use Rattle.records.proofs.ViewLaws.{length-records}
 use Rattle.records.proofs.SliceLaws.{four-found, four-last}
 use Rattle.passes.proofs.four_suspect.Statement.{statement}

@@ -4,9 +4,8 @@ use Prim.Native.Nat.{_-_, _≤_}
 use native.Mathlib.Omega.{arith}
 use borrow.Author.Needs.{needs}
 use lib.ListN.{length, take}
-use Rattle.records.specs.View.{records}
-use Rattle.records.specs.Passes.{Sifted}
-use Rattle.passes.specs.Staying.{isStaying}
+use Rattle.records.specs.Code.{records, Sifted}
+use Rattle.passes.specs.Code.{isStaying}
 use Rattle.records.proofs.SiftLaws.{sifted-none, sifted-within, sifted-run, sifted-past, past-on}
 use Rattle.passes.proofs.sift.Statement.{statement}
 use Rattle.passes.proofs.sift.Tie as tie

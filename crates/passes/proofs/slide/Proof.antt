@@ -3,8 +3,7 @@ use mathlib.Core.Path.{_≡_, refl}
 use Prim.Native.Nat.{_-_, _≤_}
 use native.Mathlib.Omega.{arith}
 use lib.ListN.{length}
-use Rattle.records.specs.View.{records}
-use Rattle.records.specs.Passes.{Sifted, always}
+use Rattle.records.specs.Code.{records, Sifted, always}
 use Rattle.records.proofs.SiftLaws.{sifted-none, sifted-passes, sifted-still}
 use Rattle.passes.proofs.slide.Statement.{statement}
 use Rattle.passes.proofs.slide.Tie as tie

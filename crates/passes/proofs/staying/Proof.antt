@@ -6,8 +6,8 @@ use native.Mathlib.Omega.{arith}
 use lib.ListN.{length, take}
 use lib.Seq.{slice}
 use Rattle.lists.specs.Lists.{keep}
-use Rattle.records.specs.View.{records}
-use Rattle.passes.specs.Staying.{isStaying}
+use Rattle.records.specs.Code.{records}
+use Rattle.passes.specs.Code.{isStaying}
 use Rattle.passes.proofs.StayLaws.{count-none, count-within, count-passes, count-fails}
 use Rattle.passes.proofs.staying.Statement.{statement}
 use Rattle.passes.proofs.staying.Tie as tie

@@ -6,9 +6,9 @@ use native.Mathlib.Omega.{arith}
 use lib.ListN.{take}
 use borrow.Author.Needs.{needs}
 use borrow.Author.Tests.{le-leb, not-true}
-use Rattle.records.specs.View.{records}
-use Rattle.rivals.specs.Rivals.{near}
-use Rattle.passes.specs.Staying.{isStaying}
+use Rattle.records.specs.Code.{records}
+use Rattle.rivals.specs.Code.{near}
+use Rattle.passes.specs.Code.{isStaying}
 use Rattle.passes.proofs.StayLaws.{stays-above, stays-free}
 use Rattle.rivals.proofs.RivalLaws.{apart}
 use Rattle.passes.proofs.stays.Statement.{statement}

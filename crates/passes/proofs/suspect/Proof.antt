@@ -2,7 +2,7 @@
 use native.Mathlib.Omega.{arith}
 use borrow.Author.Needs.{needs}
 use borrow.Author.Tests.{lt-ltb, le-ltb}
-use Rattle.passes.specs.Staying.{isSuspect}
+use Rattle.passes.specs.Code.{isSuspect}
 use Rattle.passes.proofs.suspect.Statement.{statement}
 use Rattle.passes.proofs.suspect.Tie as tie
 

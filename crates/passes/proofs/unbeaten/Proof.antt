@@ -5,8 +5,8 @@ use Prim.Native.Nat.{_-_, _≤_}
 use native.Mathlib.Omega.{arith}
 use lib.ListN.{take}
 use Rattle.lists.specs.Lists.{any}
-use Rattle.stops.specs.Record.{emptyRecord, recDominates}
-use Rattle.records.specs.View.{records}
+use Rattle.stops.specs.Code.{emptyRecord, recDominates}
+use Rattle.records.specs.Code.{records}
 use Rattle.passes.proofs.StayLaws.{any-found, free-more}
 use Rattle.passes.proofs.unbeaten.Statement.{statement}
 use Rattle.passes.proofs.unbeaten.Tie as tie

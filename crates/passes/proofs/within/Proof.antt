@@ -4,9 +4,8 @@ use Prim.Native.Nat.{_-_, _≤_}
 use native.Mathlib.Omega.{arith}
 use lib.ListN.{length}
 use borrow.Author.Tests.{le-leb, lt-leb}
-use Rattle.records.specs.View.{records}
-use Rattle.records.specs.Passes.{Sifted}
-use Rattle.passes.specs.Staying.{isWithin}
+use Rattle.records.specs.Code.{records, Sifted}
+use Rattle.passes.specs.Code.{isWithin}
 use Rattle.records.proofs.SiftLaws.{sifted-none, sifted-passes, sifted-fails}
 use Rattle.passes.proofs.within.Statement.{statement}
 use Rattle.passes.proofs.within.Tie as tie

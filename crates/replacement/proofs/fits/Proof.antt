@@ -5,9 +5,9 @@ use native.Mathlib.Omega.{arith}
 use lib.Dec.{T}
 use lib.ListN.{length}
 use borrow.Author.Tests.{le-leb, lt-leb}
-use Rattle.records.specs.View.{records}
+use Rattle.records.specs.Code.{records}
 use Rattle.records.proofs.ViewLaws.{length-records}
-use Rattle.replacement.specs.Active.{stayingOf}
+use Rattle.replacement.specs.Code.{stayingOf}
 use Rattle.replacement.proofs.ReplaceLaws.{staying-few}
 use Rattle.replacement.proofs.fits.Statement.{statement}
 use Rattle.replacement.proofs.fits.Tie as tie

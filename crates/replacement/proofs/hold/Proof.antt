@@ -2,7 +2,7 @@
 use native.Mathlib.Omega.{arith}
 use borrow.Author.Needs.{needs}
 use borrow.Author.Tests.{eq-eqb, ne-eqb}
-use Rattle.replacement.specs.Active.{heldWith}
+use Rattle.replacement.specs.Code.{heldWith}
 use Rattle.replacement.proofs.hold.Statement.{statement}
 use Rattle.replacement.proofs.hold.Tie as tie
 

@@ -2,7 +2,7 @@
 use mathlib.Core.Path.{ap₂, _∙_}
 use Prim.Native.Nat.{ℕ, _+_}
 use native.Mathlib.Omega.{arith}
-use Rattle.records.specs.View.{records}
+use Rattle.records.specs.Code.{records}
 use Rattle.replacement.proofs.ReplaceLaws.{staying-number, staying-few}
 use Rattle.replacement.proofs.remaining.Statement.{statement}
 use Rattle.replacement.proofs.remaining.Tie as tie

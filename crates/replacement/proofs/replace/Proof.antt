@@ -2,9 +2,9 @@
 use native.Mathlib.Omega.{arith}
 use lib.Dec.{T}
 use borrow.Author.Needs.{needs}
-use Rattle.records.specs.View.{records}
+use Rattle.records.specs.Code.{records}
 use Rattle.records.proofs.ViewLaws.{length-records}
-use Rattle.replacement.specs.Active.{stayingOf}
+use Rattle.replacement.specs.Code.{stayingOf}
 use Rattle.replacement.proofs.ReplaceLaws.{Gathered, slide-gathers, gathered-written}
 use Rattle.replacement.proofs.replace.Statement.{statement}
 use Rattle.replacement.proofs.replace.Tie as tie

@@ -2,11 +2,11 @@
 use native.Mathlib.Omega.{arith}
 use lib.ListN.{take}
 use borrow.Author.Needs.{needs}
-use Rattle.records.specs.View.{records}
-use Rattle.passes.specs.Staying.{isStaying}
+use Rattle.records.specs.Code.{records}
+use Rattle.passes.specs.Code.{isStaying}
 use Rattle.records.proofs.ViewLaws.{length-records}
 use Rattle.passes.proofs.StayLaws.{count-within}
-use Rattle.replacement.specs.Active.{stayingOf}
+use Rattle.replacement.specs.Code.{stayingOf}
 use Rattle.replacement.proofs.ReplaceLaws.{Gathered, sifts-gather, gathered-written}
 use Rattle.replacement.proofs.sifted.Statement.{statement}
 use Rattle.replacement.proofs.sifted.Tie as tie

@@ -6,9 +6,9 @@ use Prim.Native.Nat.{_+_, _-_, _≤_, _<_}
 use native.Mathlib.Omega.{arith}
 use borrow.Author.Needs.{needs}
 use lib.ListN.{length, getD}
-use Rattle.stops.specs.Record.{emptyRecord}
-use Rattle.records.specs.View.{records}
-use Rattle.rivals.specs.Rivals.{Gathering, near}
+use Rattle.stops.specs.Code.{emptyRecord}
+use Rattle.records.specs.Code.{records}
+use Rattle.rivals.specs.Code.{Gathering, near}
 use Rattle.records.proofs.ViewLaws.{length-records}
 use Rattle.rivals.proofs.RivalLaws.{gathered-none, gathered-run, gathered-passes}
 use Rattle.rivals.proofs.gather.Statement.{statement}

@@ -1,7 +1,7 @@
 -- `near` meets its contract: two numbers side by side are the same if each is. Assumes nothing.
 use native.Mathlib.Omega.{arith}
 use borrow.Author.Needs.{needs}
-use Rattle.rivals.specs.Rivals.{near}
+use Rattle.rivals.specs.Code.{near}
 use Rattle.rivals.proofs.RivalLaws.{side-by-side}
 use Rattle.rivals.proofs.near.Statement.{statement}
 use Rattle.rivals.proofs.near.Tie as tie

@@ -10,11 +10,10 @@ use lib.Dec.{leb}
 use lib.ListN.{length, getD}
 use lib.Seq.{slice}
 use Rattle.lists.specs.Lists.{any}
-use Rattle.stops.specs.Record.{emptyRecord, recDominates}
-use Rattle.stops.specs.declared.node.Node.{Node as Record}
-use Rattle.records.specs.View.{records}
-use Rattle.records.specs.Passes.{Sifted}
-use Rattle.rivals.specs.Rivals.{isFree}
+use Rattle.stops.specs.Code.{emptyRecord, recDominates}
+use Rattle.stops.specs.declared.node_record.Record.{Record}
+use Rattle.records.specs.Code.{records, Sifted}
+use Rattle.rivals.specs.Code.{isFree}
 use Rattle.records.proofs.SliceLaws.{any-slice-none, any-slice-more, any-slice-found}
 use Rattle.records.proofs.SiftLaws.{sifted-none, sifted-passes, sifted-fails}
 use Rattle.rivals.proofs.undominated.Statement.{statement}

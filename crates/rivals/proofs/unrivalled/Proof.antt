@@ -1,9 +1,9 @@
 -- `unrivalled` meets its contract: of no child none is left, and the buffer that it lends has room for 32 records. Assumes nothing.
 use borrow.Author.Needs.{needs}
 use lib.Seq.{slice}
-use Rattle.records.specs.View.{records}
+use Rattle.records.specs.Code.{records}
 use Rattle.records.proofs.SiftLaws.{sifted-none}
-use Rattle.rivals.specs.Rivals.{isFree}
+use Rattle.rivals.specs.Code.{isFree}
 use Rattle.rivals.proofs.unrivalled.Statement.{statement}
 use Rattle.rivals.proofs.unrivalled.Tie as tie
 

@@ -5,9 +5,8 @@ use Prim.Native.Nat.{_-_, _≤_}
 use native.Mathlib.Omega.{arith}
 use lib.ListN.{length}
 use lib.Seq.{slice}
-use Rattle.records.specs.View.{records}
-use Rattle.records.specs.Passes.{Sifted}
-use Rattle.rivals.specs.Rivals.{isFree}
+use Rattle.records.specs.Code.{records, Sifted}
+use Rattle.rivals.specs.Code.{isFree}
 use Rattle.records.proofs.ViewLaws.{length-records}
 use Rattle.records.proofs.SiftLaws.{sifted-fewer}
 use Rattle.rivals.proofs.RivalLaws.{sifted-unsearched, sifted-near, sifted-out}

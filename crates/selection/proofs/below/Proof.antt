@@ -1,7 +1,7 @@
 -- `below` meets its contract: a record's bound is its fourth word. Assumes nothing.
 use Prim.Native.Nat.{_+_, _*_}
 use native.Mathlib.Omega.{arith}
-use Rattle.selection.specs.Choosing.{isBelow}
+use Rattle.selection.specs.Code.{isBelow}
 use Rattle.records.proofs.ViewLaws.{length-records}
 use Rattle.selection.proofs.ChooseLaws.{bound-at}
 use Rattle.selection.proofs.below.Statement.{statement}

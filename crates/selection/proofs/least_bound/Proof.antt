@@ -4,8 +4,8 @@ use mathlib.Core.Path.{_≡_}
 use Prim.Native.Nat.{_+_, _-_, _≤_, _<_}
 use native.Mathlib.Omega.{arith}
 use borrow.Author.Needs.{needs}
-use Rattle.records.specs.View.{records}
-use Rattle.selection.specs.Choosing.{Ahead, boundAt}
+use Rattle.records.specs.Code.{records}
+use Rattle.selection.specs.Code.{Ahead, boundAt}
 use Rattle.records.proofs.ViewLaws.{length-records}
 use Rattle.selection.proofs.ChooseLaws.{Leads, bound-at, leads-first, lead-on, lead-moves, chosen-least}
 use Rattle.selection.proofs.least_bound.Statement.{statement}

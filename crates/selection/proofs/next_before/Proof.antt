@@ -1,6 +1,6 @@
 -- `next_before` meets its contract: below the edge is what goes before. Assumes nothing.
 use borrow.Author.Needs.{needs}
-use Rattle.records.specs.View.{records}
+use Rattle.records.specs.Code.{records}
 use Rattle.selection.proofs.ChooseLaws.{runs-ahead}
 use Rattle.selection.proofs.next_before.Statement.{statement}
 use Rattle.selection.proofs.next_before.Tie as tie

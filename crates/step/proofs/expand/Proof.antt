@@ -4,7 +4,7 @@ use Prim.Native.Nat.{_/_}
 use native.Mathlib.Omega.{arith}
 use borrow.Author.Needs.{needs}
 use lib.ListN.{length}
-use Rattle.records.specs.View.{records}
+use Rattle.records.specs.Code.{records}
 use Rattle.records.proofs.ViewLaws.{length-records}
 use Rattle.children.proofs.FamilyLaws.{children-size, children-near}
 use Rattle.step.proofs.ExpandLaws.{same-records, family-few, expansion-made}

@@ -11,13 +11,12 @@ use lib.Dec.{T}
 use lib.ListN.{length, take}
 use lib.Seq.{length-take-le}
 use Rattle.search.specs.Step.{on}
-use Rattle.records.specs.View.{records}
-use Rattle.records.specs.Passes.{dropAt}
-use Rattle.rivals.specs.Rivals.{AllNear}
+use Rattle.records.specs.Code.{records, dropAt}
+use Rattle.rivals.specs.Code.{AllNear}
 use Rattle.records.proofs.ViewLaws.{length-records, records-small}
-use Rattle.stops.specs.declared.node.Node.{Node as Record}
-use Rattle.replacement.specs.Active.{Active, stayingOf, heldWith}
-use Rattle.step.specs.Stepping.{Shown, stepOf}
+use Rattle.stops.specs.declared.node_record.Record.{Record}
+use Rattle.replacement.specs.Code.{Active, stayingOf, heldWith}
+use Rattle.step.specs.Code.{Shown, stepOf}
 use Rattle.step.specs.declared.Run.{Run}
 use Rattle.step.specs.declared.Expanded.{Expanded}
 use Rattle.children.proofs.FamilyLaws.{children-near}

@@ -5,8 +5,8 @@ use Prim.Native.Nat.{ℕ, _-_, _≤_}
 use native.Mathlib.Omega.{arith}
 use borrow.Author.Needs.{needs}
 use lib.ListN.{take}
-use Rattle.stops.specs.Record.{emptyRecord}
-use Rattle.records.specs.View.{records}
+use Rattle.stops.specs.Code.{emptyRecord}
+use Rattle.records.specs.Code.{records}
 use Rattle.children.proofs.BestLaws.{Learnt, learn-none, learn-more}
 use Rattle.children.proofs.best.learn.Statement.{statement}
 use Rattle.children.proofs.best.learn.Tie as tie

@@ -7,8 +7,8 @@ use lib.ListN.{length, getD}
 use denote.Ref.{now}
 use Rattle.orders.specs.Orders.{Order}
 use Rattle.stops.specs.Legs.{legs}
-use Rattle.records.specs.View.{encode}
-use Rattle.children.specs.OnRecords.{Rows}
+use Rattle.records.specs.Code.{encode}
+use Rattle.children.specs.Code.{Rows}
 use Rattle.children.proofs.BestLaws.{empty-best, Flown, flown-none, flown-more, flown-wide, flown-room, flown-best, next-near, order-given}
 use Rattle.children.proofs.best.started.Statement.{statement}
 use Rattle.children.proofs.best.started.Tie as tie

@@ -3,8 +3,8 @@
 use mathlib.Core.Path.{_≡_, ap, _∙_}
 use native.Mathlib.Omega.{arith}
 use Rattle.stops.specs.Legs.{rowLeg}
-use Rattle.stops.specs.Record.{extended}
-use Rattle.children.specs.OnRecords.{bounded}
+use Rattle.stops.specs.Code.{extended}
+use Rattle.children.specs.Code.{bounded}
 use Rattle.children.proofs.FamilyLaws.{kid-places, kid-wide, kid-small, kid-made}
 use Rattle.children.proofs.family.child.Statement.{statement}
 use Rattle.children.proofs.family.child.Tie as tie

@@ -7,9 +7,9 @@ use native.Mathlib.Omega.{arith}
 use borrow.Author.Needs.{needs}
 use lib.ListN.{length}
 use Rattle.stops.proofs.SetLoops.{First, first-out, first-later}
-use Rattle.records.specs.View.{records}
+use Rattle.records.specs.Code.{records}
 use Rattle.records.proofs.Mask.{rest-small}
-use Rattle.children.specs.OnRecords.{restOf, childOf, childrenOf}
+use Rattle.children.specs.Code.{restOf, childOf, childrenOf}
 use Rattle.children.proofs.FamilyLaws.{rest-sum, Written, written-starts, written-room, written-again, written-ends}
 use Rattle.children.proofs.family.family.Statement.{statement}
 use Rattle.children.proofs.family.family.Tie as tie

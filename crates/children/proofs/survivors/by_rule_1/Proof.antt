@@ -1,7 +1,7 @@
 -- `by_rule_1` meets its contract: the pass of rule 1, if it is on. Assumes nothing.
 use native.Mathlib.Omega.{arith}
 use borrow.Author.Needs.{needs}
-use Rattle.passes.specs.Staying.{isWithin}
+use Rattle.passes.specs.Code.{isWithin}
 use Rattle.children.proofs.SurvivorLaws.{sifted-on, sifted-off}
 use Rattle.children.proofs.survivors.by_rule_1.Statement.{statement}
 use Rattle.children.proofs.survivors.by_rule_1.Tie as tie

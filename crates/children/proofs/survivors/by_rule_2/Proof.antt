@@ -2,9 +2,8 @@
 use native.Mathlib.Omega.{arith}
 use lib.ListN.{take}
 use borrow.Author.Needs.{needs}
-use Rattle.records.specs.View.{records}
-use Rattle.rivals.specs.Rivals.{isFree}
-use Rattle.records.specs.Passes.{dropAt}
+use Rattle.records.specs.Code.{records, dropAt}
+use Rattle.rivals.specs.Code.{isFree}
 use Rattle.records.proofs.SiftLaws.{sifted-fewer}
 use Rattle.rivals.proofs.RivalLaws.{sifted-near-still}
 use Rattle.children.proofs.SurvivorLaws.{sifted-on, sifted-off, sifted-around}

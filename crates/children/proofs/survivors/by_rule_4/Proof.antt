@@ -5,8 +5,8 @@ use lib.ListN.{drop}
 use lib.Seq.{take-all}
 use borrow.Author.Needs.{needs}
 use Rattle.stops.specs.Stops.{aboveEveryCost}
-use Rattle.records.specs.View.{records}
-use Rattle.rivals.specs.Rivals.{isFree}
+use Rattle.records.specs.Code.{records}
+use Rattle.rivals.specs.Code.{isFree}
 use Rattle.children.proofs.SurvivorLaws.{sifted-on, sifted-off}
 use Rattle.children.proofs.survivors.by_rule_4.Statement.{statement}
 use Rattle.children.proofs.survivors.by_rule_4.Tie as tie

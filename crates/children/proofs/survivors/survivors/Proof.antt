@@ -3,8 +3,7 @@ use Prim.Native.Nat.{_-_}
 use native.Mathlib.Omega.{arith}
 use lib.ListN.{take, drop}
 use borrow.Author.Needs.{needs}
-use Rattle.records.specs.View.{records}
-use Rattle.records.specs.Passes.{dropAt}
+use Rattle.records.specs.Code.{records, dropAt}
 use Rattle.records.proofs.SiftLaws.{sifted-fewer}
 use Rattle.rivals.proofs.RivalLaws.{sifted-near-still}
 use Rattle.children.proofs.SurvivorLaws.{survivors-sifted}

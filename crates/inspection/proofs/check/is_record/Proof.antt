@@ -5,7 +5,7 @@ use Prim.Native.Nat.{_-_, _<_}
 use native.Mathlib.Omega.{arith}
 use Rattle.orders.proofs.Sets.{size-left}
 use Rattle.records.proofs.OrderWords.{stop-range}
-use Rattle.inspection.specs.Numbers.{ofNumbers}
+use Rattle.inspection.specs.Code.{ofNumbers}
 use Rattle.node_answers.specs.Nodes.{flownStops}
 use Rattle.node_answers.proofs.StopLaws.{stopOf}
 use Rattle.inspection.proofs.OrderLaws.{stop-same}

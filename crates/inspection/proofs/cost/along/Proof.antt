@@ -4,7 +4,7 @@ use Prim.Native.Nat.{_-_}
 use mathlib.Core.Path.{sym, _∙_}
 use native.Mathlib.Omega.{arith}
 use Rattle.stops.specs.Legs.{legs}
-use Rattle.inspection.specs.Numbers.{ofNumbers}
+use Rattle.inspection.specs.Code.{ofNumbers}
 use Rattle.inspection.proofs.OrderLaws.{stop-same, size-same}
 use Rattle.inspection.proofs.PathLaws.{Along, along-starts, along-small, along-fits, along-more, along-ends}
 use Rattle.inspection.proofs.cost.along.Statement.{statement}

@@ -2,8 +2,8 @@
 use mathlib.Core.Path.{sym, _∙_}
 use borrow.Author.Needs.{needs}
 use borrow.Author.Tests.{not-true, not-false}
-use Rattle.stops.specs.declared.node.Node.{Node as Record}
-use Rattle.inspection.specs.Numbers.{ofNumbers}
+use Rattle.stops.specs.declared.node_record.Record.{Record}
+use Rattle.inspection.specs.Code.{ofNumbers}
 use Rattle.inspection.proofs.FigureLaws.{figures-outside, figures-refused, figures-other}
 use Rattle.inspection.proofs.cost.figures_of.Statement.{statement}
 use Rattle.inspection.proofs.cost.figures_of.Tie as tie

@@ -6,12 +6,12 @@ use Prim.Native.Nat.{ℕ, _*_, _-_, _^_, _%_, _≤_, _<_}
 use native.Mathlib.Omega.{arith}
 use lib.Pow.{pow-pos}
 use Rattle.stops.specs.Legs.{legs, rows}
-use Rattle.stops.specs.Record.{stopsIn, Within}
-use Rattle.stops.specs.declared.node.Node.{Node as Record}
+use Rattle.stops.specs.Code.{stopsIn, Within}
+use Rattle.stops.specs.declared.node_record.Record.{Record}
 use Rattle.stops.proofs.SetBits.{stopsIn-few}
 use Rattle.stops.proofs.SetLoops.{ahead-small}
 use Rattle.records.proofs.Mask.{rest-small}
-use Rattle.inspection.specs.Numbers.{ofNumbers}
+use Rattle.inspection.specs.Code.{ofNumbers}
 use Rattle.inspection.proofs.OrderLaws.{stops-same}
 use Rattle.inspection.proofs.FigureLaws.{job-few, job-square, job-bound, job-within, one-shifted, node-short, set-within}
 use Rattle.inspection.proofs.FigureLaws.{bound-sum, figures-node}

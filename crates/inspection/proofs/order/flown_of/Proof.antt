@@ -1,7 +1,7 @@
 -- `order::flown_of` meets its contract: the stops of at most sixteen places are the record's. Assumes nothing.
 use mathlib.Core.Path.{refl}
 use native.Mathlib.Omega.{arith}
-use Rattle.inspection.specs.Numbers.{ofNumbers}
+use Rattle.inspection.specs.Code.{ofNumbers}
 use Rattle.node_answers.specs.Nodes.{flownStops}
 use Rattle.node_answers.specs.Answers.{flownAt}
 use Rattle.inspection.proofs.order.flown_of.Statement.{statement}

@@ -3,8 +3,8 @@ use mathlib.Core.Path.{_∙_, ap}
 use native.Mathlib.Omega.{arith}
 use lib.ListN.{set}
 use borrow.Author.Needs.{needs}
-use Rattle.records.specs.View.{records}
-use Rattle.children.specs.OnRecords.{bounded}
+use Rattle.records.specs.Code.{records}
+use Rattle.children.specs.Code.{bounded}
 use Rattle.planner.proofs.StartLaws.{all-small, root-made, start-shown}
 use Rattle.planner.proofs.run.begun.Statement.{statement}
 use Rattle.planner.proofs.run.begun.Tie as tie

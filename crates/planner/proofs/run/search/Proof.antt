@@ -12,7 +12,7 @@ use Rattle.orders.specs.Orders.{Node, nodes}
 use Rattle.records.specs.Records.{recordsIn}
 use Rattle.records.proofs.ViewLaws.{length-records}
 use Rattle.answer.specs.Call.{Call, callOf}
-use Rattle.planner.specs.Turns.{Running, Turned}
+use Rattle.planner.specs.Code.{Running, Turned}
 use Rattle.planner.specs.declared.run.Turn.{Turn}
 use Rattle.answer.proofs.Passes.{Passes, passes}
 use Rattle.planner.proofs.SearchLaws.{call-rows, run-begins, turn-keeps, turn-falls}

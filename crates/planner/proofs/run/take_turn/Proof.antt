@@ -5,12 +5,12 @@ use native.Mathlib.Omega.{arith}
 use lib.ListN.{take}
 use borrow.Author.Needs.{needs}
 use Rattle.search.specs.Problem.{State}
-use Rattle.stops.specs.declared.node.Node.{Node as Record}
-use Rattle.records.specs.View.{records}
-use Rattle.selection.specs.Choosing.{Chose, Chosen}
+use Rattle.stops.specs.declared.node_record.Record.{Record}
+use Rattle.records.specs.Code.{records}
+use Rattle.selection.specs.Code.{Chose, Chosen}
 use Rattle.selection.specs.declared.Place.{Place}
-use Rattle.step.specs.Stepping.{Stepping, Shown}
-use Rattle.planner.specs.Turns.{recordsOf}
+use Rattle.step.specs.Code.{Stepping, Shown}
+use Rattle.planner.specs.Code.{recordsOf}
 use Rattle.step.specs.declared.After.{After}
 use Rattle.planner.proofs.TurnLaws.{turn-chooses, turn-loads, turn-finishes, turn-ready, turn-full, turn-goes}
 use Rattle.planner.proofs.run.take_turn.Statement.{statement}

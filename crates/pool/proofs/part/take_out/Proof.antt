@@ -3,7 +3,7 @@
 use native.Mathlib.Omega.{arith}
 use lib.ListN.{length-drop}
 use borrow.Author.Needs.{needs}
-use Rattle.records.specs.View.{records}
+use Rattle.records.specs.Code.{records}
 use Rattle.records.proofs.ViewLaws.{length-records}
 use Rattle.pool.proofs.PartLaws.{lent-records, lent-out}
 use Rattle.pool.proofs.part.take_out.Statement.{statement}

@@ -5,8 +5,8 @@ use native.Mathlib.Nat.{zero-add}
 use native.Mathlib.Omega.{arith}
 use lib.ListN.{length}
 use lib.Seq.{paste, length-paste}
-use Rattle.stops.specs.Record.{emptyRecord}
-use Rattle.records.specs.View.{records}
+use Rattle.stops.specs.Code.{emptyRecord}
+use Rattle.records.specs.Code.{records}
 use Rattle.pool.proofs.PartLaws.{write-more}
 use Rattle.pool.proofs.part.write.Statement.{statement}
 use Rattle.pool.proofs.part.write.Tie as tie

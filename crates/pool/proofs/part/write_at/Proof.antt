@@ -2,7 +2,7 @@
 -- their front. Assumes nothing.
 use native.Mathlib.Omega.{arith}
 use lib.ListN.{length-drop}
-use Rattle.records.specs.View.{records}
+use Rattle.records.specs.Code.{records}
 use Rattle.records.proofs.ViewLaws.{length-records}
 use Rattle.pool.proofs.PartLaws.{lent-records, lent-back}
 use borrow.Author.Needs.{needs}

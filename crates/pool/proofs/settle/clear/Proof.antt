@@ -5,8 +5,8 @@ use Prim.Native.Nat.{_-_, _≤_}
 use native.Mathlib.Omega.{arith}
 use borrow.Author.Needs.{needs}
 use lib.ListN.{length, set, length-set}
-use Rattle.stops.specs.Record.{emptyRecord}
-use Rattle.records.specs.View.{records}
+use Rattle.stops.specs.Code.{emptyRecord}
+use Rattle.records.specs.Code.{records}
 use Rattle.pool.proofs.SettleLaws.{cleared, clear-again, clear-ends}
 use Rattle.pool.proofs.settle.clear.Statement.{statement}
 use Rattle.pool.proofs.settle.clear.Tie as tie

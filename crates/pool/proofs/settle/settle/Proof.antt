@@ -5,7 +5,7 @@ use Prim.Native.Nat.{_-_}
 use native.Mathlib.Omega.{arith}
 use borrow.Author.Needs.{needs}
 use lib.ListN.{length}
-use Rattle.records.specs.View.{records}
+use Rattle.records.specs.Code.{records}
 use Rattle.pool.proofs.SettleLaws.{length-turned, slide-end, settle-joins}
 use Rattle.pool.proofs.settle.settle.Statement.{statement}
 use Rattle.pool.proofs.settle.settle.Tie as tie

@@ -4,8 +4,8 @@ use mathlib.Core.Path.{_≡_, refl, sym, ap, _∙_}
 use Prim.Native.Nat.{_-_, _≤_}
 use native.Mathlib.Omega.{arith}
 use lib.ListN.{length, length-set}
-use Rattle.stops.specs.Record.{emptyRecord}
-use Rattle.records.specs.View.{records}
+use Rattle.stops.specs.Code.{emptyRecord}
+use Rattle.records.specs.Code.{records}
 use Rattle.pool.proofs.SettleLaws.{turned, turn-again, turn-ends}
 use Rattle.pool.proofs.settle.turn.Statement.{statement}
 use Rattle.pool.proofs.settle.turn.Tie as tie

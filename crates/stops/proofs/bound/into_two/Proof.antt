@@ -6,7 +6,7 @@ use native.Mathlib.Omega.{arith}
 use borrow.Author.Needs.{needs}
 use Rattle.lists.specs.Lists.{least}
 use Rattle.stops.specs.Legs.{rowLeg}
-use Rattle.stops.specs.Record.{stopsIn}
+use Rattle.stops.specs.Code.{stopsIn}
 use Rattle.stops.proofs.SetLoops.{First, first-out, first-later, Lowered, lowered-starts-two, lowered-again, lowered-ends, leg-small}
 use Rattle.stops.proofs.bound.into_two.Statement.{statement}
 use Rattle.stops.proofs.bound.into_two.Tie as tie

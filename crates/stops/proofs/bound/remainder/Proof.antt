@@ -8,7 +8,7 @@ use borrow.Author.Needs.{needs}
 use Rattle.lists.specs.Lists.{In}
 use Rattle.stops.specs.Legs.{legs}
 use Rattle.stops.specs.Bounds.{cheapestInto, remainder}
-use Rattle.stops.specs.Record.{stopsIn}
+use Rattle.stops.specs.Code.{stopsIn}
 use Rattle.stops.proofs.SetBits.{stopsIn-few}
 use Rattle.stops.proofs.SetLoops.{
   First,

@@ -5,7 +5,7 @@ use Prim.Native.Nat.{suc, _+_, _*_, _≤_, _-_}
 use native.Mathlib.Omega.{arith}
 use lib.ListN.{length, drop, replicate, length-drop}
 use denote.Ref.{now}
-use Rattle.stops.specs.Record.{rowOf}
+use Rattle.stops.specs.Code.{rowOf}
 use Rattle.stops.proofs.RowLaws.{Inside, place-inside, part-from, filled, filled-none, filled-more, filled-rows}
 use Rattle.stops.proofs.table.rows.Statement.{statement}
 use Rattle.stops.proofs.table.rows.Tie as tie

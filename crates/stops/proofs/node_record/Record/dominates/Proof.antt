@@ -2,8 +2,8 @@
 use native.Mathlib.Omega.{arith}
 use borrow.Author.Needs.{needs}
 use Rattle.stops.proofs.Dominance.{sizes-differ, sets-differ, path-dearer, lasts-differ, firsts-differ, firsts-agree}
-use Rattle.stops.proofs.node.Node.dominates.Statement.{statement}
-use Rattle.stops.proofs.node.Node.dominates.Tie as tie
+use Rattle.stops.proofs.node_record.Record.dominates.Statement.{statement}
+use Rattle.stops.proofs.node_record.Record.dominates.Tie as tie
 
 returns : tie.Need-returns
 returns c = sizes-differ _ _ (c .if1 .taken)

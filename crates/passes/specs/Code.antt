@@ -4,9 +4,9 @@ use mathlib.Core.List.{List}
 use Prim.Native.Nat.{ℕ}
 use lib.Dec.{leb, ltb}
 use Rattle.lists.specs.Lists.{any}
-use Rattle.stops.specs.Record.{recDominates}
-use Rattle.stops.specs.declared.node.Node.{Node as Record}
-use Rattle.rivals.specs.Rivals.{near}
+use Rattle.stops.specs.Code.{recDominates}
+use Rattle.stops.specs.declared.node_record.Record.{Record}
+use Rattle.rivals.specs.Code.{near}
 
 unfoldable pub isWithin : ℕ → Record → Bool
 isWithin limit x = leb (x .bound) limit

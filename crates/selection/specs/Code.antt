@@ -7,9 +7,9 @@ use lib.Dec.{ltb, eqb}
 use lib.ListN.{length, getD}
 use Rattle.search.specs.Problem.{Problem}
 use Rattle.search.specs.Selection.{chosen, selectBy}
-use Rattle.stops.specs.Record.{emptyRecord}
-use Rattle.stops.specs.declared.node.Node.{Node as Record}
-use Rattle.records.specs.Passes.{dropAt}
+use Rattle.stops.specs.Code.{emptyRecord}
+use Rattle.stops.specs.declared.node_record.Record.{Record}
+use Rattle.records.specs.Code.{dropAt}
 use Rattle.selection.specs.declared.Place.{Place}
 use Rattle.selection.specs.declared.Place.the-variants.{At, Refused}
 

@@ -18,12 +18,12 @@ use Rattle.search.specs.Problem.{Problem, Choices}
 use Rattle.search.specs.Step.{on}
 use Rattle.orders.specs.Orders.{Node, Partial}
 use Rattle.stops.specs.Legs.{rowLeg, legs}
-use Rattle.stops.specs.Record.{emptyRecord, extended, lastStop, recDominates, stopsIn, ahead, Within}
+use Rattle.stops.specs.Code.{emptyRecord, extended, lastStop, recDominates, stopsIn, ahead, Within}
 use Rattle.stops.specs.Stops.{aboveEveryCost}
-use Rattle.stops.specs.declared.node.Node.{Node as Record}
-use Rattle.records.specs.View.{encode}
-use Rattle.passes.specs.Staying.{isWithin}
-use Rattle.rivals.specs.Rivals.{isFree}
+use Rattle.stops.specs.declared.node_record.Record.{Record}
+use Rattle.records.specs.Code.{encode}
+use Rattle.passes.specs.Code.{isWithin}
+use Rattle.rivals.specs.Code.{isFree}
 use Rattle.children.specs.declared.best.Best.{Best}
 
 abbrev pub Table : Type 0

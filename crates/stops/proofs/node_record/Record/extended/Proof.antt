@@ -5,12 +5,12 @@ use borrow.Author.Needs.{needs}
 use borrow.Author.Tests.{lt-ltb, le-ltb}
 use Prim.Native.Nat.{_-_, _<_, _≤_}
 use native.Mathlib.Nat.{add-zero}
-use Rattle.stops.specs.Record.{extended}
+use Rattle.stops.specs.Code.{extended}
 use Rattle.stops.proofs.Digits.{bit-small, bit-shifted, digit-shifted, digit-fits}
-use Rattle.stops.proofs.node.Node.extended.Statement.{statement}
-use Rattle.stops.proofs.node.Node.extended.Tie as tie
-use Rattle.stops.proofs.node.Node.extended.Reads as reads
-use Rattle.stops.proofs.node.Node.extended.Lts as lts
+use Rattle.stops.proofs.node_record.Record.extended.Statement.{statement}
+use Rattle.stops.proofs.node_record.Record.extended.Tie as tie
+use Rattle.stops.proofs.node_record.Record.extended.Reads as reads
+use Rattle.stops.proofs.node_record.Record.extended.Lts as lts
 
 sub-self : tie.Need-sub-self
 sub-self c = search needs

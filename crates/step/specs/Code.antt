@@ -14,12 +14,11 @@ use Rattle.lists.specs.Lists.{In}
 use Rattle.search.specs.Problem.{State}
 use Rattle.search.specs.Step.{on, learn, step}
 use Rattle.search.specs.Run.{held}
-use Rattle.stops.specs.Record.{emptyRecord}
+use Rattle.stops.specs.Code.{emptyRecord}
 use Rattle.stops.specs.Stops.{aboveEveryCost}
-use Rattle.stops.specs.declared.node.Node.{Node as Record}
-use Rattle.records.specs.View.{records}
-use Rattle.records.specs.Passes.{dropAt}
-use Rattle.children.specs.OnRecords.{Table, Rows, Encoded, childrenOf, recProblem, recChoices, IsBest, survivorsOf}
+use Rattle.stops.specs.declared.node_record.Record.{Record}
+use Rattle.records.specs.Code.{records, dropAt}
+use Rattle.children.specs.Code.{Table, Rows, Encoded, childrenOf, recProblem, recChoices, IsBest, survivorsOf}
 use Rattle.children.specs.declared.best.Best.{Best}
 use Rattle.step.specs.declared.Run.{Run}
 use Rattle.step.specs.declared.After.{After}

@@ -15,11 +15,11 @@ use Rattle.search.specs.Run.{Steps, finish, overflow, go, next}
 use Rattle.orders.specs.Orders.{Node, Order}
 use Rattle.stops.specs.Legs.{legs}
 use Rattle.stops.specs.Stops.{problem, choices}
-use Rattle.stops.specs.declared.node.Node.{Node as Record}
-use Rattle.records.specs.View.{records, encode}
+use Rattle.stops.specs.declared.node_record.Record.{Record}
+use Rattle.records.specs.Code.{records, encode}
 use Rattle.answer.specs.Answer.{given}
-use Rattle.children.specs.OnRecords.{Table, Rows}
-use Rattle.step.specs.Stepping.{Shown}
+use Rattle.children.specs.Code.{Table, Rows}
+use Rattle.step.specs.Code.{Shown}
 use Rattle.step.specs.declared.Run.{Run}
 use Rattle.planner.specs.declared.run.Turn.{Turn}
 use Rattle.planner.specs.declared.run.Turn.the-variants.{Finish, Full, Go}

@@ -9,10 +9,10 @@ use Prim.Native.Nat.{ℕ, _-_, _≤_, _<_}
 use lib.Dec.{eqb}
 use lib.ListN.{length, take, set}
 use Rattle.lists.specs.Lists.{keep}
-use Rattle.stops.specs.declared.node.Node.{Node as Record}
-use Rattle.records.specs.Passes.{dropAt}
-use Rattle.rivals.specs.Rivals.{AllNear}
-use Rattle.passes.specs.Staying.{isStaying}
+use Rattle.stops.specs.declared.node_record.Record.{Record}
+use Rattle.records.specs.Code.{dropAt}
+use Rattle.rivals.specs.Code.{AllNear}
+use Rattle.passes.specs.Code.{isStaying}
 
 -- the active records are the first a of some, b stands at i among them, and the first `taking` kids, which are near b's set, take part
 -- in rule 8

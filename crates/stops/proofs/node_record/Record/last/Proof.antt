@@ -3,13 +3,13 @@ use mathlib.Core.Logic.{_≢_}
 use Prim.Native.Nat.{_-_, _<_, _≤_}
 use native.Mathlib.Omega.{arith}
 use borrow.Author.Tests.{eq-eqb, ne-eqb, le-leb, lt-leb}
-use Rattle.stops.specs.Record.{lastStop}
+use Rattle.stops.specs.Code.{lastStop}
 use Rattle.stops.proofs.Digits.{sixteen-pow}
 use borrow.Author.Needs.{needs}
-use Rattle.stops.proofs.node.Node.last.Statement.{statement}
-use Rattle.stops.proofs.node.Node.last.Tie as tie
-use Rattle.stops.proofs.node.Node.last.Reads as reads
-use Rattle.stops.proofs.node.Node.last.Lts as lts
+use Rattle.stops.proofs.node_record.Record.last.Statement.{statement}
+use Rattle.stops.proofs.node_record.Record.last.Tie as tie
+use Rattle.stops.proofs.node_record.Record.last.Reads as reads
+use Rattle.stops.proofs.node_record.Record.last.Lts as lts
 
 returns : tie.Need-returns
 unfolding lastStop

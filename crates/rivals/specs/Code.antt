@@ -8,8 +8,8 @@ use lib.Dec.{T, leb, eqb}
 use lib.ListN.{length, take}
 use lib.Seq.{slice}
 use Rattle.lists.specs.Lists.{In, keep, any}
-use Rattle.stops.specs.Record.{recDominates}
-use Rattle.stops.specs.declared.node.Node.{Node as Record}
+use Rattle.stops.specs.Code.{recDominates}
+use Rattle.stops.specs.declared.node_record.Record.{Record}
 
 -- rules 2 and 4: no record with a bound up to limit dominates x
 unfoldable pub isFree : ℕ → List Record → Record → Bool

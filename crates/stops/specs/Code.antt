@@ -19,7 +19,7 @@ use lib.ListN.{getD}
 use Rattle.lists.specs.Lists.{put, from}
 use Rattle.stops.specs.Legs.{Legs}
 use Rattle.stops.specs.Bounds.{remainder}
-use Rattle.stops.specs.declared.node.Node.{Node as Record}
+use Rattle.stops.specs.declared.node_record.Record.{Record}
 
 -- the stops of the lowest k digits of m, whose first stands for stop s
 unfoldable pub bits : ℕ → ℕ → ℕ → List ℕ

@@ -1,10 +1,10 @@
 // A node as the six numbers of its record. A host that holds records has them in this layout: six 32-bit numbers in a row.
 ghost use mathlib.Core.Path.{_≡_};
 ghost use Prim.Native.Nat.{_+_, _-_, _<_};
-ghost use Rattle.stops.specs.Record.{Wide, extended, lastStop, emptyRecord, recDominates};
+ghost use Rattle.stops.specs.Code.{Wide, extended, lastStop, emptyRecord, recDominates};
 
 #[repr(C)]
-pub struct Node {
+pub struct Record {
     pub size: u32,
     pub set: u32,
     pub path: u32,
@@ -13,12 +13,12 @@ pub struct Node {
     pub second: u32,
 }
 
-impl Node {
+impl Record {
     // The empty node, e, with no bound yet.
-    pub fn empty() -> Node
+    pub fn empty() -> Record
         ensures { λ r. ⌜ r ≡ emptyRecord ⌝ }
     {
-        Node {
+        Record {
             size: 0,
             set: 0,
             path: 0,
@@ -29,7 +29,7 @@ impl Node {
     }
 
     // The node with a stop and its leg added, and no bound yet. Its size is the number of stops in its set.
-    pub fn extended(mut self, stop: u32, leg: u32) -> Node
+    pub fn extended(mut self, stop: u32, leg: u32) -> Record
         requires { ⌜ Wide self stop leg ⌝ }
         ensures { λ r. ⌜ r ≡ extended self stop leg ⌝ }
     {
@@ -64,7 +64,7 @@ impl Node {
     }
 
     // Whether this node dominates another: they differ, have the same set and last stop, and its path cost is at most the other's.
-    pub fn dominates(self, other: Node) -> bool
+    pub fn dominates(self, other: Record) -> bool
         ensures { λ r. ⌜ r ≡ recDominates self other ⌝ }
     {
         if self.size != other.size {

@@ -1,0 +1,68 @@
+-- The pool's words as a list of records, and what passes over records do to such lists. What the functions of this crate promise speaks
+-- of these lists alone. These definitions are the code's own.
+--   records, words      words as records, and back; fewer than six words at the end are no record
+--   encode              the record of a node
+--   dropAt              the list without its element at a place
+--   Sifted, RunsTo      what a pass keeps, and how far a walk goes
+use mathlib.Core.Path.{_≡_}
+use mathlib.Core.Bool.{Bool, true, not, cond}
+use mathlib.Core.List.{List, [], _∷_, _++_}
+use Prim.Native.Nat.{ℕ, suc, _+_, _≤_, _<_}
+use lib.ListN.{length, getD, take, drop}
+use lib.Seq.{slice}
+use Rattle.lists.specs.Lists.{keep, each}
+use Rattle.orders.specs.Orders.{Node, setOf, size}
+use Rattle.stops.specs.Legs.{Legs, path}
+use Rattle.stops.specs.Bounds.{boundBy}
+use Rattle.stops.specs.Code.{emptyRecord}
+use Rattle.stops.specs.declared.node_record.Record.{Record}
+use Rattle.records.specs.Records.{mask, orderWord}
+
+unfoldable pub records : List ℕ → List Record
+records [] = []
+records (a ∷ []) = []
+records (a ∷ b ∷ []) = []
+records (a ∷ b ∷ c ∷ []) = []
+records (a ∷ b ∷ c ∷ d ∷ []) = []
+records (a ∷ b ∷ c ∷ d ∷ e ∷ []) = []
+records (a ∷ b ∷ c ∷ d ∷ e ∷ f ∷ ws) = record { size = a; set = b; path = c; bound = d; first = e; second = f } ∷ records ws
+
+-- the words of a record, and of some
+unfoldable pub six : Record → List ℕ
+six x = x .size ∷ x .set ∷ x .path ∷ x .bound ∷ x .first ∷ x .second ∷ []
+
+unfoldable pub words : List Record → List ℕ
+words xs = each six xs
+
+-- the record of a node: `Records.record-of`, as six named numbers
+unfoldable pub encode : ℕ → Legs → ℕ → Node → Record
+encode n L bound x = record {
+  size = size n x;
+  set = mask (setOf n x);
+  path = path L x;
+  bound = boundBy bound n L x;
+  first = orderWord (take 8 x);
+  second = orderWord (drop 8 x);
+}
+
+-- the list without its element at i
+unfoldable pub dropAt : ℕ → List Record → List Record
+dropAt i xs = take i xs ++ drop (suc i) xs
+
+-- l′ is l with those of its elements from `from` to `to` that pass the test moved to `at` and behind, up to e; those from `to` on stay
+pub record Sifted (test : Record → Bool) (l : List Record) (from to at : ℕ) (l′ : List Record) (e : ℕ) : Type 0 where
+  pub same-length : length l′ ≡ length l
+  pub front : take e l′ ≡ take at l ++ keep test (slice from to l)
+  pub count : e ≡ at + length (keep test (slice from to l))
+  pub behind : drop to l′ ≡ drop to l
+
+-- the test that every record passes
+unfoldable pub always : Record → Bool
+always x = true
+
+-- r is the first place from `from` to `to` at which the test is not what it should be, or `to`
+pub record RunsTo (test : Record → Bool) (should : Bool) (l : List Record) (from to r : ℕ) : Type 0 where
+  pub from-there : from ≤ r
+  pub up-to : r ≤ to
+  pub all-so : keep test (slice from r l) ≡ cond should (slice from r l) []
+  pub met : r < to → test (getD l r emptyRecord) ≡ not should

@@ -1,0 +1,44 @@
+-- The numbers that document 01 fixes, by name. Each is written here, and for the code in src/lib.rt, and nowhere else.
+use Prim.Native.Nat.{ℕ}
+
+-- "Legs and orders": the stops of a day, its places (the stops and home), the numbers of its table, and the dearest leg
+abbrev pub mostStops : ℕ
+mostStops = 16
+
+abbrev pub places : ℕ
+places = 17
+
+abbrev pub tableNumbers : ℕ
+tableNumbers = 289
+
+abbrev pub dearest : ℕ
+dearest = 1_000_000
+
+-- "The report": places for the stops of an order
+abbrev pub orderPlaces : ℕ
+orderPlaces = 16
+
+-- "One run": U while no order is known, above the cost of every order (proved in `stops`)
+abbrev pub aboveEveryCost : ℕ
+aboveEveryCost = 4_294_967_295
+
+-- a limit on bounds that every bound keeps; the code's own
+abbrev pub noLimit : ℕ
+noLimit = 4_294_967_295
+
+-- "The pool": the words of a record; the bits of a stop in the words of an order, how many values these have, and how many stops a word holds
+abbrev pub recordWords : ℕ
+recordWords = 6
+
+abbrev pub stopBits : ℕ
+stopBits = 4
+
+abbrev pub stopBase : ℕ
+stopBase = 16
+
+abbrev pub wordStops : ℕ
+wordStops = 8
+
+-- "Job file and program": the bytes of the longest job file
+abbrev pub longest : ℕ
+longest = 1_185
