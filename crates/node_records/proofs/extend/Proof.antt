@@ -57,7 +57,7 @@ use Rattle.inspection.specs.Code.{ofSix}
 use Rattle.inspection.specs.declared.extend.Added.{Added}
 use Rattle.inspection.proofs.extend.Added as D
 use Rattle.inspection.proofs.extend.Added.Laws as D′
-use Rattle.node_records.proofs.Walk.{local, part, frees-all, hears, spelled, own-u32, val, vals, typed}
+use Rattle.node_records.proofs.Walk.{local, part, places, frees-all, hears, spelled, own-u32, val, vals, typed}
 use Rattle.node_records.proofs.Indices.{offset-fits, extended-inside, extended-outside}
 use Rattle.inspection.proofs.extend.extended_of as callee
 use Rattle.inspection.proofs.extend.extended_of.Symbol as callee-def
@@ -169,12 +169,6 @@ module _
       (ap (λ (m : ℕ). sliceVal (b, o) m ∷ []) (sym e), subst (Room T.the-row) (sym e) room) $ fjoin ! $ fjoin ! $ frame ! $
       owned ! R.the-row (Is R.the-row) (LL.makes R.the-type R′.the-plain 𝓤 H A) r (mach r ∷ []) is $ done !
 
-  -- the places of the locals' rooms at the end, the last local's first
-  abbrev rooms-at : List ℕ
-  rooms-at =
-      34 ∷ 35 ∷ 32 ∷ 33 ∷ 30 ∷ 31 ∷ 28 ∷ 29 ∷ 26 ∷ 27 ∷ 24 ∷ 25 ∷ 22 ∷ 23 ∷ 20 ∷ 21 ∷ 18 ∷ 19 ∷ 16 ∷ 17 ∷ 14 ∷ 15 ∷ 12 ∷ 13
-      ∷ 10 ∷ 11 ∷ 8 ∷ 9 ∷ 6 ∷ 7 ∷ []
-
   module _ (C : Calls 𝓤 H) (Λ : Loops 𝓤 H) (fm : FmC 𝓤 H (W .laws) C) (known : Triple 𝓤 (C #callee) (Callee 𝓤 H A mem run)) where
     walk :
         Room T.the-row (length ys) → i < 2 ^ 64 → s < 2 ^ 32 → leg < 2 ^ 32
@@ -241,7 +235,7 @@ module _
         returns-within ! Post refl (look ! 34 refl) $ forget ! 8 refl $ forget ! 10 refl $ forget ! 12 refl $ forget ! 14 refl $
         forget ! 16 refl $ forget ! 18 refl $ forget ! 20 refl $ forget ! 22 refl $ forget ! 24 refl $ forget ! 26 refl $ forget ! 28 refl $
         forget ! 30 refl $ forget ! 32 refl $ forget ! 34 refl $
-        move ! rooms-at $ frees-all ! $ keep ! (0 ∷ 1 ∷ 2 ∷ 3 ∷ []) $
+        move ! (places 6 14) $ frees-all ! $ keep ! (0 ∷ 1 ∷ 2 ∷ 3 ∷ []) $
         by ! (exits w (set ys i (w .node)) isw (length-set ys i (w .node)) room (extended-inside ys i s leg w inside f))))))))
         (λ outside. skips ! $ exec ! C Λ _ none (atRet _ Post) $
         assigns ! (agg ! (and-then ! (lit ! tt) (and-then ! (lit ! tt)
@@ -251,7 +245,7 @@ module _
         (init ! 34 refl (LL.lawful R.the-type R′.the-laws 𝓤 H A W .typed nothing-extended _ is-nothing .0)) $
         returns ! (look ! 34 refl) $ forget ! 6 refl $ forget ! 18 refl $ forget ! 20 refl $ forget ! 26 refl $ forget ! 28 refl $
         forget ! 30 refl $ forget ! 32 refl $ forget ! 34 refl $
-        move ! rooms-at $
+        move ! (places 6 14) $
         free1 ! $ free1 ! $ free1 ! $ free1 ! $ free1 ! $ free1 ! $ free1 ! $ free1 ! $ free1 ! $ free1 ! $ free1 ! $ free1 ! $ free1 ! $
         free1 ! $ free1 ! $ free0 ! $ keep ! (0 ∷ 1 ∷ 2 ∷ 3 ∷ []) $
         by ! (exits nothing-extended ys is-nothing refl room (extended-outside ys i s leg outside))))))))))))))))))
