@@ -19,11 +19,10 @@ use prog.Wp.{Heap, Calls, Loops, WpFn, Tables}
 use ghost.Atoms.{Atoms, sem}
 use contract.Monad.{Fun, fact}
 use contract.Running.{givenOf, tables, tablesOf}
-use types.Kit.{Given, atRet, ‵, raw, ⋆, _⊛_, _$_, _∵_, !, qed, by, move, keep, drop, use0, split, join, rewrite, fsplit, fjoin, suffices}
+use types.Kit.{Given, ‵, raw, ⋆, _⊛_, _$_, _∵_, !, qed, by, move, keep, drop, use0, split, join, rewrite, fsplit, fjoin, suffices}
 use types.Kit.{frame, done}
 use types.Run.{look, look-raw, store, store-raw, init, forget, stop, hop, fld, from, load, lit, false-lit, of-opd, bin, and-then, no-more}
-use types.Run.{assigns, land, first, branches, skips, exec, returns, returns-within, enter, alloc1, alloc0, params1, pass1, pass0}
-use types.Run.{free1, free0}
+use types.Run.{assigns, land, first, branches, returns, returns-within, enter, alloc1, alloc0, params1, pass1, pass0}
 use types.Part.{whole, sub, look-in, agg}
 use sound.WpLaws.{FmC, fmOf, WpFn-mono}
 use denote.Exit.{yes}
@@ -57,7 +56,7 @@ use Rattle.inspection.specs.Code.{ofSix}
 use Rattle.inspection.specs.declared.extend.Added.{Added}
 use Rattle.inspection.proofs.extend.Added as D
 use Rattle.inspection.proofs.extend.Added.Laws as D′
-use Rattle.node_records.proofs.Walk.{local, part, places, frees-all, hears, spelled, own-u32, val, vals, typed}
+use Rattle.node_records.proofs.Walk.{local, part, sets, goes-on, places, frees-all, hears, spelled, own-u32, val, vals, typed}
 use Rattle.node_records.proofs.Indices.{offset-fits, extended-inside, extended-outside}
 use Rattle.inspection.proofs.extend.extended_of as callee
 use Rattle.inspection.proofs.extend.extended_of.Symbol as callee-def
@@ -184,25 +183,20 @@ module _
         pass1 ! (init ! 22 refl (tt, record { fits = gs })) $ pass1 ! (init ! 20 refl (tt, record { fits = gl })) $ pass0 ! $
         move ! (31 ∷ []) $ fsplit ! $ fsplit ! $ move ! (1 ∷ []) $ fsplit ! $ move ! (34 ∷ []) $ split ! $ move ! (2 ∷ 3 ∷ 0 ∷ 5 ∷ []) $
         -- [obs; the borrow; the token; what i, the stop and the leg own; true; the slice's fact; _14; …; _0; …]
-        assigns ! (of-opd ! (part ! 6 14 refl refl (whole !))) (from ! (stop !))
-        (init ! 20 refl (tt, record { fits = room .0 })) $
-        assigns ! (bin ! (local ! 6 14 refl) (local ! 6 14 refl) tt) (from ! (stop !)) (init ! 18 refl (tt, tt)) $
+        sets ! 6 14 (of-opd ! (part ! 6 14 refl refl (whole !))) refl (tt, record { fits = room .0 }) $
+        sets ! 6 14 (bin ! (local ! 6 14 refl) (local ! 6 14 refl) tt) refl (tt, tt) $
         first ! $ branches ! (local ! 6 14 refl)
         (λ inside.
-        assigns ! (bin ! (local ! 6 14 refl) (lit ! tt) (record { fits = fits inside })) (from ! (stop !))
-        (init ! 16 refl (tt, record { fits = fits inside })) $
-        assigns ! (bin ! (part ! 6 14 refl refl (whole !)) (local ! 6 14 refl) tt)
-        (from ! (stop !)) (init ! 14 refl (tt, tt)) $
+        sets ! 6 14 (bin ! (local ! 6 14 refl) (lit ! tt) (record { fits = fits inside })) refl (tt, record { fits = fits inside }) $
+        sets ! 6 14 (bin ! (part ! 6 14 refl refl (whole !)) (local ! 6 14 refl) tt) refl (tt, tt) $
         rewrite ! 14 (λ (p : ℕ). ‵ (fat fullShare tyPtr l₁₀ 0 (vptr b p))) (sym (place-is 24 o i)) refl $
         opens-slice ! tt T.the-row ys b o $
         elem-out ! T.the-row (Is T.the-row) (shows 𝓤 H A T.the-row) vals (LL.tells T.the-type T′.the-laws) fullShare ys i noRecord b o
         (ltb→lt i (length ys) inside) (λ is.
         -- [record i; what it owns; the others; the open borrow; obs; auth; what i, .. own; true; the slice's fact; _14; …; _0; …]
-        assigns ! (of-opd ! (load ! (from ! (hop ! (look ! 17 refl) (stop !))) (look-raw ! 0 refl))) (from ! (stop !))
-        (init ! 15 refl (typed 𝓤 H A W x is)) $
-        assigns ! (of-opd ! (local ! 9 14 refl)) (from ! (stop !)) (init ! 27 refl (typed 𝓤 H A W x is)) $
-        assigns ! (agg ! (and-then ! (local ! 9 14 refl) (and-then ! (local ! 9 14 refl) (no-more !)))) (from ! (stop !))
-        (init ! 13 refl (LL.lawful D.the-type D′.the-laws 𝓤 H A W .typed (added s leg) _ (is-added s leg gs gl) .0)) $
+        sets ! 9 14 (of-opd ! (load ! (from ! (hop ! (look ! 17 refl) (stop !))) (look-raw ! 0 refl))) refl (typed 𝓤 H A W x is) $
+        sets ! 9 14 (of-opd ! (local ! 9 14 refl)) refl (typed 𝓤 H A W x is) $
+        sets ! 9 14 (agg ! (and-then ! (local ! 9 14 refl) (and-then ! (local ! 9 14 refl) (no-more !)))) refl (LL.lawful D.the-type D′.the-laws 𝓤 H A W .typed (added s leg) _ (is-added s leg gs gl) .0) $
         use0 W (raw (Callee 𝓤 H A mem run .pre (to 𝓤 H A mem run x s leg))) (asked 𝓤 H A mem run x s leg W gs gl is) $
         calls-at ! fm (Callee 𝓤 H A mem run) known (to 𝓤 H A mem run x s leg)
         (and-then ! (part ! 10 14 refl refl (whole !))
@@ -221,8 +215,7 @@ module _
         land ! (from ! (stop !)) (init ! 25 refl (LL.lawful R.the-type R′.the-laws 𝓤 H A W .typed w _ isw .0)) $
         assigns ! (bin ! (local ! 9 14 refl) (lit ! tt) (record { fits = fits inside })) (from ! (stop !))
         (store ! 19 refl (tt, record { fits = fits inside })) $
-        assigns ! (bin ! (part ! 9 14 refl refl (whole !)) (local ! 9 14 refl) tt)
-        (from ! (stop !)) (init ! 11 refl (tt, tt)) $
+        sets ! 9 14 (bin ! (part ! 9 14 refl refl (whole !)) (local ! 9 14 refl) tt) refl (tt, tt) $
         rewrite ! 11 (λ (p : ℕ). ‵ (fat fullShare tyPtr l₁₃ 0 (vptr b p))) (sym (place-is 24 o i)) refl $
         assigns ! (of-opd ! (part ! 9 14 refl refl (whole !)))
         (from ! (hop ! (look ! 11 refl) (stop !))) (store-raw ! 0 refl (typed 𝓤 H A W (w .node) isn)) $
@@ -230,24 +223,20 @@ module _
         move ! (1 ∷ 0 ∷ []) $
         elem-put ! T.the-row fullShare ys i (w .node) (vals (w .node)) b o (ltb→lt i (length ys) inside) $
         closes-slice ! tt T.the-row ys (set ys i (w .node)) (length-set ys i (w .node)) b o $
-        assigns ! (of-opd ! (local ! 6 14 refl)) (from ! (stop !))
-        (init ! 34 refl (LL.lawful R.the-type R′.the-laws 𝓤 H A W .typed w _ isw .0)) $
+        sets ! 6 14 (of-opd ! (local ! 6 14 refl)) refl (LL.lawful R.the-type R′.the-laws 𝓤 H A W .typed w _ isw .0) $
         returns-within ! Post refl (look ! 34 refl) $ forget ! 8 refl $ forget ! 10 refl $ forget ! 12 refl $ forget ! 14 refl $
         forget ! 16 refl $ forget ! 18 refl $ forget ! 20 refl $ forget ! 22 refl $ forget ! 24 refl $ forget ! 26 refl $ forget ! 28 refl $
         forget ! 30 refl $ forget ! 32 refl $ forget ! 34 refl $
         move ! (places 6 14) $ frees-all ! $ keep ! (0 ∷ 1 ∷ 2 ∷ 3 ∷ []) $
         by ! (exits w (set ys i (w .node)) isw (length-set ys i (w .node)) room (extended-inside ys i s leg w inside f))))))))
-        (λ outside. skips ! $ exec ! C Λ _ none (atRet _ Post) $
-        assigns ! (agg ! (and-then ! (lit ! tt) (and-then ! (lit ! tt)
-        (and-then ! (lit ! tt) (and-then ! (lit ! tt) (and-then ! (lit ! tt) (and-then ! (lit ! tt) (no-more !)))))))) (from ! (stop !))
-        (init ! 6 refl (typed 𝓤 H A W noRecord zeros)) $
-        assigns ! (agg ! (and-then ! (false-lit !) (and-then ! (false-lit !) (and-then ! (local ! 6 14 refl) (no-more !))))) (from ! (stop !))
-        (init ! 34 refl (LL.lawful R.the-type R′.the-laws 𝓤 H A W .typed nothing-extended _ is-nothing .0)) $
+        (λ outside. goes-on ! none Post $
+        sets ! 6 14 (agg ! (and-then ! (lit ! tt) (and-then ! (lit ! tt)
+        (and-then ! (lit ! tt) (and-then ! (lit ! tt) (and-then ! (lit ! tt) (and-then ! (lit ! tt) (no-more !)))))))) refl (typed 𝓤 H A W noRecord zeros) $
+        sets ! 6 14 (agg ! (and-then ! (false-lit !) (and-then ! (false-lit !) (and-then ! (local ! 6 14 refl) (no-more !))))) refl (LL.lawful R.the-type R′.the-laws 𝓤 H A W .typed nothing-extended _ is-nothing .0) $
         returns ! (look ! 34 refl) $ forget ! 6 refl $ forget ! 18 refl $ forget ! 20 refl $ forget ! 26 refl $ forget ! 28 refl $
         forget ! 30 refl $ forget ! 32 refl $ forget ! 34 refl $
         move ! (places 6 14) $
-        free1 ! $ free1 ! $ free1 ! $ free1 ! $ free1 ! $ free1 ! $ free1 ! $ free1 ! $ free1 ! $ free1 ! $ free1 ! $ free1 ! $ free1 ! $
-        free1 ! $ free1 ! $ free0 ! $ keep ! (0 ∷ 1 ∷ 2 ∷ 3 ∷ []) $
+        frees-all ! $ keep ! (0 ∷ 1 ∷ 2 ∷ 3 ∷ []) $
         by ! (exits nothing-extended ys is-nothing refl room (extended-outside ys i s leg outside))))))))))))))))))
       where
         x : Record
