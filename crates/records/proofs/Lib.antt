@@ -1,10 +1,8 @@
 pub mod ViewLaws
-pub mod SliceLaws
 pub mod SiftLaws
 pub mod OrderWords
 pub mod Mask
 pub mod Encode
-pub mod Padded
 pub mod OrderStops
 pub mod EncodeLaws
 pub mod PoolWords

@@ -1,5 +1,5 @@
 -- What is searched, what a caller may choose, and the state of a run: document 01, "Nodes" and "One run", over any nodes N.
--- The stops of a table are an instance (crate `stops`). Assumes nothing.
+-- The stops of a table are an instance (crate `stops`).
 use mathlib.Core.Bool.{Bool}
 use mathlib.Core.List.{List, [], _∷_}
 use mathlib.Core.Option.{Option, none, some}
@@ -26,7 +26,7 @@ pub record Choices (N : Type 0) : Type 0 where
   -- the lower bound
   pub bound : N → ℕ
 
--- "State: active nodes in order of generation, nodes branched so far, upper cost U with its order, counts."
+-- the state of a run: its active nodes as they were generated, its branched ones, the best order known, and counts
 pub record State (N : Type 0) : Type 0 where
   pub active : List N
   -- earliest branched first
@@ -37,11 +37,11 @@ pub record State (N : Type 0) : Type 0 where
   pub eliminated : ℕ
   pub most : ℕ
 
--- "U is the cost of the starting order, or above every cost if none is given."
+-- U, the cost of the best order known; a number above every cost while there is none
 abbrev pub upper : {N : Type 0} → Problem N → Option N → ℕ
 upper P none = P .above
 upper P (some x) = P .cost x
 
--- "At the start e is active and generated = 1."
+-- a run starts with e, and with the starting order if there is one
 unfoldable pub start : {N : Type 0} → Problem N → Option N → State N
 start P best = record { active = P .root ∷ []; branched = []; best = best; generated = 1; eliminated = 0; most = 1 }

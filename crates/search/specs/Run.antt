@@ -1,4 +1,4 @@
--- The run: document 01, "One run" and "The pool". Assumes nothing.
+-- The run: document 01, "One run" and "The pool".
 use mathlib.Core.Path.{_≡_}
 use mathlib.Core.Bool.{Bool, true, false, not}
 use mathlib.Core.List.{List, _++_}
@@ -9,7 +9,8 @@ use Rattle.search.specs.Problem.{Problem, Choices, State}
 use Rattle.search.specs.Selection.{Choice, nothing, chosen, select, finishes}
 use Rattle.search.specs.Step.{on, step}
 
--- What the pool holds of a state: the active nodes, earliest first; then, with rule 4, the branched nodes, earliest branched first.
+-- The nodes that the pool keeps of a state: the active ones as they were generated and, if rule 4 is on, behind them the branched ones as they
+-- were branched.
 abbrev pub withBranched : {N : Type 0} → Bool → List N → List N → List N
 withBranched true active branched = active ++ branched
 withBranched false active branched = active
@@ -29,12 +30,12 @@ pub data Outcome (N : Type 0) : Type 0 where
   full : State N → Outcome N
   unfinished : State N → Outcome N
 
--- "The finish test comes before the step, so a run that is finished is never refused with 7."
+-- The finish test is made first: where it holds, no step is made that the pool could be too small for.
 abbrev pub unless : {N : Type 0} → Bool → Next N → Next N
 unless true next = finish
 unless false next = next
 
--- "If these outnumber the records after a step, the pool is full, and the state before that step stands."
+-- A step that leaves more nodes to keep than there are records is not made: the pool is full, and the state stays what it was.
 abbrev pub goUnless : {N : Type 0} → Bool → State N → Next N
 goUnless true s = overflow
 goUnless false s = go s

@@ -1,4 +1,4 @@
--- The four selections and the finish test: document 01, "One run". Assumes nothing.
+-- The four selections and the finish test: document 01, "One run".
 use mathlib.Core.Bool.{Bool, true, false, not, _&&_, _||_, cond}
 use mathlib.Core.List.{List, [], _∷_}
 use mathlib.Core.Option.{Option}
@@ -31,10 +31,8 @@ abbrev pub latest : {N : Type 0} → (N → Bool) → List N → Choice N
 latest test [] = nothing
 latest test (x ∷ xs) = orElse (behind x (latest test xs)) (cond (test x) (chosen x xs) nothing)
 
--- "The selection number decides which active node is branched, called b":
---   0: least bound (LLB), earliest generated on ties. 1: the same, latest on ties.
---   2 (FIFO): earliest generated.
---   3 (LIFO): latest generated that is not complete; if all are complete, the latest.
+-- Which active node is branched, by the selection's number. Under 0 and 1 (LLB) it is one of least bound, of several the earliest or the
+-- latest generated; under 2 (FIFO) the earliest of all; under 3 (LIFO) the latest that is not complete, or the latest where each is.
 -- Any other number is refused before the run ("Causes and numbers", 4).
 unfoldable pub selectBy : {N : Type 0} → Problem N → (N → ℕ) → ℕ → List N → Choice N
 selectBy P bound zero active = earliest (λ x. eqb (bound x) (least bound active)) active
@@ -50,7 +48,8 @@ abbrev pub empty : {N : Type 0} → List N → Bool
 empty [] = true
 empty (x ∷ xs) = false
 
--- "The run finishes .. if b's bound is at least U (and, under 2 and 3, b is the only active node), or if b is complete."
+-- The finish test: the node that would be branched is complete, or its bound is at least U. Under FIFO and LIFO the bound counts only where
+-- no other node is active.
 unfoldable pub finishes : {N : Type 0} → Problem N → Choices N → Option N → N → List N → Bool
 finishes P C best b rest =
     leb (upper P best) (C .bound b) && (not (eqb (C .selection) 2 || eqb (C .selection) 3) || empty rest) || P .complete b

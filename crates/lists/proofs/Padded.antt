@@ -1,11 +1,11 @@
--- A list with zeros behind it, written one element further (`padded-one`). Assumes nothing.
+-- A list with zeros behind it, written one element further (`padded-one`).
 use mathlib.Core.Path.{_≡_, sym, _∙_}
 use mathlib.Core.List.{List, [], _∷_, _++_}
 use Prim.Native.Nat.{ℕ, suc, _-_, _<_}
 use native.Mathlib.Omega.{arith}
 use lib.ListN.{length, set, replicate, length-append}
 use lib.Seq.{set-at, append-snoc}
-use Rattle.records.specs.Records.{padded}
+use Rattle.lists.specs.Lists.{padded}
 
 pub padded-one :
     (n : ℕ) (xs zs : List ℕ) (k y : ℕ) → length xs ≡ k → zs ≡ xs ++ (y ∷ []) → k < n → set (padded n xs) k y ≡ padded n zs
