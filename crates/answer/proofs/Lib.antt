@@ -4,6 +4,7 @@ pub mod Instance
 pub mod Ending
 pub mod Tested
 pub mod Ends
+pub mod Contents
 pub mod Demand1
 pub mod Demand2
 pub mod Demand3

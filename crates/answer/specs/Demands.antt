@@ -16,7 +16,7 @@ use Rattle.search.specs.Step.{on}
 use Rattle.orders.specs.Orders.{Node, Order, orders, factorial}
 use Rattle.stops.specs.Legs.{cost}
 use Rattle.records.specs.Records.{padded}
-use Rattle.answer.specs.Call.{Call, Answer}
+use Rattle.answer.specs.Call.{Call, callOf, Answer}
 use Rattle.answer.specs.declared.Report.{Report}
 use Rattle.answer.specs.Checks.{cause}
 use Rattle.answer.specs.Answer.{legsOf, problemOf, choicesOf, StateOf, answer}
@@ -122,7 +122,7 @@ abbrev pub FavouredFinishes : Planner → Type 0
 FavouredFinishes P =
     (a b : Call) (x y : Answer) → P a x → P b y → Favours a b → cause a ≡ 0 → y .report .number ≡ 0 → NoWorse (x .report) (y .report)
 
--- DOCUMENT 01, "The report" and "One run"
+-- DOCUMENT 01, "The report", "The pool" and "One run"
 
 -- Number 0 comes when, and only when, the run comes to a state where a node is chosen of which the finish test holds; so a finished run is
 -- never refused.
@@ -132,6 +132,13 @@ FinishedIff P = (c : Call) (a : Answer) → P c a → (a .report .number ≡ 0) 
 -- `branched` is how many steps the run made to the state that ended it.
 abbrev pub BranchedAreSteps : Planner → Type 0
 BranchedAreSteps P = (c : Call) (a : Answer) → P c a → (end : ComesTo c Ends) → a .report .branched ≡ made (end .steps)
+
+-- What the pool holds before the run plays no part: the same job over a pool of the same length has the same report and, where no check refuses
+-- it, leaves the same words.
+abbrev pub ContentsPlayNoPart : Planner → Type 0
+ContentsPlayNoPart P =
+    (c : Call) (pool : List ℕ) (x y : Answer) → P c x → P (callOf (c .job) (c .table) (c .start) pool) y → length pool ≡ length (c .pool)
+    → (x .report ≡ y .report) × (cause c ≡ 0 → x .pool ≡ y .pool)
 
 -- The active set is never empty.
 abbrev pub ActiveNeverEmpty : Type 0
