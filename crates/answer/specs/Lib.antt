@@ -3,3 +3,5 @@ pub mod Checks
 pub mod Answer
 pub mod Cases
 pub mod OwnCases
+pub mod Ends
+pub mod Demands

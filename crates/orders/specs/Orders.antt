@@ -37,26 +37,26 @@ lastFrom place (s ∷ x) = lastFrom s x
 unfoldable pub last : Node → ℕ
 last x = lastFrom 0 x
 
--- how many stops of 1 to n a node flies; one that flies them all is complete
+-- how many stops of 1 to n it flies, and whether it flies all
 unfoldable pub size : ℕ → Node → ℕ
 size n x = length (setOf n x)
 
 unfoldable pub complete : ℕ → Node → Bool
 complete n x = eqb (size n x) n
 
--- the children of a node: one for each stop that it leaves, which comes last in it
+-- a node with one more stop behind; the children of a node are its extensions by each stop that it leaves, ascending
 abbrev pub extend : Node → ℕ → Node
 extend x s = x ++ (s ∷ [])
 
 unfoldable pub children : ℕ → Node → List Node
 children n x = map (extend x) (left n x)
 
--- a partial order: no stop stands twice, and nothing but 1 to n
+-- a partial order of 1 to n
 pub record Partial (n : ℕ) (x : Node) : Type 0 where
   pub once : Distinct x
   pub only : (s : ℕ) → In s x → (1 ≤ s) × (s ≤ n)
 
--- an order: a permutation of 1 to n
+-- an order of 1 to n
 pub record Order (n : ℕ) (x : Node) : Type 0 where
   -- no stop stands twice
   pub once : Distinct x

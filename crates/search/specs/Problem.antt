@@ -26,22 +26,23 @@ pub record Choices (N : Type 0) : Type 0 where
   -- the lower bound
   pub bound : N → ℕ
 
--- the state of a run: its active nodes as they were generated, its branched ones, the best order known, and counts
+-- What a run stands at between two steps. U is the cost of `best` (`upper`).
 pub record State (N : Type 0) : Type 0 where
+  -- earliest generated first
   pub active : List N
   -- earliest branched first
   pub branched : List N
-  -- U's order, if one is known
+  -- the cheapest order known, if there is one
   pub best : Option N
   pub generated : ℕ
   pub eliminated : ℕ
   pub most : ℕ
 
--- U, the cost of the best order known; a number above every cost while there is none
+-- U: the cost of the best order known; while none is known, a number that no order costs
 abbrev pub upper : {N : Type 0} → Problem N → Option N → ℕ
 upper P none = P .above
 upper P (some x) = P .cost x
 
--- a run starts with e, and with the starting order if there is one
+-- A run starts with e alone, which counts as generated; `best` is the starting order, if one is given.
 unfoldable pub start : {N : Type 0} → Problem N → Option N → State N
 start P best = record { active = P .root ∷ []; branched = []; best = best; generated = 1; eliminated = 0; most = 1 }

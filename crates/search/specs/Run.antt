@@ -9,8 +9,7 @@ use Rattle.search.specs.Problem.{Problem, Choices, State}
 use Rattle.search.specs.Selection.{Choice, nothing, chosen, select, finishes}
 use Rattle.search.specs.Step.{on, step}
 
--- The nodes that the pool keeps of a state: the active ones as they were generated and, if rule 4 is on, behind them the branched ones as they
--- were branched.
+-- What the pool holds of a state: its active nodes in their order and, where rule 4 is on, its branched nodes behind them.
 abbrev pub withBranched : {N : Type 0} → Bool → List N → List N → List N
 withBranched true active branched = active ++ branched
 withBranched false active branched = active
@@ -30,12 +29,12 @@ pub data Outcome (N : Type 0) : Type 0 where
   full : State N → Outcome N
   unfinished : State N → Outcome N
 
--- The finish test is made first: where it holds, no step is made that the pool could be too small for.
+-- The finish test is asked first, so what does not fit the pool is never looked at in a finished run.
 abbrev pub unless : {N : Type 0} → Bool → Next N → Next N
 unless true next = finish
 unless false next = next
 
--- A step that leaves more nodes to keep than there are records is not made: the pool is full, and the state stays what it was.
+-- The pool is full where a step would leave more to hold than there are records; that step is not taken.
 abbrev pub goUnless : {N : Type 0} → Bool → State N → Next N
 goUnless true s = overflow
 goUnless false s = go s

@@ -31,9 +31,8 @@ abbrev pub latest : {N : Type 0} → (N → Bool) → List N → Choice N
 latest test [] = nothing
 latest test (x ∷ xs) = orElse (behind x (latest test xs)) (cond (test x) (chosen x xs) nothing)
 
--- Which active node is branched, by the selection's number. Under 0 and 1 (LLB) it is one of least bound, of several the earliest or the
--- latest generated; under 2 (FIFO) the earliest of all; under 3 (LIFO) the latest that is not complete, or the latest where each is.
--- Any other number is refused before the run ("Causes and numbers", 4).
+-- The node to branch, by the number of the selection. LLB: of the nodes with the least bound the earliest (0) or the latest (1). FIFO
+-- (2): the earliest of all. LIFO (3): the latest that is not complete or, where every node is, the latest. Other numbers have cause 4.
 unfoldable pub selectBy : {N : Type 0} → Problem N → (N → ℕ) → ℕ → List N → Choice N
 selectBy P bound zero active = earliest (λ x. eqb (bound x) (least bound active)) active
 selectBy P bound (suc zero) active = latest (λ x. eqb (bound x) (least bound active)) active
@@ -48,8 +47,8 @@ abbrev pub empty : {N : Type 0} → List N → Bool
 empty [] = true
 empty (x ∷ xs) = false
 
--- The finish test: the node that would be branched is complete, or its bound is at least U. Under FIFO and LIFO the bound counts only where
--- no other node is active.
+-- The finish test of the chosen node b. A complete b ends the run; so does a bound that is not below U, under FIFO and LIFO only
+-- where no other node is active.
 unfoldable pub finishes : {N : Type 0} → Problem N → Choices N → Option N → N → List N → Bool
 finishes P C best b rest =
     leb (upper P best) (C .bound b) && (not (eqb (C .selection) 2 || eqb (C .selection) 3) || empty rest) || P .complete b
