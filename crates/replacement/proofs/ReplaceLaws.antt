@@ -11,12 +11,12 @@ use native.Mathlib.Omega.{arith}
 use lib.ListN.{length, take, drop, length-append}
 use lib.Seq.{slice, length-slice, length-take-le, take-take, paste, take-paste, drop-paste}
 use Rattle.lists.specs.Lists.{keep}
-use Rattle.lists.proofs.Keep.{keep-all}
+use Rattle.lists.proofs.Keep.{keep-all, keep-append}
 use Rattle.lists.proofs.Numbers.{keep-parts}
+use Rattle.lists.proofs.Slices.{drop-further, slice-further}
 use Rattle.stops.specs.declared.node_record.Record.{Record}
 use Rattle.records.specs.Code.{Sifted, dropAt, always}
 use Rattle.passes.specs.Code.{isStaying}
-use Rattle.records.proofs.SliceLaws.{keep-append, drop-further, slice-further}
 use Rattle.replacement.specs.Code.{Active, stayingOf}
 
 -- those to keep, in place of the first a of recs, stand at the front of recs′, e in number; the records from a on are as before

@@ -14,7 +14,8 @@ use lib.ListN.{getD}
 use Rattle.sizes.specs.Sizes.{mostStops, places, dearest}
 use Rattle.lists.specs.Lists.{In, from}
 use Rattle.lists.proofs.Tests.{to-true, to-false, and-left, and-right, and-both, ordered}
-use Rattle.lists.proofs.Elements.{getD-from, getD-past, getD-small}
+pub use Rattle.lists.proofs.Elements.{getD-from}
+use Rattle.lists.proofs.Elements.{getD-past, getD-small}
 use Rattle.stops.specs.Legs.{entry, rows, rowLeg, legs}
 use Rattle.stops.specs.Code.{Cheap}
 use Rattle.stops.specs.Examples

@@ -1,0 +1,2 @@
+-- `padded-one` stands in `lists` now.
+pub use Rattle.lists.proofs.Padded.{padded-one}
