@@ -32,11 +32,19 @@ written c a = a ≡ answer c
 
 -- DEMAND 1
 
--- Every call ends, with an order or with a numbered refusal.
+-- Every call is answered, ..
+abbrev pub EveryCallIsAnswered : Planner → Type 0
+EveryCallIsAnswered P = (c : Call) → (a : Answer) × P c a
+
+-- .. and ends with an order or with a numbered refusal.
 abbrev pub EveryCallEnds : Planner → Type 0
 EveryCallEnds P = (c : Call) (a : Answer) → P c a → Ended c a
 
--- What a refusal gives and leaves is known beforehand.
+-- What a refusal gives and leaves is known beforehand: nothing but the call decides the answer, ..
+abbrev pub OneAnswer : Planner → Type 0
+OneAnswer P = (c : Call) (a b : Answer) → P c a → P c b → a ≡ b
+
+-- .. and where it is not number 0, it is one of these two.
 abbrev pub RefusalsFixed : Planner → Type 0
 RefusalsFixed P = (c : Call) (a : Answer) → P c a → a .report .number ≢ 0 → RefusedAt c a ⊎ FullAt c a
 
