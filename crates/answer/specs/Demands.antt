@@ -17,6 +17,7 @@ use Rattle.orders.specs.Orders.{Node, Order, orders, factorial}
 use Rattle.stops.specs.Legs.{cost}
 use Rattle.records.specs.Records.{padded}
 use Rattle.answer.specs.Call.{Call, callOf, Answer}
+use Rattle.answer.specs.declared.Job.{Job}
 use Rattle.answer.specs.declared.Report.{Report}
 use Rattle.answer.specs.Checks.{cause}
 use Rattle.answer.specs.Answer.{legsOf, problemOf, choicesOf, StateOf, answer}
@@ -99,7 +100,13 @@ pub record AllOrders (n : ℕ) : Type 0 where
 abbrev pub OrdersAreAll : Type 0
 OrdersAreAll = (n : ℕ) → AllOrders n
 
--- DEMAND 3, the second half: A stands to B as the letter asks.
+-- DEMAND 3, the second half: two jobs A and B over one table.
+
+-- A has B's bound or, under selections 2 and 3 (FIFO and LIFO), one that is at least as close: close (1) is as close as plain (0), and closer.
+abbrev pub AsClose : Job → Job → Type 0
+AsClose a b = (a .bound ≡ b .bound) ⊎ ((2 ≤ a .selection) × (b .bound ≤ a .bound))
+
+-- A stands to B as the letter asks.
 pub record Favours (a b : Call) : Type 0 where
   -- one table
   pub n : a .job .n ≡ b .job .n
@@ -113,8 +120,7 @@ pub record Favours (a b : Call) : Type 0 where
   pub rule-1 : T (on 1 (b .job .rules)) → T (on 1 (a .job .rules))
   -- B has no starting order, or A has one that is no dearer
   pub start : (b .start ≡ []) ⊎ ((a .start ≢ []) × (cost (legsOf a) (a .start) ≤ cost (legsOf a) (b .start)))
-  -- B's bound or, under selections 2 and 3, one that is at least as close: close (1) is as close as plain (0)
-  pub bound : (a .job .bound ≡ b .job .bound) ⊎ ((2 ≤ a .job .selection) × (b .job .bound ≤ a .job .bound))
+  pub bound : AsClose (a .job) (b .job)
   -- a pool that is at least as large
   pub pool : length (b .pool) ≤ length (a .pool)
 
