@@ -13,7 +13,7 @@ use Rattle.lists.specs.Lists.{In, Distinct}
 use Rattle.search.specs.Problem.{State, upper}
 use Rattle.search.specs.Selection.{chosen, select, empty, finishes}
 use Rattle.search.specs.Step.{on}
-use Rattle.orders.specs.Orders.{Node, Order, orders, factorial}
+use Rattle.orders.specs.Orders.{Node, complete, children, Order, orders, factorial}
 use Rattle.stops.specs.Legs.{cost}
 use Rattle.records.specs.Records.{padded}
 use Rattle.answer.specs.Call.{Call, callOf, Answer}
@@ -179,3 +179,19 @@ TestsAgree =
     (c : Call) → cause c ≡ 0 → (s : State Node) → StateOf c s → (b : Node) (rest : List Node)
     → select (problemOf c) (choicesOf c) (s .active) ≡ chosen b rest
     → finishes (problemOf c) (choicesOf c) (s .best) b rest ≡ finishesWhenEqual c s b rest
+
+-- DOCUMENT 01, "Nodes": the lower bounds
+
+-- A bound never falls when a node is extended, ..
+abbrev pub BoundNeverFalls : Type 0
+BoundNeverFalls =
+    (c : Call) → cause c ≡ 0 → (x y : Node) → In y (children (c .job .n) x) → choicesOf c .bound x ≤ choicesOf c .bound y
+
+-- .. equals the order's cost at a complete node, ..
+abbrev pub BoundExact : Type 0
+BoundExact = (c : Call) → cause c ≡ 0 → (x : Node) → T (complete (c .job .n) x) → choicesOf c .bound x ≡ problemOf c .cost x
+
+-- .. and close (1) is never below plain (0).
+abbrev pub CloseNotBelowPlain : Type 0
+CloseNotBelowPlain =
+    (a b : Call) → OneTable a b → a .job .bound ≤ b .job .bound → cause b ≡ 0 → (x : Node) → choicesOf a .bound x ≤ choicesOf b .bound x
