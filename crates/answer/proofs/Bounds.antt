@@ -8,7 +8,7 @@ use Rattle.stops.specs.Bounds.{boundBy}
 use Rattle.stops.specs.Stops.{problem, choices}
 use Rattle.stops.proofs.Bounds.{bound-closer}
 use Rattle.answer.specs.Answer.{legsOf, problemOf, choicesOf}
-use Rattle.answer.specs.Demands.{BoundNeverFalls, BoundExact, CloseNotBelowPlain}
+use Rattle.answer.specs.Document01.{BoundNeverFalls, BoundExact, CloseNotBelowPlain}
 use Rattle.answer.proofs.Passes.{passes}
 use Rattle.answer.proofs.Instance.{bound-laws}
 

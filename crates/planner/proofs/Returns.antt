@@ -1,6 +1,7 @@
 -- The letter's demands of what `plan` returns and leaves in the pool, from its promise alone: that is an equation with `answer`, of which crate
 -- `answer` proves them.
-use Rattle.answer.specs.Demands.{EveryCallIsAnswered, EveryCallEnds, OneAnswer, RefusalsFixed, RunIsWritten, CountsBalance, FullIff, OneCost, CheapestOfAll, FavouredFinishes, FinishedIff, BranchedAreSteps, ContentsPlayNoPart}
+use Rattle.answer.specs.Demands.{EveryCallIsAnswered, EveryCallEnds, OneAnswer, RefusalsFixed, RunIsWritten, CountsBalance, FullIff, OneCost, CheapestOfAll, FavouredFinishes}
+use Rattle.answer.specs.Document01.{FinishedIff, BranchedAreSteps, ContentsPlayNoPart}
 use Rattle.answer.proofs.Demand1.{call-answered, call-ends, one-answer, refusals-fixed}
 use Rattle.answer.proofs.Demand2.{run-is-written, counts-balance, full-iff, finished-iff, branched-are-steps}
 use Rattle.answer.proofs.Demand3.{one-cost, cheapest-of-all}
