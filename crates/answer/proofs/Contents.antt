@@ -13,7 +13,8 @@ use Rattle.records.specs.Records.{recordsIn, poolWords}
 use Rattle.answer.specs.Call.{Call, callOf, Answer}
 use Rattle.answer.specs.Checks.{cause₆, orLater, jobCause, cause}
 use Rattle.answer.specs.Answer.{legsOf, problemOf, choicesOf, given, outcome, wordsOf, ending, respond, answer}
-use Rattle.answer.specs.Demands.{written, ContentsPlayNoPart}
+use Rattle.answer.specs.Demands.{written}
+use Rattle.answer.specs.Document01.{ContentsPlayNoPart}
 use Rattle.answer.proofs.Instance.{outcome-ends}
 
 module _ (c : Call) (pool : List ℕ) (long : length pool ≡ length (c .pool)) where

@@ -1,5 +1,5 @@
 -- Demand 1 of the written run: every call ends, with an order or a numbered refusal, and what a refusal gives and leaves.
-use mathlib.Core.Path.{_≡_, sym, _∙_, ap, subst}
+use mathlib.Core.Path.{_≡_, refl, sym, _∙_, ap, subst}
 use mathlib.Core.Logic.{_⊎_, inl, inr}
 use native.Mathlib.Omega.{arith}
 use Rattle.answer.specs.Call.{Call, Answer}
@@ -7,11 +7,17 @@ use Rattle.answer.specs.declared.Report.{Report}
 use Rattle.answer.specs.Checks.{cause}
 use Rattle.answer.specs.Answer.{reportWith, ending, answer}
 use Rattle.answer.specs.Ends.{FullAt, RefusedAt, Ended, planned, filled, refused}
-use Rattle.answer.specs.Demands.{written, EveryCallEnds, RefusalsFixed}
+use Rattle.answer.specs.Demands.{written, EveryCallIsAnswered, EveryCallEnds, OneAnswer, RefusalsFixed}
 use Rattle.answer.proofs.Instance.{finished-state, full-state}
 use Rattle.answer.proofs.Ending.{Came, checked, overran, ended, call-came, cause-small}
 use Rattle.answer.proofs.Ends.{finish-holds}
 use Rattle.answer.proofs.Demand3.{answer-cheapest}
+
+pub call-answered : EveryCallIsAnswered written
+call-answered c = (answer c, refl)
+
+pub one-answer : OneAnswer written
+one-answer c a b p q = p ∙ sym q
 
 call-ended : (c : Call) → Ended c (answer c)
 unfolding ending reportWith

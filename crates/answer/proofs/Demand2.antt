@@ -10,7 +10,8 @@ use Rattle.records.specs.Records.{recordsIn}
 use Rattle.answer.specs.Call.{Call, Answer, refusal}
 use Rattle.answer.specs.Answer.{problemOf, choicesOf, given, reportWith, ending, answer}
 use Rattle.answer.specs.Ends.{FinishTestHolds, NextDoesNotFit, Ends, ComesTo, made}
-use Rattle.answer.specs.Demands.{written, RunIsWritten, CountsBalance, StatesBalance, FullIff, FinishedIff, BranchedAreSteps}
+use Rattle.answer.specs.Demands.{written, RunIsWritten, CountsBalance, FullIff}
+use Rattle.answer.specs.Document01.{StatesBalance, FinishedIff, BranchedAreSteps}
 use Rattle.answer.proofs.Passes.{passes}
 use Rattle.answer.proofs.Instance.{finished-state, full-state, state-reached}
 use Rattle.answer.proofs.Ending.{Came, checked, overran, ended, call-came, Finished, number-0, Filled, number-7}

@@ -27,7 +27,7 @@ use Rattle.records.specs.Records.{recordsIn}
 use Rattle.answer.specs.Call.{Call, Answer}
 use Rattle.answer.specs.Checks.{cause}
 use Rattle.answer.specs.Answer.{legsOf, problemOf, choicesOf, given, outcome, reportWith, ending, respond, answer}
-use Rattle.answer.specs.Demands.{written, Favours, NoWorse, FavouredFinishes}
+use Rattle.answer.specs.Demands.{written, AsClose, Favours, NoWorse, FavouredFinishes}
 use Rattle.answer.proofs.Passes.{Passes, passes}
 use Rattle.answer.proofs.Instance.{legs-small, call-lawful, bound-laws, call-manner, call-solvable, start-known, selection-small}
 use Rattle.answer.proofs.Ending.{Finished, number-0}
@@ -54,7 +54,7 @@ module _ (a : Call) (ok : Passes a) (rules bound : ℕ) (first pool : List ℕ) 
   bound-below : bound ≤ a .job .bound
   bound-below = go (favours .bound)
     where
-      go : (a .job .bound ≡ bound) ⊎ ((2 ≤ a .job .selection) × (bound ≤ a .job .bound)) → bound ≤ a .job .bound
+      go : AsClose (a .job) (alongside a rules bound first pool .job) → bound ≤ a .job .bound
       go (inl e) = omega arith
       go (inr h) = h .1
 
@@ -64,7 +64,7 @@ module _ (a : Call) (ok : Passes a) (rules bound : ℕ) (first pool : List ℕ) 
   one-rank = go (favours .bound)
     where
       go :
-          (a .job .bound ≡ bound) ⊎ ((2 ≤ a .job .selection) × (bound ≤ a .job .bound))
+          AsClose (a .job) (alongside a rules bound first pool .job)
           → rankBy (problemOf a) (boundBy bound (a .job .n) (legsOf a)) (a .job .selection)
           ≡ rankBy (problemOf a) (boundBy (a .job .bound) (a .job .n) (legsOf a)) (a .job .selection)
       go (inl e) = ap (λ (k : ℕ). rankBy (problemOf a) (boundBy k (a .job .n) (legsOf a)) (a .job .selection)) (sym e)

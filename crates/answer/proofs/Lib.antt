@@ -2,6 +2,7 @@ pub mod Passes
 pub mod JobCause
 pub mod Instance
 pub mod Ending
+pub mod Bounds
 pub mod Tested
 pub mod Ends
 pub mod Contents

@@ -21,7 +21,7 @@ use Rattle.records.specs.Records.{recordsIn}
 use Rattle.answer.specs.Call.{Call}
 use Rattle.answer.specs.Checks.{cause}
 use Rattle.answer.specs.Answer.{problemOf, choicesOf, given, StateOf}
-use Rattle.answer.specs.Demands.{ActiveNeverEmpty, BoundCounts, TestedWithinU, TestsAgree}
+use Rattle.answer.specs.Document01.{ActiveNeverEmpty, BoundCounts, TestedWithinU, TestsAgree}
 use Rattle.answer.proofs.Passes.{Passes, passes}
 use Rattle.answer.proofs.Instance.{state-reached, call-lawful, bound-laws, call-manner, call-solvable, start-known, selection-small}
 

@@ -1,26 +1,24 @@
--- What the letter demands of a planner, a type for each of its sentences and in its order; then what document 01 adds to them. A proof of a
--- sentence is a theorem whose type is the sentence's name: of the written run (`written`) in proofs/ of this crate, of what the code of `plan`
--- returns in proofs/ of crate `planner`. What demands 1 and 2 say of files is in crates `job_format` and `job_file`.
+-- What the letter demands of a planner, a type for each of its sentences and in its order. A proof of a sentence is a theorem whose type is the
+-- sentence's name: of the written run (`written`) in proofs/ of this crate, of what the code of `plan` returns in proofs/ of crate `planner`.
+-- What document 01 says beside the run's definition is in `Document01`; what demands 1 and 2 say of files is in crate `job_format`.
 use mathlib.Core.Path.{_≡_}
-use mathlib.Core.Bool.{Bool, not, _&&_, _||_}
-use mathlib.Core.List.{List, []}
+use mathlib.Core.List.{[]}
 use mathlib.Core.Logic.{_⊎_, _≢_, _↔_}
 use Prim.Native.Nat.{ℕ, _+_, _≤_}
-use lib.Dec.{T, eqb}
+use lib.Dec.{T}
 use lib.ListN.{length}
 use Rattle.sizes.specs.Sizes.{orderPlaces}
 use Rattle.lists.specs.Lists.{In, Distinct}
-use Rattle.search.specs.Problem.{State, upper}
-use Rattle.search.specs.Selection.{chosen, select, empty, finishes}
 use Rattle.search.specs.Step.{on}
 use Rattle.orders.specs.Orders.{Node, Order, orders, factorial}
 use Rattle.stops.specs.Legs.{cost}
 use Rattle.records.specs.Records.{padded}
-use Rattle.answer.specs.Call.{Call, callOf, Answer}
+use Rattle.answer.specs.Call.{Call, Answer}
+use Rattle.answer.specs.declared.Job.{Job}
 use Rattle.answer.specs.declared.Report.{Report}
 use Rattle.answer.specs.Checks.{cause}
-use Rattle.answer.specs.Answer.{legsOf, problemOf, choicesOf, StateOf, answer}
-use Rattle.answer.specs.Ends.{made, FinishTestHolds, NextDoesNotFit, Ends, ComesTo, FullAt, RefusedAt, orderIn, Ended}
+use Rattle.answer.specs.Answer.{legsOf, answer}
+use Rattle.answer.specs.Ends.{NextDoesNotFit, ComesTo, FullAt, RefusedAt, orderIn, Ended}
 
 -- A planner as its callers see it: which answers it gives to a call. An answer is the report and the words that the pool holds afterwards.
 abbrev pub Planner : Type 1
@@ -32,11 +30,19 @@ written c a = a ≡ answer c
 
 -- DEMAND 1
 
--- Every call ends, with an order or with a numbered refusal.
+-- Every call is answered, ..
+abbrev pub EveryCallIsAnswered : Planner → Type 0
+EveryCallIsAnswered P = (c : Call) → (a : Answer) × P c a
+
+-- .. and ends with an order or with a numbered refusal.
 abbrev pub EveryCallEnds : Planner → Type 0
 EveryCallEnds P = (c : Call) (a : Answer) → P c a → Ended c a
 
--- What a refusal gives and leaves is known beforehand.
+-- What a refusal gives and leaves is known beforehand: nothing but the call decides the answer, ..
+abbrev pub OneAnswer : Planner → Type 0
+OneAnswer P = (c : Call) (a b : Answer) → P c a → P c b → a ≡ b
+
+-- .. and where it is not number 0, it is one of these two.
 abbrev pub RefusalsFixed : Planner → Type 0
 RefusalsFixed P = (c : Call) (a : Answer) → P c a → a .report .number ≢ 0 → RefusedAt c a ⊎ FullAt c a
 
@@ -49,12 +55,6 @@ RunIsWritten P = (c : Call) (a : Answer) → P c a → a ≡ answer c
 -- Every generated node was branched, was eliminated or is active.
 abbrev pub CountsBalance : Planner → Type 0
 CountsBalance P = (c : Call) (a : Answer) → P c a → a .report .generated ≡ a .report .branched + a .report .eliminated + a .report .active
-
--- the same at every state of every run
-abbrev pub StatesBalance : Type 0
-StatesBalance =
-    (c : Call) → cause c ≡ 0 → (s : State Node) → StateOf c s
-    → s .generated ≡ length (s .branched) + s .eliminated + length (s .active)
 
 -- The pool is called full when, and only when, the run comes to a step after which the nodes to keep outnumber the records.
 abbrev pub FullIff : Planner → Type 0
@@ -91,7 +91,13 @@ pub record AllOrders (n : ℕ) : Type 0 where
 abbrev pub OrdersAreAll : Type 0
 OrdersAreAll = (n : ℕ) → AllOrders n
 
--- DEMAND 3, the second half: A stands to B as the letter asks.
+-- DEMAND 3, the second half: two jobs A and B over one table.
+
+-- A has B's bound or, under selections 2 and 3 (FIFO and LIFO), one that is at least as close: close (1) is as close as plain (0), and closer.
+abbrev pub AsClose : Job → Job → Type 0
+AsClose a b = (a .bound ≡ b .bound) ⊎ ((2 ≤ a .selection) × (b .bound ≤ a .bound))
+
+-- A stands to B as the letter asks.
 pub record Favours (a b : Call) : Type 0 where
   -- one table
   pub n : a .job .n ≡ b .job .n
@@ -105,8 +111,7 @@ pub record Favours (a b : Call) : Type 0 where
   pub rule-1 : T (on 1 (b .job .rules)) → T (on 1 (a .job .rules))
   -- B has no starting order, or A has one that is no dearer
   pub start : (b .start ≡ []) ⊎ ((a .start ≢ []) × (cost (legsOf a) (a .start) ≤ cost (legsOf a) (b .start)))
-  -- B's bound or, under selections 2 and 3, one that is at least as close: close (1) is as close as plain (0)
-  pub bound : (a .job .bound ≡ b .job .bound) ⊎ ((2 ≤ a .job .selection) × (b .job .bound ≤ a .job .bound))
+  pub bound : AsClose (a .job) (b .job)
   -- a pool that is at least as large
   pub pool : length (b .pool) ≤ length (a .pool)
 
@@ -121,47 +126,3 @@ pub record NoWorse (a b : Report) : Type 0 where
 abbrev pub FavouredFinishes : Planner → Type 0
 FavouredFinishes P =
     (a b : Call) (x y : Answer) → P a x → P b y → Favours a b → cause a ≡ 0 → y .report .number ≡ 0 → NoWorse (x .report) (y .report)
-
--- DOCUMENT 01, "The report", "The pool" and "One run"
-
--- Number 0 comes when, and only when, the run comes to a state where a node is chosen of which the finish test holds; so a finished run is
--- never refused.
-abbrev pub FinishedIff : Planner → Type 0
-FinishedIff P = (c : Call) (a : Answer) → P c a → (a .report .number ≡ 0) ↔ ComesTo c FinishTestHolds
-
--- `branched` is how many steps the run made to the state that ended it.
-abbrev pub BranchedAreSteps : Planner → Type 0
-BranchedAreSteps P = (c : Call) (a : Answer) → P c a → (end : ComesTo c Ends) → a .report .branched ≡ made (end .steps)
-
--- What the pool holds before the run plays no part: the same job over a pool of the same length has the same report and, where no check refuses
--- it, leaves the same words.
-abbrev pub ContentsPlayNoPart : Planner → Type 0
-ContentsPlayNoPart P =
-    (c : Call) (pool : List ℕ) (x y : Answer) → P c x → P (callOf (c .job) (c .table) (c .start) pool) y → length pool ≡ length (c .pool)
-    → (x .report ≡ y .report) × (cause c ≡ 0 → x .pool ≡ y .pool)
-
--- The active set is never empty.
-abbrev pub ActiveNeverEmpty : Type 0
-ActiveNeverEmpty = (c : Call) → cause c ≡ 0 → (s : State Node) → StateOf c s → (x : Node) × In x (s .active)
-
--- the bound counts in the finish test: under selections 0 and 1 always, under 2 and 3 where b is the only active node
-abbrev pub BoundCounts : Call → List Node → Bool
-BoundCounts c rest = not (eqb (choicesOf c .selection) 2 || eqb (choicesOf c .selection) 3) || empty rest
-
--- Where it counts, the bound tested never exceeds U.
-abbrev pub TestedWithinU : Type 0
-TestedWithinU =
-    (c : Call) → cause c ≡ 0 → (s : State Node) → StateOf c s → (b : Node) (rest : List Node)
-    → select (problemOf c) (choicesOf c) (s .active) ≡ chosen b rest → T (BoundCounts c rest)
-    → choicesOf c .bound b ≤ upper (problemOf c) (s .best)
-
--- the finish test of document 000, which has "equal to U"
-abbrev pub finishesWhenEqual : Call → State Node → Node → List Node → Bool
-finishesWhenEqual c s b rest = eqb (upper (problemOf c) (s .best)) (choicesOf c .bound b) && BoundCounts c rest || problemOf c .complete b
-
--- So the two tests agree on every run.
-abbrev pub TestsAgree : Type 0
-TestsAgree =
-    (c : Call) → cause c ≡ 0 → (s : State Node) → StateOf c s → (b : Node) (rest : List Node)
-    → select (problemOf c) (choicesOf c) (s .active) ≡ chosen b rest
-    → finishes (problemOf c) (choicesOf c) (s .best) b rest ≡ finishesWhenEqual c s b rest

@@ -5,3 +5,4 @@ pub mod Cases
 pub mod OwnCases
 pub mod Ends
 pub mod Demands
+pub mod Document01
