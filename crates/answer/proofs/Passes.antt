@@ -12,7 +12,7 @@ use Rattle.lists.proofs.Tests.{neq, not-either, twice-not}
 use Rattle.lists.proofs.Members.{in-any}
 use Rattle.orders.specs.Orders.{Order, isOrder}
 use Rattle.orders.proofs.Order.{isOrder-order}
-use Rattle.stops.specs.Legs.{entry}
+use Rattle.stops.specs.Tables.{entry}
 use Rattle.sizes.specs.Sizes.{mostStops, dearest, recordWords}
 use Rattle.records.specs.Records.{recordsIn}
 use Rattle.answer.specs.Call.{Call}

@@ -5,17 +5,16 @@ use mathlib.Core.Option.{none}
 use Rattle.lists.specs.Lists.{from, padded}
 use Rattle.search.specs.Problem.{State}
 use Rattle.search.specs.Run.{held}
-use Rattle.orders.specs.Orders.{Node, flown, setOf, left, mask, last, size, complete}
+use Rattle.orders.specs.Orders.{Node, mask}
 use Rattle.days.specs.Days.{Day}
-use Rattle.stops.specs.Legs.{entry, rows, rowLeg, legs, path, cost}
-use Rattle.stops.specs.Bounds.{plain, cheapestInto, remainder, close, boundBy}
-use Rattle.stops.specs.Stops.{day, dayOf}
+use Rattle.stops.specs.Stops.{day}
+use Rattle.stops.specs.Examples.{computedDay}
 use Rattle.records.specs.Records.{stopAt, record-of, poolWords, recordsIn}
 
 -- the day of document 01's table T, with every definition that the examples rest on open
 dayT : Day
-unfolding held flown setOf left mask last size complete entry rows rowLeg legs path cost plain cheapestInto remainder close boundBy day dayOf stopAt record-of padded poolWords recordsIn
-dayT = dayOf 3 (rows 3 (0 ∷ 4 ∷ 7 ∷ 9 ∷ 5 ∷ 0 ∷ 2 ∷ 6 ∷ 3 ∷ 8 ∷ 0 ∷ 1 ∷ 6 ∷ 5 ∷ 4 ∷ 0 ∷ []))
+unfolding held mask computedDay stopAt record-of padded poolWords recordsIn
+dayT = computedDay 3 (0 ∷ 4 ∷ 7 ∷ 9 ∷ 5 ∷ 0 ∷ 2 ∷ 6 ∷ 3 ∷ 8 ∷ 0 ∷ 1 ∷ 6 ∷ 5 ∷ 4 ∷ 0 ∷ [])
 
 -- 21: two stops, bits 0 and 1, path cost 7 + 8; stop 2 stands in the lowest four bits, stop 1 in the next
 record-of-21 : record-of 3 dayT 0 (2 ∷ 1 ∷ []) ≡ 2 ∷ 3 ∷ 15 ∷ 15 ∷ 1 ∷ 0 ∷ []

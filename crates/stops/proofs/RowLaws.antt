@@ -22,7 +22,7 @@ pub use Rattle.lists.proofs.Elements.{part-from}
 use Rattle.lists.proofs.Elements.{getD-numbers, getD-from, Rest, any-finds, any-skips, any-ends}
 use Rattle.lists.proofs.Map.{map-same}
 use Rattle.lists.proofs.Members.{length-from}
-use Rattle.stops.specs.Legs.{entry, rows}
+use Rattle.stops.specs.Tables.{entry, rows}
 use Rattle.stops.specs.Code.{rowOf}
 
 entry-at : (n : ℕ) (table : List ℕ) (i j : ℕ) → getD table (i * (n + 1) + j) 0 ≡ entry n table i j

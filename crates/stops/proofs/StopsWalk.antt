@@ -25,8 +25,8 @@ use Rattle.orders.proofs.Order.{order-length}
 use Rattle.days.proofs.Walk.{Alike, Walk, walk-closer}
 use Rattle.stops.specs.Legs.{Legs, path, cost, legs}
 use Rattle.stops.specs.Bounds.{plain, remainder, close, boundBy, dominates}
-use Rattle.stops.specs.Stops.{day, dayOf}
-use Rattle.stops.specs.Code.{ahead, reckoning, reckonOf, Cheap}
+use Rattle.stops.specs.Stops.{day, dayOn}
+use Rattle.stops.specs.Code.{ahead, reckoning, reckonOn, Cheap}
 use Rattle.stops.proofs.Paths as paths
 use Rattle.stops.proofs.Ahead.{ahead-grows, ahead-closer}
 use Rattle.stops.proofs.SetLoops as loops
@@ -89,33 +89,33 @@ module _ (n : ℕ) (L : Legs) where
   unfolding day boundBy
   close-ge-plain x = walk-closer stops-walk 0 1 (omega arith) (omega arith) x
 
-pub rows-walk : (n : ℕ) (rows : List (List ℕ)) → Walk n 1 (dayOf n rows) (reckonOf rows)
-unfolding dayOf reckonOf
+pub rows-walk : (n : ℕ) (rows : List (List ℕ)) → Walk n 1 (dayOn n rows) (reckonOn rows)
+unfolding dayOn reckonOn
 rows-walk n rows = stops-walk n (legs rows)
 
-pub place-last : (rows : List (List ℕ)) (x : Node) → reckonOf rows .place x ≡ last x
-unfolding reckonOf reckoning
+pub place-last : (rows : List (List ℕ)) (x : Node) → reckonOn rows .place x ≡ last x
+unfolding reckonOn reckoning
 place-last rows x = refl
 
-pub after-stop : (rows : List (List ℕ)) (place s : ℕ) → reckonOf rows .after place s ≡ s
-unfolding reckonOf reckoning
+pub after-stop : (rows : List (List ℕ)) (place s : ℕ) → reckonOn rows .after place s ≡ s
+unfolding reckonOn reckoning
 after-stop rows place s = refl
 
 module _ (rows : List (List ℕ)) (cheap : Cheap rows) where
-  pub further-small : (place s : ℕ) → reckonOf rows .further place s ≤ dearest
-  unfolding reckonOf reckoning
+  pub further-small : (place s : ℕ) → reckonOn rows .further place s ≤ dearest
+  unfolding reckonOn reckoning
   further-small place s = cheap .leg place s
 
-  pub path-small : (n : ℕ) (x : Node) → dayOf n rows .path x ≤ length x * dearest
-  unfolding dayOf day
+  pub path-small : (n : ℕ) (x : Node) → dayOn n rows .path x ≤ length x * dearest
+  unfolding dayOn day
   path-small n x = paths.path-small dearest (legs rows) cheap x
 
   pub ahead-small :
-      (k bound place : ℕ) (rest : List ℕ) → length rest ≤ k → reckonOf rows .ahead bound place rest ≤ suc k * dearest
-  unfolding reckonOf reckoning
+      (k bound place : ℕ) (rest : List ℕ) → length rest ≤ k → reckonOn rows .ahead bound place rest ≤ suc k * dearest
+  unfolding reckonOn reckoning
   ahead-small k bound place rest h = loops.ahead-small dearest (legs rows) cheap place k bound rest h
 
   -- at most 16 stops, and no leg above 1,000,000: an order costs at most 17,000,000
-  pub order-below : (n : ℕ) → n ≤ mostStops → (x : Node) → Order n x → dayOf n rows .cost x < aboveEveryCost
-  unfolding dayOf day
+  pub order-below : (n : ℕ) → n ≤ mostStops → (x : Node) → Order n x → dayOn n rows .cost x < aboveEveryCost
+  unfolding dayOn day
   order-below n few x o = omega (arith, paths.cost-small dearest (legs rows) cheap x, order-length n x o)

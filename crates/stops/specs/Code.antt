@@ -5,7 +5,7 @@
 --   lastStop x            the last stop flown; 0 for e, and for numbers that are no node's
 --   recDominates y z      dominance, on records
 --   ahead k L place rest  what the bound of number k adds to the path cost at a place, with the stops of rest to come
---   reckonOf rows         the day of the planner's rows as a walk from stop to stop
+--   reckonOn rows         the day of the planner's rows as a walk from stop to stop
 --   Cheap rows            no leg of theirs is above the dearest (Within m L: none is above m)
 --   rowOf n part          a row of the planner's
 --   Wide x s leg          what `extended` asks, so that no number wraps
@@ -76,8 +76,8 @@ ahead (suc k) L place (r ∷ rest) = remainder L place (r ∷ rest)
 unfoldable pub reckoning : Legs → Reckoning
 reckoning L = record { place = last; further = L .leg; after = λ place s. s; ahead = λ k. ahead k L }
 
-unfoldable pub reckonOf : List (List ℕ) → Reckoning
-reckonOf rows = reckoning (legs rows)
+unfoldable pub reckonOn : List (List ℕ) → Reckoning
+reckonOn rows = reckoning (legs rows)
 
 -- a row: the first n + 1 numbers of a part of the table, and zeros
 unfoldable pub rowOf : ℕ → List ℕ → List ℕ

@@ -2,14 +2,23 @@
 -- the definitions, and the laws name this module so that it is checked before them: a wrong definition is met here first.
 use mathlib.Core.Path.{_≡_, refl}
 use mathlib.Core.Bool.{true, false}
-use mathlib.Core.List.{[], _∷_, map}
+use mathlib.Core.List.{List, [], _∷_, map}
+use Prim.Native.Nat.{ℕ}
 use Rattle.orders.specs.Orders.{flown, setOf, left, last, size, complete, children, level, orders}
-use Rattle.stops.specs.Legs.{Legs, entry, rows, rowLeg, legs, path, cost}
-use Rattle.stops.specs.Bounds.{plain, cheapestInto, remainder, close, dominates}
+use Rattle.days.specs.Days.{Day}
+use Rattle.stops.specs.Tables.{entry, rows}
+use Rattle.stops.specs.Legs.{Legs, rowLeg, legs, path, cost}
+use Rattle.stops.specs.Bounds.{plain, cheapestInto, remainder, close, boundBy, dominates}
+use Rattle.stops.specs.Stops.{day, dayOn}
 
--- the legs of T, with every definition that the examples rest on open
+-- the day of a table, with every definition that it rests on open: a proof that says `unfolding computedDay` computes it
+unfoldable pub computedDay : ℕ → List ℕ → Day
+unfolding flown setOf left last size complete children entry rows rowLeg legs path cost plain cheapestInto remainder close boundBy dominates day dayOn
+computedDay n table = dayOn n (rows n table)
+
+-- the legs of T
 legsT : Legs
-unfolding flown setOf left size complete children level orders entry rows rowLeg legs path last cost plain cheapestInto remainder close dominates
+unfolding level orders computedDay
 legsT = legs (rows 3 (0 ∷ 4 ∷ 7 ∷ 9 ∷ 5 ∷ 0 ∷ 2 ∷ 6 ∷ 3 ∷ 8 ∷ 0 ∷ 1 ∷ 6 ∷ 5 ∷ 4 ∷ 0 ∷ []))
 
 -- the six orders of T and what each costs

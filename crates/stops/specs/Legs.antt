@@ -1,20 +1,9 @@
 -- Legs, path costs and the cost of an order: document 01, "Legs and orders" and "Nodes".
-use mathlib.Core.Bool.{_&&_, cond}
-use mathlib.Core.List.{List, [], _∷_, map}
-use Prim.Native.Nat.{ℕ, suc, _+_, _*_}
-use lib.Dec.{leb}
+use mathlib.Core.List.{List, [], _∷_}
+use Prim.Native.Nat.{ℕ, _+_}
 use lib.ListN.{getD}
-use Rattle.sizes.specs.Sizes.{places}
-use Rattle.lists.specs.Lists.{from}
 use Rattle.orders.specs.Orders.{Node, last}
-
--- The table has n + 1 rows of n + 1 numbers, one row after another: entry i, j is what the leg from place i to place j costs.
-unfoldable pub entry : ℕ → List ℕ → ℕ → ℕ → ℕ
-entry n table i j = getD table (i * suc n + j) 0
-
--- The planner has the table as rows of equal length, whatever n is: zeros stand where the table has no number.
-unfoldable pub rows : ℕ → List ℕ → List (List ℕ)
-rows n table = map (λ i. map (λ j. cond (leb i n && leb j n) (entry n table i j) 0) (from 0 places)) (from 0 places)
+unfoldable pub use Rattle.stops.specs.Tables.{entry, rows}
 
 -- The costs that a day reckons with: of flying i to j, and of the leg home from s.
 pub record Legs : Type 0 where

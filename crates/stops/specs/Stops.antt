@@ -1,4 +1,4 @@
--- The stops of a table as a day: document 01, "Nodes". What is above this crate names a day by the planner's rows (`dayOf`) and no leg.
+-- The stops of a table as a day: document 01, "Nodes". What is above this crate names a day by the planner's rows (`dayOn`) and no leg.
 use mathlib.Core.List.{List}
 use Prim.Native.Nat.{ℕ}
 use Rattle.days.specs.Days.{Day}
@@ -8,5 +8,5 @@ use Rattle.stops.specs.Bounds.{boundBy, dominates}
 unfoldable pub day : ℕ → Legs → Day
 day n L = record { path = path L; cost = cost L; bound = λ k. boundBy k n L; dominates = dominates n L }
 
-unfoldable pub dayOf : ℕ → List (List ℕ) → Day
-dayOf n rows = day n (legs rows)
+unfoldable pub dayOn : ℕ → List (List ℕ) → Day
+dayOn n rows = day n (legs rows)

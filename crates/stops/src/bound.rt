@@ -7,7 +7,7 @@ ghost use Rattle.sizes.specs.Sizes.{mostStops};
 ghost use Rattle.lists.specs.Lists.{In, least};
 ghost use Rattle.stops.specs.Legs.{rowLeg, legs};
 ghost use Rattle.stops.specs.Bounds.{remainder};
-ghost use Rattle.stops.specs.Code.{stopsIn, reckonOf, Cheap};
+ghost use Rattle.stops.specs.Code.{stopsIn, reckonOn, Cheap};
 use crate::table::Rows;
 use crate::table::leg;
 
@@ -114,7 +114,7 @@ fn remainder(t: &Rows, place: u32, rest: u32) -> u32
 // What a bound, by its number, adds to the path cost of a node at a place that has the stops of rest to come.
 pub fn ahead(t: &Rows, bound: u32, place: u32, rest: u32) -> u32
     requires { ⌜ (place ≤ mostStops) × ((rest < 2 ^ mostStops) × Cheap (now t)) ⌝ }
-    ensures { λ r. ⌜ r ≡ reckonOf (now (t .entry)) .ahead bound place (stopsIn rest) ⌝ }
+    ensures { λ r. ⌜ r ≡ reckonOn (now (t .entry)) .ahead bound place (stopsIn rest) ⌝ }
 {
     if rest == 0 {
         return leg(t, place, 0);

@@ -6,8 +6,9 @@ ghost use lib.Dec.{ltb, eqb};
 ghost use lib.ListN.{length};
 ghost use Rattle.sizes.specs.Sizes.{mostStops, dearest};
 ghost use Rattle.lists.specs.Lists.{any, from};
-ghost use Rattle.stops.specs.Legs.{entry, rows, rowLeg};
-ghost use Rattle.stops.specs.Code.{rowOf, reckonOf};
+ghost use Rattle.stops.specs.Tables.{entry, rows};
+ghost use Rattle.stops.specs.Legs.{rowLeg};
+ghost use Rattle.stops.specs.Code.{rowOf, reckonOn};
 use sizes::DEAREST;
 use sizes::PLACES;
 
@@ -83,7 +84,7 @@ pub fn leg(t: &Rows, from: u32, to: u32) -> u32
 // What a stop adds to the path cost of a node at a place: its leg from there.
 pub fn further(t: &Rows, place: u32, stop: u32) -> u32
     requires { ⌜ (place ≤ mostStops) × (stop ≤ mostStops) ⌝ }
-    ensures { λ r. ⌜ r ≡ reckonOf (now (t .entry)) .further place stop ⌝ }
+    ensures { λ r. ⌜ r ≡ reckonOn (now (t .entry)) .further place stop ⌝ }
 {
     leg(t, place, stop)
 }
