@@ -125,7 +125,7 @@ struct gondamuy_record {
 
 /* Puts the stops 1 to job.n into the cheapest order.
  *
- * table: (n+1)*(n+1) legs, row by row: row i, column j is the cost of flying from place i to place j, 0 to
+ * table: (n+1)*(n+1) legs, row by row. Row i has what flying from place i to each place costs, at most
  * GONDAMUY_DEAREST_LEG, and 0 on the diagonal; home is place 0. start: an order of the n stops that is known
  * beforehand, or nothing. pool: words, six to a record; what they hold beforehand plays no part.
  *

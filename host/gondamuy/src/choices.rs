@@ -99,7 +99,10 @@ impl TryFrom<raw::Job> for Job {
             3 => Selection::Lifo,
             _ => return Err(Refusal::Choice),
         };
-        let rules = if job.rules <= Rules::ALL.0 { Rules(job.rules) } else { return Err(Refusal::Choice) };
+        let rules = match job.rules {
+            0..=15 => Rules(job.rules),
+            _ => return Err(Refusal::Choice),
+        };
         let bound = match job.bound {
             0 => Bound::Plain,
             1 => Bound::Close,

@@ -8,7 +8,7 @@
 use std::io::{self, Read, Write};
 use std::process::ExitCode;
 
-use gondamuy::{raw, Refusal, LONGEST_FILE};
+use gondamuy::{raw, read, Refusal, LONGEST_FILE};
 use jobtext::{parse, text, Job};
 
 const USAGE: &str = "jobtool write < TEXT > FILE, jobtool show < FILE, or jobtool refusal NUMBER";
@@ -51,10 +51,10 @@ fn file_of(bytes: &[u8]) -> Result<Vec<u8>, String> {
 }
 
 fn text_of(file: &[u8]) -> Result<Vec<u8>, String> {
-    let reading = raw::read(file);
-    Refusal::check(reading.number).map_err(|refusal| refusal.to_string())?;
-    let raw::Job { n, selection, rules, bound } = reading.job;
-    let job = Job { n, table: reading.table().to_vec(), selection, rules, bound, start: reading.start().to_vec() };
+    let contents = read(file).map_err(|refusal| refusal.to_string())?;
+    let raw::Job { n, selection, rules, bound } = contents.job.into();
+    let (table, start) = (contents.table().to_vec(), contents.start().to_vec());
+    let job = Job { n, table, selection, rules, bound, start };
     Ok(text(&job).into_bytes())
 }
 

@@ -66,8 +66,8 @@ pub fn record(node: &Node) -> [u32; WORDS] {
     [node.size() as u32, node.set, node.path, node.bound, order[0], order[1]]
 }
 
-/// Active nodes, earliest first; with rule 4 the branched nodes, earliest
-/// branched first; zeros behind.
+/// The active nodes in order of generation, behind them those branched in that of branching, if they are kept; the rest
+/// of the pool is cleared.
 pub fn write_pool(state: &State, with_branched: bool, pool: &mut [u32]) {
     pool.fill(0);
     let branched = if with_branched { &state.branched[..] } else { &[] };
