@@ -90,9 +90,6 @@ impl Node {
     /// They differ, have the same set and last stop, and this path cost is at
     /// most the other's.
     pub fn dominates(&self, other: &Node) -> bool {
-        self.set == other.set
-            && self.last() == other.last()
-            && self.path <= other.path
-            && self.stops != other.stops
+        self.set == other.set && self.last() == other.last() && self.path <= other.path && self.stops != other.stops
     }
 }

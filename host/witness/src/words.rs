@@ -1,17 +1,22 @@
 //! The report ("The report") and the pool's words ("The pool").
 
+use crate::legs::MOST_STOPS;
 use crate::node::Node;
 use crate::run::{End, State};
 
 /// Words in a record.
 pub const WORDS: usize = 6;
 
+/// Bits of a stop in a word of the order, and stops in such a word.
+const STOP_BITS: usize = 4;
+const WORD_STOPS: usize = 8;
+
 #[derive(Clone, Copy, PartialEq, Eq, Debug, Default)]
 pub struct Report {
     pub number: u32,
     pub cost: u32,
     /// Zeros past n.
-    pub order: [u32; 16],
+    pub order: [u32; MOST_STOPS],
     pub branched: u64,
     pub generated: u64,
     pub eliminated: u64,
@@ -56,7 +61,7 @@ impl Report {
 pub fn record(node: &Node) -> [u32; WORDS] {
     let mut order = [0u32; 2];
     for (i, &stop) in node.stops.iter().enumerate() {
-        order[i / 8] |= (stop as u32 - 1) << (4 * (i % 8));
+        order[i / WORD_STOPS] |= (stop as u32 - 1) << (STOP_BITS * (i % WORD_STOPS));
     }
     [node.size() as u32, node.set, node.path, node.bound, order[0], order[1]]
 }
