@@ -144,7 +144,7 @@ case-g : Holds g
 unfolding g tableT computed
 case-g = refl
 
--- h. n = 1, out 3, back 5, selection 0, no rules, plain.
+-- h. One stop: the only order, out and back.
 h : Case
 h = reports (call 1 (0 ∷ 3 ∷ 5 ∷ 0 ∷ []) 0 0 0 [] 9) (found 8 (1 ∷ replicate 15 0) 1 2 0 1 1)
 
@@ -152,7 +152,7 @@ case-h : Holds h
 unfolding h computed
 case-h = refl
 
--- i₀. n = 2, all 0, close, no rules: selection 0 gives 12.
+-- i₀. Two stops, every leg 0: of the two orders selection 0 finds 12 first.
 i₀ : Case
 i₀ = reports (call 2 (replicate 9 0) 0 0 1 [] 9) (found 0 (1 ∷ 2 ∷ replicate 14 0) 2 4 0 2 2)
 
@@ -160,7 +160,7 @@ case-i₀ : Holds i₀
 unfolding i₀ computed
 case-i₀ = refl
 
--- i₁. The same under selection 1 gives 21.
+-- i₁. The same under selection 1: the later of equals leads to 21.
 i₁ : Case
 i₁ = reports (call 2 (replicate 9 0) 1 0 1 [] 9) (found 0 (2 ∷ 1 ∷ replicate 14 0) 2 4 0 2 2)
 
