@@ -1,11 +1,11 @@
 -- `family::child` meets its contract: the numbers of b have room for one of the stops that it leaves, and what is made is the
--- child (`FamilyLaws`). Assumes nothing.
+-- child (`KidLaws`).
 use mathlib.Core.Path.{_≡_, ap, _∙_}
 use native.Mathlib.Omega.{arith}
 use Rattle.stops.specs.Legs.{rowLeg}
 use Rattle.stops.specs.Code.{extended}
 use Rattle.children.specs.Code.{bounded}
-use Rattle.children.proofs.FamilyLaws.{kid-places, kid-wide, kid-small, kid-made}
+use Rattle.children.proofs.KidLaws.{kid-places, kid-wide, kid-small, kid-made}
 use Rattle.children.proofs.family.child.Statement.{statement}
 use Rattle.children.proofs.family.child.Tie as tie
 
@@ -22,12 +22,12 @@ made c =
     c .extended .ensures ∙ ap (extended (a .b) (a .s)) (c .before .leg .ensures)
 
 without-requires : tie.Need-without-requires
-without-requires c κs = let q = c .before .before .pre in (kid-places q .1, q .1 .1 .1 .1)
+without-requires c κs = let q = c .before .before .pre in (kid-places q .1, q .stop)
 
 ahead-requires : tie.Need-ahead-requires
 ahead-requires c κs =
     let q = c .before .before .before .pre in
-    (kid-places q .2, (omega (arith, kid-places q), q .0 .cheap))
+    (kid-places q .2, (omega (arith, kid-places q), q .rows .cheap))
 
 add-x : tie.Need-add-x
 add-x c =

@@ -1,0 +1,152 @@
+-- The starting order made into a record, stop by stop (`src/best.rt`, `started`).
+--   empty-best, order-given             no order is given, or one is
+--   Flown, flown-none, flown-more       after some stops
+--   next-near, flown-wide, flown-room   the numbers of the next stop, and of the leg home, have room
+--   flown-best                          at the end the record's numbers are those of the order
+use mathlib.Core.Path.{_≡_, refl, ap, sym, _∙_, subst}
+use mathlib.Core.List.{[], _∷_, _++_, Memᴰ·append-right}
+use mathlib.Core.Logic.{_⊎_, inl, inr, _≢_}
+use mathlib.Core.Option.{some, Option·map}
+use Prim.Native.Nat.{ℕ, suc, _+_, _*_, _^_, _≤_, _<_}
+use native.Mathlib.Numerals.{add-one}
+use native.Mathlib.Omega.{arith}
+use lib.Dec.{not-T}
+use lib.ListN.{length, getD, take, drop, length-take}
+use lib.Seq.{take-suc, take-all, split-at}
+use Rattle.sizes.specs.Sizes.{mostStops, dearest, aboveEveryCost}
+use Rattle.lists.specs.Lists.{In, Distinct}
+use Rattle.lists.proofs.Members.{in-head}
+use Rattle.lists.proofs.Distinct.{append-apart}
+use Rattle.orders.specs.Orders.{Node, Partial, Order, flown, left, size, extend}
+use Rattle.orders.proofs.Sets.{empty-set, in-left, left-in, flown-in, extend-child}
+use Rattle.orders.proofs.Partial.{partial-root, partial-child}
+use Rattle.orders.proofs.Order.{order-complete, order-length}
+use Rattle.stops.specs.Legs.{legs, rowLeg, path, last, cost}
+use Rattle.stops.specs.Code.{emptyRecord, extended, Wide}
+use Rattle.stops.specs.declared.node_record.Record.{Record}
+use Rattle.stops.proofs.Paths.{path-small, last-extend}
+use Rattle.stops.proofs.Bounds.{bound-exact}
+use Rattle.records.specs.Records.{mask}
+use Rattle.records.specs.Code.{encode}
+use Rattle.records.proofs.Encode.{unbounded, encode-extend, encode-wide}
+use Rattle.answer.specs.Answer.{given}
+use Rattle.children.specs.Code.{Table, encodeOf, IsBest, Rows}
+use Rattle.children.specs.declared.setting.Setting.{Setting}
+
+-- no order is given, or one is
+pub empty-best :
+    (f : Node → Record) (y : Node) → length y ≡ 0
+    → IsBest (record { upper = aboveEveryCost; first = 0; second = 0 }) (Option·map f (given y))
+empty-best f [] h = (refl, refl, refl)
+empty-best f (s ∷ y) h = absurd (omega arith)
+
+given-some : (y : Node) → 1 ≤ length y → given y ≡ some y
+given-some [] h = absurd (omega arith)
+given-some (s ∷ y) h = refl
+
+pub order-given : (n : ℕ) (y : Node) → (y ≡ []) ⊎ Order n y → length y ≢ 0 → Order n y
+order-given n y (inl e) h = absurd (h (ap length e))
+order-given n y (inr o) h = o
+
+-- the record of e
+encode-empty : (d : Setting) (t : Table) → emptyRecord ≡ unbounded (encodeOf d t [])
+unfolding emptyRecord encodeOf encode path size mask
+encode-empty d t = rw (empty-set (d .n)) refl
+
+-- An order y is made into a record stop by stop. After k stops: their record but for the bound, and the place where they end.
+pub record Flown (d : Setting) (t : Table) (y : Node) (k : ℕ) (x : Record) (place : ℕ) : Type 0 where
+  pub inside : k ≤ length y
+  pub partial : Partial (d .n) (take k y)
+  pub numbers : x ≡ unbounded (encodeOf d t (take k y))
+  pub at : place ≡ last (take k y)
+  pub near : place ≤ mostStops
+
+pub flown-none : (d : Setting) (t : Table) (y : Node) (x : Record) → x ≡ emptyRecord → Flown d t y 0 x 0
+unfolding last
+flown-none d t y x e = record {
+  inside = omega arith;
+  partial = partial-root (d .n);
+  numbers = e ∙ encode-empty d t;
+  at = refl;
+  near = omega arith;
+}
+
+-- The next stop is one that the stops before it leave, since an order has no stop twice: so the record extended by it is the record of
+-- one stop more. So few legs, none too dear, leave room for the sum. At the end the path cost and the leg home are the
+-- order's cost, which is its bound, plain or close, since it is complete.
+module _
+    {d : Setting} {t : Table} (y : Node) {k : ℕ} {x : Record} {place : ℕ}
+    (rows : Rows d t) (o : Order (d .n) y) (f : Flown d t y k x place) where
+  abbrev n : ℕ
+  n = d .n
+
+  -- as many legs as stops, at most
+  flown-path : x .path ≤ mostStops * dearest
+  unfolding encodeOf encode
+  flown-path =
+      rw (f .numbers)
+      (omega (arith, path-small dearest (legs t) (rows .cheap) (take k y), length-take k y, order-length n y o, rows .few))
+
+  -- one leg more fits, to the next stop or home
+  pub flown-room : (s : ℕ) → x .path + rowLeg t place s < 2 ^ 32
+  unfolding legs
+  flown-room s = omega (arith, flown-path, rows .cheap .leg place s)
+
+  module _ (inside : k < length y) where
+    abbrev next : ℕ
+    next = getD y k 0
+
+    split : y ≡ take k y ++ (next ∷ drop (suc k) y)
+    split = split-at y k 0 inside
+
+    -- the next stop is not among the stops before it
+    next-left : In next (left n (take k y))
+    next-left =
+        let b : (1 ≤ next) × (next ≤ n) =
+        o .only next (subst (λ (l : Node). In next l) (sym split) (Memᴰ·append-right (take k y) in-head)) in
+        left-in n (take k y) next (b .0) (b .1)
+        (not-T (flown (take k y) next)
+        (λ m. append-apart (take k y) (next ∷ drop (suc k) y) (subst Distinct split (o .once)) next (flown-in (take k y) next m) in-head))
+
+    pub next-near : next ≤ mostStops
+    next-near = omega (arith, in-left n (take k y) next next-left, rows .few)
+
+    pub flown-wide : Wide x next (rowLeg t place next)
+    unfolding encodeOf encode
+    flown-wide =
+        let leg = rowLeg t place next in
+        let room : path (legs t) (take k y) + leg < 2 ^ 32 = rw (f .numbers) at (flown-room next) in
+        let w : Wide (encodeOf d t (take k y)) next leg =
+        encode-wide n (rows .few) (legs t) (d .bound) (take k y) (f .partial) next next-left leg room in
+        rw (f .numbers)
+        (record {
+          some = w .some;
+          few = w .few;
+          room = w .room;
+          set-small = w .set-small;
+          path-small = w .path-small;
+          first-small = w .first-small;
+          second-small = w .second-small;
+        })
+
+    pub flown-more : Flown d t y (k + 1) (extended x next (rowLeg t place next)) next
+    unfolding legs extended encodeOf
+    flown-more = record {
+      inside = omega arith;
+      partial = rw more (partial-child n (take k y) (extend (take k y) next) (f .partial) (extend-child n (take k y) next next-left));
+      numbers = rw (f .numbers, f .at, more) (encode-extend n (rows .few) (legs t) (d .bound) (take k y) (f .partial) next next-left);
+      at = rw more (sym (last-extend (take k y) next));
+      near = next-near;
+    }
+      where
+        more : take (k + 1) y ≡ extend (take k y) next
+        more = rw (add-one k) (take-suc y k 0 inside)
+
+  pub flown-best :
+      length y ≤ k
+      → IsBest (record { upper = x .path + rowLeg t place 0; first = x .first; second = x .second })
+      (Option·map (encodeOf d t) (given y))
+  unfolding encodeOf encode legs cost
+  flown-best whole =
+      rw (given-some y (omega (arith, order-length n y o, rows .some)), f .numbers, f .at, take-all k y whole)
+      (sym (bound-exact (d .bound) (rows .bound) n (legs t) y (order-complete n y o)), refl, refl)
