@@ -35,6 +35,9 @@ pub record Alike (n : ℕ) (D : Day) (R : Reckoning) (w x : Node) : Type 0 where
 
 -- The laws of a day of n stops whose bounds have the numbers 0 to most.
 pub record Walk (n most : ℕ) (D : Day) (R : Reckoning) : Type 0 where
+  -- e is at place 0, with no path cost
+  pub path-root : D .path [] ≡ 0
+  pub place-root : R .place [] ≡ 0
   -- one stop more
   pub path-extend : (x : Node) (s : ℕ) → In s (left n x) → D .path (extend x s) ≡ D .path x + R .further (R .place x) s
   pub place-extend : (x : Node) (s : ℕ) → In s (left n x) → R .place (extend x s) ≡ R .after (R .place x) s

@@ -72,8 +72,10 @@ module _ (n : ℕ) (L : Legs) where
       T-not (same x x) d (same-refl x)
 
   pub stops-walk : Walk n 1 (day n L) (reckoning L)
-  unfolding day reckoning cost ahead
+  unfolding day reckoning path last cost ahead
   stops-walk = record {
+    path-root = refl;
+    place-root = refl;
     path-extend = λ x s m. paths.path-extend L x s;
     place-extend = λ x s m. last-extend x s;
     bound-ahead = bound-ahead;
