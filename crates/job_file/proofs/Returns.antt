@@ -4,21 +4,19 @@
 --   Accepted, accepted   what holds of what the reader returns for a file that it accepts
 use mathlib.Core.Path.{_≡_, ap, sym, _∙_}
 use mathlib.Core.List.{List}
-use mathlib.Core.Logic.{_≢_}
 use Prim.Native.Nat.{ℕ, zero, suc, _≤_}
 use native.Mathlib.Omega.{arith}
 use lib.ListN.{length, take, length-append}
 use Rattle.sizes.specs.Sizes.{mostStops, tableNumbers, orderPlaces}
 use Rattle.records.specs.Records.{padded}
-use Rattle.job_format.specs.Bytes.{overwrite, AllBytes}
+use Rattle.job_format.specs.Bytes.{overwrite}
 use Rattle.job_format.specs.Contents.{Contents, contentsOf, area, bytesOf}
 use Rattle.job_format.specs.Reader.{read}
 use Rattle.job_format.specs.Demands.{Passes}
 use Rattle.job_format.specs.Writer.{Writing, writeCause, writingBy, write}
-use Rattle.job_file.specs.Promise.{returned, contentsFrom, Promised}
+use Rattle.job_file.specs.Promise.{returned, contentsFrom}
 use Rattle.job_file.specs.Demands.{ReadsBack, Rewrites, NeverTwo, Left, Leaves}
 use Rattle.job_file.specs.declared.reader.Reading.{Reading as Returned}
-use Rattle.job_file.specs.declared.writer.Written.{Written}
 use Rattle.job_format.proofs.ByteLaws.{take-overwrite, take-padded}
 use Rattle.job_format.proofs.JobLaws.{Passed, passed}
 use Rattle.job_format.proofs.Accepted.{accepted-passes}

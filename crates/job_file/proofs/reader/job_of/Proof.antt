@@ -1,5 +1,4 @@
 -- `job_of` meets its contract: four bytes of the trailer, each in its place.
-use native.Mathlib.Omega.{arith}
 use Rattle.job_format.specs.Reader.{trailerFrom}
 use borrow.Author.Needs.{needs}
 use Rattle.job_file.proofs.reader.job_of.Statement.{statement}

@@ -45,7 +45,9 @@ add-if3-2 c = omega arith
 
 returns-3 : tie.Need-returns-3
 returns-3 c =
-    let area = c .before .before .before .before .before .before .before in
+    let second = c .before .before .before in
+    let first = second .before .before in
+    let area = first .before .before in
     other-length _ _ _ (area .before .before .pre .1 .0) (λ e. c .if3 .taken (omega (arith, e, c .before .wide .ensures, area .area .ensures .0)))
 
 returns-4 : tie.Need-returns-4

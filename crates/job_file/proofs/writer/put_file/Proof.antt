@@ -6,6 +6,10 @@ use Rattle.job_file.proofs.WriterLaws.{parts-written}
 use Rattle.job_file.proofs.writer.put_file.Statement.{statement}
 use Rattle.job_file.proofs.writer.put_file.Tie as tie
 
+-- the function's entry, from where the table is written
+abbrev start : tie.After-put-table → tie.Start
+start c = c .before .before .before .before .before
+
 mul-place : tie.Need-mul-place
 mul-place c = omega arith
 
@@ -53,8 +57,7 @@ returns c =
     let trailer = c .before .before in
     let bytes = trailer .before .before .before .before in
     let table = bytes .before .before .before .before in
-    let start = table .before .before .before .before .before in
-    parts-written _ _ _ _ (start .pre) _ _ _ _ (table .put-table .ensures) (bytes .put-bytes .ensures) refl (trailer .put-trailer .ensures)
+    parts-written _ _ _ _ (start table .pre) _ _ _ _ (table .put-table .ensures) (bytes .put-bytes .ensures) refl (trailer .put-trailer .ensures)
 
 pub put-file-spec : {M : Type 1} → statement M
 put-file-spec =

@@ -41,8 +41,9 @@ loop-less c = omega arith
 loop-again : tie.Need-loop-again Inv-loop μ-loop
 loop-again c =
     let stored = c .before .before in
-    let at = stored .before .before .before .before .loop in
-    let args = stored .before .before .before .before .before .before .before .args in
+    let turn = stored .before .before .before .before in
+    let at = turn .loop in
+    let args = turn .before .before .before .args in
     let next = table-next (args .table .now) (args .buffer .now) (at .k) (omega arith) (omega arith) in
     (omega arith, omega (arith, simp length-sets at (ap length (stored .put-word .ensures))), stored .put-word .ensures ∙ rw (at .inv .2) next)
 
