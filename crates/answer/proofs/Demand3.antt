@@ -1,8 +1,6 @@
--- Demand 3, first half, of the reports: "any two runs over [a table] that finish, whatever choices, starting orders and pools they were
--- given, report equal costs; each is the cost of the order reported with it, and every one of the n! orders of the n stops costs at
--- least as much." A run that finishes is a call whose report has number 0; nothing else is assumed of the calls.
--- (The list `orders n` has factorial n entries, each order once and nothing else: crate `orders`, proofs/Orders.)
--- Assumes nothing.
+-- Demand 3 of the written run, the first half: finished runs over one table report one cost, that of a cheapest order. A run that finishes is a
+-- call whose answer has number 0; nothing else is assumed of the calls.
+--   Solved, solved    the state of a finished run knows an order, and no order is cheaper
 use mathlib.Core.Path.{_≡_, refl, sym, _∙_, ap, ap₂, subst}
 use mathlib.Core.List.{List}
 use mathlib.Core.Option.{Option, some}
@@ -10,35 +8,24 @@ use Prim.Native.Nat.{ℕ, _-_, _≤_}
 use native.Mathlib.Nat.{le-antisymm}
 use lib.ListN.{length, take, replicate}
 use lib.Seq.{take-at}
-use Rattle.lists.specs.Lists.{In}
 use Rattle.search.specs.Problem.{State, upper}
 use Rattle.search.specs.Run.{finished}
 use Rattle.search.proofs.Plain.{tree, planOf, cutOf, strict}
 use Rattle.search.proofs.Optimal.{ended-known, ended-least}
-use Rattle.orders.specs.Orders.{Node, size, Order, orders}
+use Rattle.orders.specs.Orders.{Node, size, Order}
 use Rattle.orders.proofs.Order.{order-complete, order-leads, leads-order, order-length}
-use Rattle.orders.proofs.Orders.{orders-in, in-orders}
+use Rattle.orders.proofs.Orders.{orders-in, in-orders, distinct-orders, length-orders}
 use Rattle.stops.specs.Legs.{Legs, rows, legs, cost}
 use Rattle.stops.specs.Stops.{problem}
 use Rattle.records.specs.Records.{padded, recordsIn}
 use Rattle.sizes.specs.Sizes.{orderPlaces}
 use Rattle.answer.specs.Call.{Call, Answer}
-use Rattle.answer.specs.declared.Report.{Report}
 use Rattle.answer.specs.Answer.{legsOf, problemOf, choicesOf, given, stopsOf, reportWith, ending, answer}
+use Rattle.answer.specs.Ends.{orderIn}
+use Rattle.answer.specs.Demands.{written, OneTable, OneCost, Cheapest, CheapestOfAll, OrdersAreAll}
 use Rattle.answer.proofs.Passes.{Passes, passes}
 use Rattle.answer.proofs.Instance.{finished-state, state-reached, finish-stops, call-lawful, bound-laws, call-manner, call-solvable, start-known}
 use Rattle.answer.proofs.Ending.{Finished, number-0}
-
--- the order of a report: its first n places
-abbrev pub orderIn : Call → Report → Node
-orderIn c r = take (c .job .n) (r .order)
-
--- what a report with number 0 says of the call's table
-pub record Cheapest (c : Call) (r : Report) : Type 0 where
-  pub is-order : Order (c .job .n) (orderIn c r)
-  pub zeros-past-n : r .order ≡ padded orderPlaces (orderIn c r)
-  pub cost-is-its : r .cost ≡ cost (legsOf c) (orderIn c r)
-  pub least : (y : Node) → In y (orders (c .job .n)) → r .cost ≤ cost (legsOf c) y
 
 -- the state of a finished run knows an order, and none is cheaper
 pub record Solved (c : Call) (s : State Node) : Type 0 where
@@ -84,25 +71,31 @@ solved-report c ok s v = subst (λ (b : Option Node). Cheapest c (reportWith 0 (
       least = λ y m. v .least y (in-orders (c .job .n) y m);
     }
 
-pub finished-cheapest : (c : Call) → answer c .report .number ≡ 0 → Cheapest c (answer c .report)
-finished-cheapest c h =
+pub answer-cheapest : (c : Call) → answer c .report .number ≡ 0 → Cheapest c (answer c .report)
+answer-cheapest c h =
     let f : Finished c = number-0 c h in
     subst (λ (a : Answer). Cheapest c (a .report)) (sym (f .answered)) (solved-report c (passes c (f .passed)) (f .state) (solved c f))
 
--- Two calls over one table that finish report equal costs.
-pub one-cost :
-    (a b : Call) → a .job .n ≡ b .job .n → a .table ≡ b .table → answer a .report .number ≡ 0 → answer b .report .number ≡ 0
-    → answer a .report .cost ≡ answer b .report .cost
+pub cheapest-of-all : CheapestOfAll written
+cheapest-of-all c a e h =
+    subst (λ (x : Answer). Cheapest c (x .report)) (sym e) (answer-cheapest c (sym (ap (λ (x : Answer). x .report .number) e) ∙ h))
+
+-- one of two runs over one table costs at most as much as the other, so by symmetry they cost the same
+pub one-cost : OneCost written
 unfolding legsOf
-one-cost a b n table ha hb = le-antisymm (below a b n table ha hb) (below b a (sym n) (sym table) hb ha)
+one-cost a b x y p q one hx hy =
+    le-antisymm (below a b x y p q one hx hy) (below b a y x q p (record { n = sym (one .n); table = sym (one .table) }) hy hx)
   where
     below :
-        (a b : Call) → a .job .n ≡ b .job .n → a .table ≡ b .table → answer a .report .number ≡ 0 → answer b .report .number ≡ 0
-        → answer a .report .cost ≤ answer b .report .cost
-    below a b n table ha hb =
-        let best : Cheapest a (answer a .report) = finished-cheapest a ha in
-        let other : Cheapest b (answer b .report) = finished-cheapest b hb in
-        let legs : legsOf a ≡ legsOf b = ap₂ (λ (k : ℕ) (t : List ℕ). legs (rows k t)) n table in
-        subst (λ (v : ℕ). answer a .report .cost ≤ v) (ap (λ (L : Legs). cost L (orderIn b (answer b .report))) legs ∙ sym (other .cost-is-its))
-        (best .least (orderIn b (answer b .report))
-        (orders-in (a .job .n) (orderIn b (answer b .report)) (subst (λ (k : ℕ). Order k (orderIn b (answer b .report))) (sym n) (other .is-order))))
+        (a b : Call) (x y : Answer) → written a x → written b y → OneTable a b → x .report .number ≡ 0 → y .report .number ≡ 0
+        → x .report .cost ≤ y .report .cost
+    below a b x y p q one hx hy =
+        let best : Cheapest a (x .report) = cheapest-of-all a x p hx in
+        let other : Cheapest b (y .report) = cheapest-of-all b y q hy in
+        let order : Node = orderIn b (y .report) in
+        let same-legs : legsOf a ≡ legsOf b = ap₂ (λ (k : ℕ) (t : List ℕ). legs (rows k t)) (one .n) (one .table) in
+        subst (λ (v : ℕ). x .report .cost ≤ v) (ap (λ (L : Legs). cost L order) same-legs ∙ sym (other .cost-is-its))
+        (best .least order (orders-in (a .job .n) order (subst (λ (k : ℕ). Order k order) (sym (one .n)) (other .is-order))))
+
+pub orders-are-all : OrdersAreAll
+orders-are-all n = record { entries = length-orders n; once = distinct-orders n; just-these = λ x. (in-orders n x, orders-in n x) }

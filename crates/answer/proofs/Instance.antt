@@ -1,10 +1,11 @@
 -- A call that every check lets pass is an instance of the theory: its problem and choices are lawful, some order is cheaper than
--- "above every cost", and its fuel is enough. Assumes nothing.
+-- "above every cost", and its fuel is enough.
 use mathlib.Core.Path.{_≡_, refl, ap, _∙_}
 use mathlib.Core.List.{List, [], _∷_}
 use mathlib.Core.Logic.{_⊎_, inl, inr}
 use Prim.Native.Nat.{ℕ, suc, _-_, _≤_, _<_}
 use native.Mathlib.Omega.{arith}
+use Rattle.sizes.specs.Sizes.{dearest}
 use Rattle.lists.specs.Lists.{sum}
 use Rattle.search.specs.Problem.{State, start}
 use Rattle.search.specs.Run.{finished, full, unfinished, finish, next, Overflows}
@@ -79,9 +80,9 @@ Reaches c s =
     (start (problemOf c) (given (c .start))) s
 
 module _ (c : Call) (ok : Passes c) where
-  pub legs-small : Within 1_000_000 (legsOf c)
+  pub legs-small : Within dearest (legsOf c)
   unfolding legsOf
-  legs-small = legs-within (c .job .n) (c .table) 1_000_000 (ok .cheap)
+  legs-small = legs-within (c .job .n) (c .table) dearest (ok .cheap)
 
   pub call-lawful : Lawful (tree (problemOf c)) (size (c .job .n)) (c .job .n)
   unfolding problemOf

@@ -1,4 +1,4 @@
--- What it means that every check lets a call pass. Assumes nothing.
+-- What it means that every check lets a call pass.
 use mathlib.Core.Path.{_≡_, refl}
 use mathlib.Core.Bool.{Bool, true, false, not, _||_}
 use mathlib.Core.List.{List, [], _∷_}
