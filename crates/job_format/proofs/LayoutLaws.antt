@@ -58,11 +58,11 @@ module _ (t : Trailer) (len : ℕ) where
       (eq-eqb (t .tablePlace) 0 (l .table), eq-eqb (t .startPlace) (startPlaceOf (t .job .n)) (l .start), eq-eqb len (fileLength (t .job .n) (t .startLength)) (l .whole), le-ltb longest len (l .short))
 
 -- The layout for n stops, where n stands in the trailer, in a file of some length.
-module _ (bytes : List ℕ) (len n : ℕ) (stands : n ≡ getD bytes 8 0) where
-  start-is : startPlaceOf n ≡ startPlaceOf (getD bytes 8 0)
+module _ (bytes : List ℕ) (len n : ℕ) (stands : n ≡ trailerFrom bytes .job .n) where
+  start-is : startPlaceOf n ≡ startPlaceOf (trailerFrom bytes .job .n)
   start-is = ap startPlaceOf stands
 
-  end-is : fileLength n (getD bytes 9 0) ≡ fileLength (getD bytes 8 0) (getD bytes 9 0)
+  end-is : fileLength n (getD bytes 9 0) ≡ fileLength (trailerFrom bytes .job .n) (getD bytes 9 0)
   end-is = ap (λ (m : ℕ). fileLength m (getD bytes 9 0)) stands
 
   pub table-elsewhere : wordAt bytes 0 ≢ 0 → true ≡ misplaced (trailerFrom bytes) len

@@ -6,7 +6,7 @@ use mathlib.Core.Bool.{true, false}
 use mathlib.Core.List.{List}
 use Prim.Native.Nat.{ℕ, _-_, _≤_, _<_}
 use native.Mathlib.Omega.{arith}
-use lib.ListN.{length, getD, drop, length-drop}
+use lib.ListN.{length, drop, length-drop}
 use borrow.Author.Tests.{lt-ltb, le-ltb, eq-eqb}
 use Rattle.answer.specs.Checks.{cause₁, cause₂, cause₃, cause₄, cause₅, orLater, jobCause}
 use Rattle.job_format.specs.Contents.{Contents, Trailer, trailerLength, area}
@@ -52,8 +52,8 @@ module _ (file trailer : List ℕ) (last : trailer ≡ drop (length file - trail
   unfolding jobCause
   right-layout e f = by-cause _ (rw (e, f, table-fits (trailerFrom trailer) file))
 
-  pub same-stops : (n : ℕ) → n ≡ getD trailer 8 0 → cause₁ n ≡ cause₁ (found .job .n)
-  unfolding contentsBy trailerFrom
+  pub same-stops : (n : ℕ) → n ≡ trailerFrom trailer .job .n → cause₁ n ≡ cause₁ (found .job .n)
+  unfolding contentsBy
   same-stops n e = ap cause₁ e
 
   pub length-last : length trailer ≡ trailerLength

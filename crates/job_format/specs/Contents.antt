@@ -14,6 +14,10 @@ pub record Contents : Type 0 where
   -- the starting order, or nothing
   pub start : List ℕ
 
+-- contents by their parts, in the order of the code's arguments
+unfoldable pub contentsOf : Job → List ℕ → List ℕ → Contents
+contentsOf job table start = record { job = job; table = table; start = start }
+
 -- The thirteen bytes at the end of a file: two places as words, then n, the length of the starting order, selection, rules and bound as a
 -- byte each.
 pub record Trailer : Type 0 where

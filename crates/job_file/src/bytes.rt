@@ -1,22 +1,22 @@
-// Bytes read and written: numbers of 32 bits, least byte first, and runs of bytes, as crate `job_format` says (specs/Bytes). The functions
-// are public for the crates above and not for hosts; what they require, those crates meet.
+// Bytes read and written: words, which are numbers of 32 bits with the least byte first, and runs of bytes, as crate `job_format` says
+// (specs/Bytes). The functions are public for the crates above and not for hosts; what they require, those crates meet.
 ghost use mathlib.Core.Path.{_≡_};
 ghost use Prim.Native.Nat.{_+_, _≤_, _<_};
 ghost use lib.ListN.{length};
 ghost use lib.Seq.{sets};
-ghost use Rattle.job_format.specs.Bytes.{numberBytes, number, numberAt, overwrite};
+ghost use Rattle.job_format.specs.Bytes.{wordBytes, word, wordAt, overwrite};
 
-// A byte as a number of 32 bits.
+// A byte as a word.
 pub fn wide(x: u8) -> u32
     ensures { λ r. ⌜ (r ≡ x) × (r < 256) ⌝ }
 {
     x as u32
 }
 
-// The number that begins at a place.
-pub fn number_at(bytes: &[u8], place: usize) -> u32
-    requires { ⌜ place + numberBytes ≤ length (now bytes) ⌝ }
-    ensures { λ r. ⌜ r ≡ numberAt (now (bytes .entry)) place ⌝ }
+// The word that begins at a place.
+pub fn word_at(bytes: &[u8], place: usize) -> u32
+    requires { ⌜ place + wordBytes ≤ length (now bytes) ⌝ }
+    ensures { λ r. ⌜ r ≡ wordAt (now (bytes .entry)) place ⌝ }
 {
     let a = wide(bytes[place]);
     let b = wide(bytes[place + 1]);
@@ -25,10 +25,10 @@ pub fn number_at(bytes: &[u8], place: usize) -> u32
     a + 256 * (b + 256 * (c + 256 * d))
 }
 
-// Writes a number at a place.
-pub fn put_number(bytes: &mut [u8], place: usize, x: u32)
-    requires { ⌜ place + numberBytes ≤ length (now bytes) ⌝ }
-    ensures { λ u. ⌜ now (bytes .exit) ≡ sets (now (bytes .entry)) place (number x) ⌝ }
+// Writes a word at a place.
+pub fn put_word(bytes: &mut [u8], place: usize, x: u32)
+    requires { ⌜ place + wordBytes ≤ length (now bytes) ⌝ }
+    ensures { λ u. ⌜ now (bytes .exit) ≡ sets (now (bytes .entry)) place (word x) ⌝ }
 {
     bytes[place] = (x % 256) as u8;
     bytes[place + 1] = (x / 256 % 256) as u8;

@@ -1,8 +1,8 @@
--- `number_at` meets its contract: the four bytes at a place make up the number. Assumes nothing.
+-- `word_at` meets its contract: the four bytes at a place make up the word.
 use native.Mathlib.Omega.{arith}
 use Rattle.job_format.proofs.ByteLaws.{four-bytes}
-use Rattle.bytes.proofs.number_at.Statement.{statement}
-use Rattle.bytes.proofs.number_at.Tie as tie
+use Rattle.job_file.proofs.bytes.word_at.Statement.{statement}
+use Rattle.job_file.proofs.bytes.word_at.Tie as tie
 
 shared-slice-read-wide : tie.Need-shared-slice-read-wide
 shared-slice-read-wide c = omega arith
@@ -64,8 +64,8 @@ returns c =
     omega
     (arith, four-bytes (args .bytes .now) (args .place) (omega arith), c .wide4 .ensures, third .wide3 .ensures, second .wide2 .ensures, first .wide .ensures)
 
-pub number-at-spec : {M : Type 1} → statement M
-number-at-spec =
+pub word-at-spec : {M : Type 1} → statement M
+word-at-spec =
     tie.close
     (tie.spec
     shared-slice-read-wide

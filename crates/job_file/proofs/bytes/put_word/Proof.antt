@@ -1,11 +1,11 @@
--- `put_number` meets its contract: the four bytes are the number's, one behind the other. Assumes nothing.
+-- `put_word` meets its contract: the four bytes are the word's, one behind the other.
 use native.Mathlib.Numerals.{towards-suc}
 use native.Mathlib.Omega.{arith}
 use lib.ListN.{length-set}
-use Rattle.job_format.specs.Bytes.{number}
+use Rattle.job_format.specs.Bytes.{word}
 use borrow.Author.Needs.{needs}
-use Rattle.bytes.proofs.put_number.Statement.{statement}
-use Rattle.bytes.proofs.put_number.Tie as tie
+use Rattle.job_file.proofs.bytes.put_word.Statement.{statement}
+use Rattle.job_file.proofs.bytes.put_word.Tie as tie
 
 cast-bytes : tie.Need-cast-bytes
 cast-bytes c = omega arith
@@ -44,11 +44,11 @@ same-length : tie.Need-same-length
 same-length c = search needs
 
 returns : tie.Need-returns
-unfolding number
+unfolding word
 returns c = simp towards-suc
 
-pub put-number-spec : {M : Type 1} → statement M
-put-number-spec =
+pub put-word-spec : {M : Type 1} → statement M
+put-word-spec =
     tie.close
     (tie.spec
     cast-bytes

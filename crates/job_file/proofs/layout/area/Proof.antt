@@ -1,9 +1,9 @@
--- `area` meets its contract. Assumes nothing.
+-- `area` meets its contract.
 use native.Mathlib.Omega.{arith}
 use Rattle.job_format.proofs.LayoutLaws.{area-small}
 use borrow.Author.Needs.{needs}
-use Rattle.job_file.proofs.reader.area.Statement.{statement}
-use Rattle.job_file.proofs.reader.area.Tie as tie
+use Rattle.job_file.proofs.layout.area.Statement.{statement}
+use Rattle.job_file.proofs.layout.area.Tie as tie
 
 add-side : tie.Need-add-side
 add-side c = search needs
