@@ -1,30 +1,103 @@
 -- Causes 1 to 5, test by test: what each test of the code decides of its cause, and what the causes make up.
 --   table-first, table-second, table-third, table-right    the answer of `table_cause`, by causes 1 to 3
---   table-refuses, table-passes, few-stops                 what it says of a job with the same table
--- Assumes nothing.
+--   table-refuses, table-passes, passed-few                what it says of a job with this table
 use mathlib.Core.Path.{_≡_, refl, sym, _∙_}
 use mathlib.Core.Bool.{Bool, true, false, not, or-true}
 use mathlib.Core.List.{List, [], _∷_}
-use mathlib.Core.Logic.{_⊎_, inl, inr, _≢_}
+use mathlib.Core.Logic.{_≢_}
 use Prim.Native.Nat.{ℕ, suc, _*_, _≤_, _<_}
 use native.Mathlib.Omega.{arith}
 use lib.Dec.{ltb, eqb}
 use lib.ListN.{length}
-use borrow.Author.Tests.{eq-eqb, ne-eqb, lt-ltb, le-ltb}
+use borrow.Author.Tests.{eq-eqb, ne-eqb, lt-ltb, le-ltb, ltb-false}
+use Rattle.sizes.specs.Sizes.{mostStops, dearest}
 use Rattle.lists.specs.Lists.{any, from}
-use Rattle.lists.proofs.Tests.{ordered}
+use Rattle.lists.proofs.Tests.{both-false}
 use Rattle.orders.specs.Orders.{isOrder}
 use Rattle.stops.specs.Legs.{entry}
-use Rattle.answer.specs.Call.{Call, callOf}
+use Rattle.answer.specs.declared.Job.{Job}
 use Rattle.answer.specs.Checks.{cause₁, cause₂, cause₃, cause₄, cause₅, isEmpty, orLater, jobCause}
 use Rattle.answer.proofs.JobCause.{First, first-later, first-or}
+use Rattle.checks.specs.Code.{tableCause}
 
--- some leg is above 1,000,000; some entry of the diagonal is not 0
-abbrev large : Call → Bool
-large c = any (ltb 1_000_000) (c .table)
+-- ---- causes 1 to 3
 
-abbrev nonzero : Call → Bool
-nonzero c = any (λ i. not (eqb (entry (c .n) (c .table) i i) 0)) (from 0 (suc (c .n)))
+module _ (n : ℕ) where
+  pub no-stop : n ≡ 0 → cause₁ n ≡ true
+  unfolding cause₁
+  no-stop e = rw (eq-eqb n 0 e)
+
+  pub most-left : n ≢ 0 → cause₁ n ≡ ltb mostStops n
+  unfolding cause₁
+  most-left h = rw (ne-eqb n 0 h)
+
+  pub few-stops : cause₁ n ≡ false → n ≤ mostStops
+  unfolding cause₁
+  few-stops e = ltb-false mostStops n (both-false (eqb n 0) (ltb mostStops n) e .1)
+
+-- a table for n stops
+module _ (n : ℕ) (table : List ℕ) where
+  -- some leg is too dear; some entry of the diagonal is not 0
+  abbrev large : Bool
+  large = any (ltb dearest) table
+
+  abbrev nonzero : Bool
+  nonzero = any (λ i. not (eqb (entry n table i i) 0)) (from 0 (suc n))
+
+  pub other-area : length table ≢ suc n * suc n → cause₂ n table ≡ true
+  unfolding cause₂
+  other-area h = rw (ne-eqb (length table) (suc n * suc n) h)
+
+  pub area-passes : length table ≡ suc n * suc n → cause₂ n table ≡ false
+  unfolding cause₂
+  area-passes e = rw (eq-eqb (length table) (suc n * suc n) e)
+
+  pub large-leg : large ≡ true → cause₃ n table ≡ true
+  unfolding cause₃
+  large-leg e = rw e
+
+  pub nonzero-diagonal : nonzero ≡ true → cause₃ n table ≡ true
+  unfolding cause₃
+  nonzero-diagonal e = rw (e, or-true)
+
+  pub legs-pass : large ≡ false → nonzero ≡ false → cause₃ n table ≡ false
+  unfolding cause₃
+  legs-pass e f = rw (e, f)
+
+  pub table-first : cause₁ n ≡ true → 1 ≡ tableCause n table 0
+  unfolding tableCause
+  table-first e = rw e
+
+  pub table-second : cause₁ n ≡ false → cause₂ n table ≡ true → 2 ≡ tableCause n table 0
+  unfolding tableCause
+  table-second e f = rw (e, f)
+
+  pub table-third : cause₁ n ≡ false → cause₂ n table ≡ false → cause₃ n table ≡ true → 3 ≡ tableCause n table 0
+  unfolding tableCause
+  table-third e f g = rw (e, f, g)
+
+  pub table-right : cause₁ n ≡ false → cause₂ n table ≡ false → cause₃ n table ≡ false → 0 ≡ tableCause n table 0
+  unfolding tableCause
+  table-right e f g = rw (e, f, g)
+
+  table-causes : First (tableCause n table)
+  unfolding tableCause
+  table-causes = first-or (cause₁ n) 0 (first-or (cause₂ n table) 1 (first-or (cause₃ n table) 2 first-later))
+
+-- ---- causes 4 and 5
+
+module _ (job : Job) where
+  pub high-selection : 3 < job .selection → cause₄ job ≡ true
+  unfolding cause₄
+  high-selection h = rw (lt-ltb 3 (job .selection) h)
+
+  pub high-rules : 15 < job .rules → cause₄ job ≡ true
+  unfolding cause₄
+  high-rules h = rw (lt-ltb 15 (job .rules) h, or-true)
+
+  pub bound-left : job .selection ≤ 3 → job .rules ≤ 15 → cause₄ job ≡ ltb 1 (job .bound)
+  unfolding cause₄
+  bound-left h k = rw (le-ltb 3 (job .selection) h, le-ltb 15 (job .rules) k)
 
 empty-length : (x : List ℕ) → length x ≡ 0 → isEmpty x ≡ true
 empty-length [] e = refl
@@ -34,120 +107,33 @@ nonempty-length : (x : List ℕ) → length x ≢ 0 → isEmpty x ≡ false
 nonempty-length [] h = absurd (h refl)
 nonempty-length (s ∷ x) h = refl
 
-module _ (c : Call) where
-  pub no-stop : c .n ≡ 0 → cause₁ c ≡ true
-  unfolding cause₁
-  no-stop e = rw (eq-eqb (c .n) 0 e)
-
-  pub many-stops : 16 < c .n → cause₁ c ≡ true
-  unfolding cause₁
-  many-stops h = rw (lt-ltb 16 (c .n) h, or-true)
-
-  pub stops-pass : c .n ≢ 0 → c .n ≤ 16 → cause₁ c ≡ false
-  unfolding cause₁
-  stops-pass h k = rw (ne-eqb (c .n) 0 h, le-ltb 16 (c .n) k)
-
-  pub other-area : length (c .table) ≢ suc (c .n) * suc (c .n) → cause₂ c ≡ true
-  unfolding cause₂
-  other-area h = rw (ne-eqb (length (c .table)) (suc (c .n) * suc (c .n)) h)
-
-  pub area-passes : length (c .table) ≡ suc (c .n) * suc (c .n) → cause₂ c ≡ false
-  unfolding cause₂
-  area-passes e = rw (eq-eqb (length (c .table)) (suc (c .n) * suc (c .n)) e)
-
-  pub large-leg : large c ≡ true → cause₃ c ≡ true
-  unfolding cause₃
-  large-leg e = rw e
-
-  pub nonzero-diagonal : nonzero c ≡ true → cause₃ c ≡ true
-  unfolding cause₃
-  nonzero-diagonal e = rw (e, or-true)
-
-  pub legs-pass : large c ≡ false → nonzero c ≡ false → cause₃ c ≡ false
-  unfolding cause₃
-  legs-pass e f = rw (e, f)
-
-  pub high-selection : 3 < c .selection → cause₄ c ≡ true
-  unfolding cause₄
-  high-selection h = rw (lt-ltb 3 (c .selection) h)
-
-  pub high-rules : 15 < c .rules → cause₄ c ≡ true
-  unfolding cause₄
-  high-rules h = rw (lt-ltb 15 (c .rules) h, or-true)
-
-  pub bound-left : c .selection ≤ 3 → c .rules ≤ 15 → cause₄ c ≡ ltb 1 (c .bound)
-  unfolding cause₄
-  bound-left h k = rw (le-ltb 3 (c .selection) h, le-ltb 15 (c .rules) k)
-
-  pub empty-passes : length (c .start) ≡ 0 → cause₅ c ≡ false
+module _ (n : ℕ) (start : List ℕ) where
+  pub empty-passes : length start ≡ 0 → cause₅ n start ≡ false
   unfolding cause₅
-  empty-passes e = rw (empty-length (c .start) e)
+  empty-passes e = rw (empty-length start e)
 
-  pub order-left : length (c .start) ≢ 0 → cause₅ c ≡ not (isOrder (c .n) (c .start))
+  pub order-left : length start ≢ 0 → cause₅ n start ≡ not (isOrder n start)
   unfolding cause₅
-  order-left h = rw (nonempty-length (c .start) h)
+  order-left h = rw (nonempty-length start h)
 
--- a table's own call: its choices and its starting order have no cause
-module _ (n : ℕ) (table : List ℕ) where
-  abbrev pub plainCall : Call
-  plainCall = callOf n table 0 0 0 [] []
+-- ---- a job, where `table_cause` answers k
 
-  pub table-first : cause₁ plainCall ≡ true → 1 ≡ jobCause plainCall 0
-  unfolding jobCause
-  table-first e = rw e
+-- causes 4 and 5 alone
+abbrev pub later : Job → List ℕ → ℕ
+later job start = orLater (cause₄ job) 4 (orLater (cause₅ (job .n) start) 5 0)
 
-  pub table-second : cause₁ plainCall ≡ false → cause₂ plainCall ≡ true → 2 ≡ jobCause plainCall 0
-  unfolding jobCause
-  table-second e f = rw (e, f)
+module _ (job : Job) (table start : List ℕ) (k : ℕ) (e : k ≡ tableCause (job .n) table 0) where
+  pub table-refuses : k ≢ 0 → k ≡ jobCause job table start 0
+  unfolding jobCause tableCause
+  table-refuses h = e ∙ table-causes (job .n) table .own (λ z. h (e ∙ z)) (later job start)
 
-  pub table-third : cause₁ plainCall ≡ false → cause₂ plainCall ≡ false → cause₃ plainCall ≡ true → 3 ≡ jobCause plainCall 0
-  unfolding jobCause
-  table-third e f g = rw (e, f, g)
+  pub table-passes : k ≡ 0 → jobCause job table start 0 ≡ later job start
+  unfolding jobCause tableCause
+  table-passes z = table-causes (job .n) table .none (sym e ∙ z) (later job start)
 
-  pub table-right : cause₁ plainCall ≡ false → cause₂ plainCall ≡ false → cause₃ plainCall ≡ false → 0 ≡ jobCause plainCall 0
-  unfolding jobCause cause₄ cause₅ callOf
-  table-right e f g = rw (e, f, g)
-
-  pub few-stops : (k : ℕ) → k ≡ jobCause plainCall 0 → k ≡ 0 → n ≤ 16
-  unfolding callOf
-  few-stops k e z = go (ordered n 16)
-    where
-      go : (n ≤ 16) ⊎ (16 < n) → n ≤ 16
-      go (inl h) = h
-      go (inr h) = omega (arith, table-first (many-stops plainCall h))
-
-  -- a job with this table
-  module _ (selection rules bound : ℕ) (start : List ℕ) where
-    abbrev job : Call
-    job = callOf n table selection rules bound start []
-
-    abbrev later : ℕ
-    later = orLater (cause₄ job) 4 (orLater (cause₅ job) 5 0)
-
-    table-causes : First (λ later. orLater (cause₁ job) 1 (orLater (cause₂ job) 2 (orLater (cause₃ job) 3 later)))
-    table-causes = first-or (cause₁ job) 0 (first-or (cause₂ job) 1 (first-or (cause₃ job) 2 first-later))
-
-    pub table-refuses : (k : ℕ) → k ≡ jobCause plainCall 0 → k ≢ 0 → k ≡ jobCause job 0
-    unfolding jobCause cause₁ cause₂ cause₃ cause₄ cause₅ callOf
-    table-refuses k e h = e ∙ table-causes .own (λ z. h (e ∙ z)) later
-
-    pub table-passes : (k : ℕ) → k ≡ jobCause plainCall 0 → k ≡ 0 → jobCause job 0 ≡ later
-    unfolding jobCause cause₁ cause₂ cause₃ cause₄ cause₅ callOf
-    table-passes k e z = table-causes .none (sym e ∙ z) later
-
-    -- causes 4 and 5, as their own tests see them
-    pub choice-refuses : (k : ℕ) → k ≡ jobCause plainCall 0 → k ≡ 0 → cause₄ (callOf 0 [] selection rules bound [] []) ≡ true → 4 ≡ jobCause job 0
-    unfolding cause₄ callOf
-    choice-refuses k e z f = sym (table-passes k e z ∙ rw f)
-
-    pub start-refuses :
-        (k : ℕ) → k ≡ jobCause plainCall 0 → k ≡ 0 → cause₄ (callOf 0 [] selection rules bound [] []) ≡ false
-        → cause₅ (callOf n [] 0 0 0 start []) ≡ true → 5 ≡ jobCause job 0
-    unfolding cause₄ cause₅ callOf
-    start-refuses k e z f g = sym (table-passes k e z ∙ rw (f, g))
-
-    pub all-pass :
-        (k : ℕ) → k ≡ jobCause plainCall 0 → k ≡ 0 → cause₄ (callOf 0 [] selection rules bound [] []) ≡ false
-        → cause₅ (callOf n [] 0 0 0 start []) ≡ false → 0 ≡ jobCause job 0
-    unfolding cause₄ cause₅ callOf
-    all-pass k e z f g = sym (table-passes k e z ∙ rw (f, g))
+pub passed-few : (n : ℕ) (table : List ℕ) (k : ℕ) → k ≡ tableCause n table 0 → k ≡ 0 → n ≤ mostStops
+passed-few n table k e z = few-stops n (go (cause₁ n) refl)
+  where
+    go : (b : Bool) → cause₁ n ≡ b → b ≡ false
+    go true f = absurd (omega (arith, table-first n table f))
+    go false f = refl

@@ -5,7 +5,6 @@
 --   between, between-all, between-next, between-none    the numbers s to n
 --   stop-flown, other-flown    which numbers are stops
 --   other-length, not-once, only-left    the three answers of the test for orders
--- Assumes nothing.
 use mathlib.Core.Path.{_≡_, ap, sym, _∙_}
 use mathlib.Core.Bool.{Bool, true, false}
 use mathlib.Core.List.{List, [], _∷_}

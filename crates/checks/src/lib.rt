@@ -1,26 +1,35 @@
-// Checks 1 to 5, which look at the job alone: `job_cause`. What it answers is `jobCause` of crate `answer` (specs/Checks), whose
-// proofs/JobCause ties that to the cause of a call with a pool. The functions are public for the crates above and not for hosts;
-// what they require, those crates meet.
+// Checks 1 to 5, which look at a job, its table and its starting order: `job_cause`. What it answers is `jobCause` of crate `answer`
+// (specs/Checks), whose proofs/JobCause ties that to the cause of a call with a pool. `wrong_n` and `table_cause` are for callers that look
+// at less. The functions are public for the crates above and not for hosts; what they require, those crates meet.
 ghost use mathlib.Core.Path.{_≡_};
-ghost use mathlib.Core.List.{[]};
 ghost use Prim.Native.Nat.{_≤_};
-ghost use Rattle.answer.specs.Call.{callOf};
-ghost use Rattle.answer.specs.Checks.{cause₄, cause₅, jobCause};
+ghost use Rattle.sizes.specs.Sizes.{mostStops};
+ghost use Rattle.answer.specs.Checks.{cause₁, cause₄, cause₅, jobCause};
+ghost use Rattle.checks.specs.Code.{tableCause};
 
 pub mod order;
 
 use crate::order::is_order;
+use answer::Job;
+use sizes::MOST_STOPS;
 use stops::table::diagonal;
 use stops::table::small;
 
-// The number of the first of causes 1 to 3 that applies, 0 if none does: the choices 0 and an empty starting order have no cause.
-fn table_cause(n: u32, table: &[u32]) -> u32
-    ensures { λ r. ⌜ r ≡ jobCause (callOf n (now (table .entry)) 0 0 0 [] []) 0 ⌝ }
+// Whether cause 1 applies.
+pub fn wrong_n(n: u32) -> bool
+    ensures { λ r. ⌜ r ≡ cause₁ n ⌝ }
 {
     if n == 0 {
-        return 1;
+        return true;
     }
-    if 16 < n {
+    MOST_STOPS < n
+}
+
+// The number of the first of causes 1 to 3 that applies, 0 if none does.
+pub fn table_cause(n: u32, table: &[u32]) -> u32
+    ensures { λ r. ⌜ r ≡ tableCause n (now (table .entry)) 0 ⌝ }
+{
+    if wrong_n(n) {
         return 1;
     }
     let side = (n + 1) as usize;
@@ -37,22 +46,22 @@ fn table_cause(n: u32, table: &[u32]) -> u32
 }
 
 // Whether cause 4 applies.
-fn unknown_choice(selection: u32, rules: u32, bound: u32) -> bool
-    ensures { λ r. ⌜ r ≡ cause₄ (callOf 0 [] selection rules bound [] []) ⌝ }
+fn unknown_choice(job: Job) -> bool
+    ensures { λ r. ⌜ r ≡ cause₄ job ⌝ }
 {
-    if 3 < selection {
+    if 3 < job.selection {
         return true;
     }
-    if 15 < rules {
+    if 15 < job.rules {
         return true;
     }
-    1 < bound
+    1 < job.bound
 }
 
 // Whether cause 5 applies.
 fn wrong_start(n: u32, start: &[u8]) -> bool
-    requires { ⌜ n ≤ 16 ⌝ }
-    ensures { λ r. ⌜ r ≡ cause₅ (callOf n [] 0 0 0 (now (start .entry)) []) ⌝ }
+    requires { ⌜ n ≤ mostStops ⌝ }
+    ensures { λ r. ⌜ r ≡ cause₅ n (now (start .entry)) ⌝ }
 {
     if start.len() == 0 {
         return false;
@@ -61,17 +70,17 @@ fn wrong_start(n: u32, start: &[u8]) -> bool
 }
 
 // The number of the first of causes 1 to 5 that applies, 0 if none does.
-pub fn job_cause(n: u32, table: &[u32], selection: u32, rules: u32, bound: u32, start: &[u8]) -> u32
-    ensures { λ r. ⌜ r ≡ jobCause (callOf n (now (table .entry)) selection rules bound (now (start .entry)) []) 0 ⌝ }
+pub fn job_cause(job: Job, table: &[u32], start: &[u8]) -> u32
+    ensures { λ r. ⌜ r ≡ jobCause job (now (table .entry)) (now (start .entry)) 0 ⌝ }
 {
-    let number = table_cause(n, table);
+    let number = table_cause(job.n, table);
     if number != 0 {
         return number;
     }
-    if unknown_choice(selection, rules, bound) {
+    if unknown_choice(job) {
         return 4;
     }
-    if wrong_start(n, start) {
+    if wrong_start(job.n, start) {
         return 5;
     }
     0

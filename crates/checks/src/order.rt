@@ -2,6 +2,7 @@
 ghost use mathlib.Core.Path.{_≡_};
 ghost use Prim.Native.Nat.{_≤_};
 ghost use lib.Dec.{eqb};
+ghost use Rattle.sizes.specs.Sizes.{mostStops};
 ghost use Rattle.lists.specs.Lists.{all};
 ghost use Rattle.orders.specs.Orders.{stops, flown, count, isOrder};
 
@@ -22,7 +23,7 @@ fn times(x: &[u8], s: u32) -> usize
 
 // Whether each stop of 1 to n stands in x exactly once.
 fn each_once(n: u32, x: &[u8]) -> bool
-    requires { ⌜ n ≤ 16 ⌝ }
+    requires { ⌜ n ≤ mostStops ⌝ }
     ensures { λ r. ⌜ r ≡ all (λ s. eqb (count s (now (x .entry))) 1) (stops n) ⌝ }
 {
     let mut s = 1;
@@ -37,7 +38,7 @@ fn each_once(n: u32, x: &[u8]) -> bool
 
 // Whether nothing but 1 to n stands in x.
 fn only_stops(n: u32, x: &[u8]) -> bool
-    requires { ⌜ n ≤ 16 ⌝ }
+    requires { ⌜ n ≤ mostStops ⌝ }
     ensures { λ r. ⌜ r ≡ all (flown (stops n)) (now (x .entry)) ⌝ }
 {
     let mut k = 0;
@@ -56,7 +57,7 @@ fn only_stops(n: u32, x: &[u8]) -> bool
 
 // Whether x is an order of 1 to n.
 pub fn is_order(n: u32, x: &[u8]) -> bool
-    requires { ⌜ n ≤ 16 ⌝ }
+    requires { ⌜ n ≤ mostStops ⌝ }
     ensures { λ r. ⌜ r ≡ isOrder n (now (x .entry)) ⌝ }
 {
     if x.len() != n as usize {

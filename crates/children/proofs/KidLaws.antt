@@ -12,17 +12,16 @@ use native.Mathlib.Omega.{arith}
 use lib.Dec.{leb, eqb}
 use lib.ListN.{length}
 use lib.Pow.{pow-pos, pow-mono}
-use Rattle.sizes.specs.Sizes.{mostStops, dearest}
+use Rattle.sizes.specs.Sizes.{mostStops, dearest, wordStops}
 use Rattle.lists.specs.Lists.{In}
 use Rattle.orders.specs.Orders.{left}
 use Rattle.orders.proofs.Partial.{partial-size}
 use Rattle.orders.proofs.Sets.{size-left}
-use Rattle.stops.specs.Legs.{rowLeg, legs, path}
-use Rattle.stops.specs.Code.{emptyRecord, Wide, extended, lastStop, stopsIn, ahead}
+use Rattle.stops.specs.Stops.{dayOn}
+use Rattle.stops.specs.Code.{emptyRecord, Wide, extended, lastStop, stopsIn, reckonOn}
 use Rattle.stops.specs.declared.node_record.Record.{Record}
-use Rattle.stops.proofs.Paths.{path-small}
 use Rattle.stops.proofs.SetBits.{stopsIn-range, stopsIn-few}
-use Rattle.stops.proofs.SetLoops.{ahead-small}
+use Rattle.stops.proofs.StopsWalk.{after-stop, further-small, path-small, ahead-small}
 use Rattle.records.specs.Code.{encode}
 use Rattle.records.proofs.Mask.{rest-small}
 use Rattle.records.proofs.Encode.{encode-wide}
@@ -39,20 +38,20 @@ last-place : (b : Record) → lastStop b ≤ mostStops
 unfolding lastStop
 last-place b =
     cond-most (eqb (b .size) 0) _ _ (omega arith)
-    (cond-most (leb (b .size) 8) _ _ (omega arith) (cond-most (leb (b .size) 16) _ _ (omega arith) (omega arith)))
+    (cond-most (leb (b .size) wordStops) _ _ (omega arith) (cond-most (leb (b .size) mostStops) _ _ (omega arith) (omega arith)))
 
 -- the longest path: as many legs as there may be, each as dear as it may be
 abbrev longestPath : ℕ
 longestPath = mostStops * dearest
 
 module _ {d : Setting} {t : Table} (rows : Rows d t) where
-  path-most : {b : Record} (e : Encoded d t b) → (b .path ≡ path (legs t) (e .node)) × (b .path ≤ longestPath)
+  path-most : {b : Record} (e : Encoded d t b) → (b .path ≡ dayOn (d .n) t .path (e .node)) × (b .path ≤ longestPath)
   unfolding encodeOf encode
   path-most {b} e =
       let x = e .node in
-      let same : b .path ≡ path (legs t) x = ap (λ (r : Record). r .path) (e .same) in
+      let same : b .path ≡ dayOn (d .n) t .path x = ap (λ (r : Record). r .path) (e .same) in
       let short : length x ≤ mostStops = omega (arith, partial-size (d .n) x (e .partial), size-left (d .n) x, rows .few) in
-      (same, omega (arith, path-small dearest (legs t) (rows .cheap) x, mul-le-mul-right dearest short))
+      (same, omega (arith, path-small t (rows .cheap) (d .n) x, mul-le-mul-right dearest short))
 
   -- the set of all stops, as a number, is one less than 2 to the power n
   pub all-small : (1 ≤ 2 ^ d .n) × (2 ^ d .n ≤ 2 ^ mostStops)
@@ -60,12 +59,12 @@ module _ {d : Setting} {t : Table} (rows : Rows d t) where
 
   -- e with its bound, as the code puts it together
   pub root-made :
-      (x : Record) (v : ℕ) → x ≡ emptyRecord → v ≡ ahead (d .bound) (legs t) 0 (stopsIn (1 * 2 ^ d .n % 2 ^ 32 - 1))
+      (x : Record) (v : ℕ) → x ≡ emptyRecord → v ≡ reckonOn t .ahead (d .bound) 0 (stopsIn (1 * 2 ^ d .n % 2 ^ 32 - 1))
       → bounded v x ≡ rootOf d t
   unfolding rootOf
   root-made x v e f =
       let all : 1 * 2 ^ d .n % 2 ^ 32 - 1 ≡ 2 ^ d .n - 1 = omega (arith, all-small) in
-      ap₂ bounded (f ∙ ap (λ (m : ℕ). ahead (d .bound) (legs t) 0 (stopsIn m)) all) e
+      ap₂ bounded (f ∙ ap (λ (m : ℕ). reckonOn t .ahead (d .bound) 0 (stopsIn m)) all) e
 
 module _ {d : Setting} {t : Table} {b : Record} {place rest s : ℕ} (q : Kid d t b place rest s) where
   pub kid-places : (place ≤ mostStops) × (rest < 2 ^ mostStops) × (s ≤ mostStops)
@@ -74,23 +73,22 @@ module _ {d : Setting} {t : Table} {b : Record} {place rest s : ℕ} (q : Kid d 
       let small : rest < 2 ^ mostStops = rw (q .leaves) (rest-small (d .n) (q .rows .few) (b .set)) in
       (omega (arith, last-place b, q .at), small, stopsIn-range rest small s (q .stop) .1)
 
-  leg-most : rowLeg t place s ≤ dearest
-  unfolding legs
-  leg-most = q .rows .cheap .leg place s
+  further-most : reckonOn t .further place s ≤ dearest
+  further-most = further-small t (q .rows .cheap) place s
 
-  pub kid-wide : Wide b s (rowLeg t place s)
+  pub kid-wide : Wide b s (reckonOn t .further place s)
   unfolding encodeOf
   kid-wide =
       let e = q .encoded in
       let m : In s (left (d .n) (e .node)) = rw (q .leaves, restOf-left (q .rows) e) at (q .stop) in
-      let room : path (legs t) (e .node) + rowLeg t place s < 2 ^ 32 = omega (arith, path-most (q .rows) e, leg-most) in
-      subst (λ (r : Record). Wide r s (rowLeg t place s)) (sym (e .same))
-      (encode-wide (d .n) (q .rows .few) (legs t) (d .bound) (e .node) (e .partial) s m (rowLeg t place s) room)
+      let room : dayOn (d .n) t .path (e .node) + reckonOn t .further place s < 2 ^ 32 = omega (arith, path-most (q .rows) e, further-most) in
+      subst (λ (r : Record). Wide r s (reckonOn t .further place s)) (sym (e .same))
+      (encode-wide (d .n) (q .rows .few) (dayOn (d .n) t) (d .bound) (e .node) (e .partial) s m (reckonOn t .further place s) room)
 
   -- x is b extended, and v what the bound adds to its path
   module _
-      (x : Record) (v others : ℕ) (o : x ≡ extended b s (rowLeg t place s)) (w : others ≡ rest - 2 ^ (s - 1))
-      (h : v ≡ ahead (d .bound) (legs t) s (stopsIn others))
+      (x : Record) (v others : ℕ) (o : x ≡ extended b s (reckonOn t .further place s)) (w : others ≡ rest - 2 ^ (s - 1))
+      (h : v ≡ reckonOn t .ahead (d .bound) s (stopsIn others))
     where
       pub kid-small : x .path + v < 2 ^ 32
       unfolding extended
@@ -100,10 +98,10 @@ module _ {d : Setting} {t : Table} {b : Record} {place rest s : ℕ} (q : Kid d 
             arith,
             ap (λ (r : Record). r .path) o,
             path-most (q .rows) (q .encoded),
-            leg-most,
-            ahead-small dearest (legs t) (q .rows .cheap) s mostStops (d .bound) (stopsIn others) few,
+            further-most,
+            ahead-small t (q .rows .cheap) mostStops (d .bound) s (stopsIn others) few,
           )
 
       pub kid-made : bounded (x .path + v) x ≡ childOf d t b s
       unfolding childOf bounded extended
-      kid-made = rw (o, h, w, q .at, q .leaves)
+      kid-made = rw (o, h, w, q .at, q .leaves, after-stop t (lastStop b) s)

@@ -7,16 +7,15 @@ use native.Mathlib.Omega.{arith}
 use Rattle.lists.specs.Lists.{In}
 use Rattle.lists.proofs.Map.{map-same}
 use Rattle.search.proofs.Mapped.{Maps}
-use Rattle.orders.specs.Orders.{Node, Partial, extend, setOf, left, size, complete, children}
+use Rattle.orders.specs.Orders.{Node, Partial, extend, setOf, left, mask, size, complete, children}
 use Rattle.orders.proofs.Sets.{empty-set}
 use Rattle.orders.proofs.Partial.{partial-root, partial-child, partial-size}
-use Rattle.stops.specs.Legs.{Legs, rowLeg, legs, path, last}
-use Rattle.stops.specs.Bounds.{boundBy}
-use Rattle.stops.specs.Code.{emptyRecord, extended, lastStop, stopsIn, ahead}
-use Rattle.stops.specs.Stops.{problem, choices}
-use Rattle.stops.proofs.Paths.{path-extend}
-use Rattle.stops.proofs.Bounds.{bound-ahead, bound-exact}
-use Rattle.records.specs.Records.{mask}
+use Rattle.days.specs.Days.{Day, problem, choices}
+use Rattle.days.specs.Code.{Reckoning}
+use Rattle.days.proofs.Walk.{Walk, bound-exact}
+use Rattle.stops.specs.Stops.{dayOn}
+use Rattle.stops.specs.Code.{emptyRecord, extended, lastStop, stopsIn, reckonOn}
+use Rattle.stops.proofs.StopsWalk.{rows-walk, place-last}
 use Rattle.records.specs.Code.{encode}
 use Rattle.records.proofs.Mask.{stops-left}
 use Rattle.records.proofs.Encode.{encode-last, encode-extend}
@@ -31,13 +30,20 @@ module _ {d : Setting} {t : Table} (rows : Rows d t) where
   abbrev k : ℕ
   k = d .bound
 
-  abbrev L : Legs
-  L = legs t
+  abbrev D : Day
+  D = dayOn n t
+
+  abbrev R : Reckoning
+  R = reckonOn t
+
+  walk : Walk n 1 D R
+  walk = rows-walk n t
 
   -- the record of e
   pub encode-root : rootOf d t ≡ encodeOf d t []
-  unfolding rootOf encodeOf bounded emptyRecord encode path last mask
-  encode-root = λ i. record { size = sym none i; set = sym unset i; path = 0; bound = bound i; first = 0; second = 0 }
+  unfolding rootOf encodeOf bounded emptyRecord encode mask
+  encode-root =
+      λ i. record { size = sym none i; set = sym unset i; path = sym (walk .path-root) i; bound = bound i; first = 0; second = 0 }
     where
       none : size n [] ≡ 0
       none = partial-size n [] (partial-root n)
@@ -48,28 +54,28 @@ module _ {d : Setting} {t : Table} (rows : Rows d t) where
       all : stopsIn (2 ^ n - 1) ≡ left n []
       all = ap stopsIn (let e : 2 ^ n - 1 ≡ 2 ^ n - 1 - mask (setOf n []) = omega (arith, unset) in e) ∙ stops-left n (rows .few) []
 
-      bound : ahead k L 0 (stopsIn (2 ^ n - 1)) ≡ boundBy k n L []
-      bound =
-          ap (ahead k L 0) all
-          ∙ (let e : ahead k L 0 (left n []) ≡ 0 + ahead k L 0 (left n []) = omega arith in e)
-          ∙ sym (bound-ahead k (rows .bound) n L [])
+      bound : R .ahead k 0 (stopsIn (2 ^ n - 1)) ≡ D .bound k []
+      bound = rw (all, walk .bound-ahead k (rows .bound) [], walk .path-root, walk .place-root) (omega arith)
 
   module _ (x : Node) (p : Partial (d .n) x) where
     encode-kid : (s : ℕ) → In s (left n x) → childOf d t (encodeOf d t x) s ≡ encodeOf d t (extend x s)
-    unfolding childOf restOf encodeOf bounded legs encode
+    unfolding childOf restOf encodeOf bounded encode
     encode-kid s m =
-        ap (λ (place : ℕ). bounded (path L x + rowLeg t place s + rest) (extended (encode n L k x) s (rowLeg t place s))) place
-        ∙ ap (bounded (path L x + rowLeg t (last x) s + rest)) (encode-extend n (rows .few) L k x p s m)
-        ∙ ap (λ (v : ℕ). bounded v (encode n L k (extend x s))) bound
+        ap (λ (q : ℕ). bounded (D .path x + R .further q s + rest q) (extended (encode n D k x) s (R .further q s))) place
+        ∙ ap (bounded (D .path x + R .further (R .place x) s + rest (R .place x)))
+        (encode-extend n (rows .few) D k x p s m (R .further (R .place x) s) (walk .path-extend x s m))
+        ∙ ap (λ (v : ℕ). bounded v (encode n D k (extend x s))) bound
       where
-        rest : ℕ
-        rest = ahead k L s (stopsIn (2 ^ n - 1 - mask (setOf n x) - 2 ^ (s - 1)))
+        -- what the bound adds behind s, flown to from a place
+        rest : ℕ → ℕ
+        rest q = R .ahead k (R .after q s) (stopsIn (2 ^ n - 1 - mask (setOf n x) - 2 ^ (s - 1)))
 
-        place : lastStop (encode n L k x) ≡ last x
-        place = encode-last n (rows .few) L k x p
+        place : lastStop (encode n D k x) ≡ R .place x
+        place = encode-last n (rows .few) D k x p ∙ sym (place-last t x)
 
-        bound : path L x + rowLeg t (last x) s + rest ≡ boundBy k n L (extend x s)
-        bound = ap (λ (v : ℕ). v + rest) (sym (path-extend L x s)) ∙ sym (encode-child n (rows .few) L k (rows .bound) x s m)
+        bound : D .path x + R .further (R .place x) s + rest (R .place x) ≡ D .bound k (extend x s)
+        bound =
+            ap (λ (v : ℕ). v + rest (R .place x)) (sym (walk .path-extend x s m)) ∙ sym (encode-child walk (rows .few) k (rows .bound) x s m)
 
     encode-rest : stopsIn (restOf d (encodeOf d t x)) ≡ left n x
     unfolding restOf encodeOf encode
@@ -90,8 +96,8 @@ module _ {d : Setting} {t : Table} (rows : Rows d t) where
     children = encode-children;
     children-valid = partial-child n;
     complete = λ x p. refl;
-    cost = λ x p whole. bound-exact k (rows .bound) n L x whole;
-    dominates = λ w x p q. encode-dominates n (rows .few) L k w x p q;
+    cost = λ x p whole. bound-exact walk k (rows .bound) x whole;
+    dominates = λ w x p q. encode-dominates walk (place-last t) (rows .few) k w x p q;
     above = refl;
     selection = refl;
     rules = refl;

@@ -1,6 +1,5 @@
 -- A setting and a table's rows as a problem on records, and what the functions of this crate compute. `proofs/` shows that it is the
--- problem of crate `stops`, node by node. These definitions are the code's own: a reader of the promise needs none of them. They are the
--- last that know legs: the crates above speak of a setting d and of rows t.
+-- problem of their day, node by node. These definitions are the code's own: a reader of the promise needs none of them.
 --   Rows                              what a run asks of both
 --   settingOf, jobOf                  the setting of a job, and the job of a setting
 --   problemOf, choicesOf, encodeOf    the problem and the caller's choices on nodes, and the record of a node
@@ -17,14 +16,14 @@ use mathlib.Core.Option.{Option, none, some}
 use Prim.Native.Nat.{ℕ, _+_, _-_, _^_, _≤_, _<_}
 use lib.Dec.{eqb}
 use lib.ListN.{length, take, drop}
-use Rattle.sizes.specs.Sizes.{mostStops, dearest, aboveEveryCost, noLimit}
+use Rattle.sizes.specs.Sizes.{mostStops, aboveEveryCost, noLimit}
 use Rattle.lists.specs.Lists.{In, keep}
 use Rattle.search.specs.Problem.{Problem, Choices}
 use Rattle.search.specs.Step.{on}
 use Rattle.orders.specs.Orders.{Node, Partial}
-use Rattle.stops.specs.Legs.{rowLeg, legs}
-use Rattle.stops.specs.Stops.{problem, choices}
-use Rattle.stops.specs.Code.{emptyRecord, extended, lastStop, recDominates, stopsIn, ahead, Within}
+use Rattle.days.specs.Days.{problem, choices}
+use Rattle.stops.specs.Stops.{dayOn}
+use Rattle.stops.specs.Code.{emptyRecord, extended, lastStop, recDominates, stopsIn, reckonOn, Cheap}
 use Rattle.stops.specs.declared.node_record.Record.{Record}
 use Rattle.records.specs.Code.{encode, dropAt}
 use Rattle.passes.specs.Code.{isWithin}
@@ -47,17 +46,17 @@ jobOf d = record { n = d .n; selection = d .selection; rules = d .rules; bound =
 pub record Rows (d : Setting) (t : Table) : Type 0 where
   pub some : 1 ≤ d .n
   pub few : d .n ≤ mostStops
-  pub cheap : Within dearest (legs t)
+  pub cheap : Cheap t
   pub bound : d .bound ≤ 1
 
 unfoldable pub problemOf : Setting → Table → Problem Node
-problemOf d t = problem (d .n) (legs t)
+problemOf d t = problem (d .n) (dayOn (d .n) t)
 
 unfoldable pub choicesOf : Setting → Table → Choices Node
-choicesOf d t = choices (d .n) (legs t) (d .selection) (d .rules) (d .bound)
+choicesOf d t = choices (dayOn (d .n) t) (d .selection) (d .rules) (d .bound)
 
 unfoldable pub encodeOf : Setting → Table → Node → Record
-encodeOf d t x = encode (d .n) (legs t) (d .bound) x
+encodeOf d t x = encode (d .n) (dayOn (d .n) t) (d .bound) x
 
 -- the stops that a record leaves, as a set
 unfoldable pub restOf : Setting → Record → ℕ
@@ -66,17 +65,19 @@ restOf d b = 2 ^ d .n - 1 - b .set
 unfoldable pub bounded : ℕ → Record → Record
 bounded v x = record { size = x .size; set = x .set; path = x .path; bound = v; first = x .first; second = x .second }
 
+-- b is at the place of its last stop
 unfoldable pub childOf : Setting → Table → Record → ℕ → Record
 childOf d t b s =
     bounded
-    (b .path + rowLeg t (lastStop b) s + ahead (d .bound) (legs t) s (stopsIn (restOf d b - 2 ^ (s - 1))))
-    (extended b s (rowLeg t (lastStop b) s))
+    (b .path + reckonOn t .further (lastStop b) s
+    + reckonOn t .ahead (d .bound) (reckonOn t .after (lastStop b) s) (stopsIn (restOf d b - 2 ^ (s - 1))))
+    (extended b s (reckonOn t .further (lastStop b) s))
 
 unfoldable pub childrenOf : Setting → Table → Record → List Record
 childrenOf d t b = map (childOf d t b) (stopsIn (restOf d b))
 
 unfoldable pub rootOf : Setting → Table → Record
-rootOf d t = bounded (ahead (d .bound) (legs t) 0 (stopsIn (2 ^ d .n - 1))) emptyRecord
+rootOf d t = bounded (reckonOn t .ahead (d .bound) 0 (stopsIn (2 ^ d .n - 1))) emptyRecord
 
 unfoldable pub recProblem : Setting → Table → Problem Record
 recProblem d t = record {

@@ -16,8 +16,9 @@ use crate::setting::Setting;
 use records::load;
 use sizes::ABOVE_EVERY_COST;
 use sizes::PLACES;
+use stops::bound::ahead;
 use stops::node_record::Record;
-use stops::table::leg;
+use stops::table::further;
 
 // The cost of the best order known, and its two words; the largest number and zeros if none is known.
 pub struct Best {
@@ -78,12 +79,12 @@ pub fn started(setting: Setting, t: [[u32; PLACES]; PLACES], start: &[u8]) -> Be
     let mut k = 0;
     while k < start.len() {
         let s = start[k] as u32;
-        x = x.extended(s, leg(&t, place, s));
+        x = x.extended(s, further(&t, place, s));
         place = s;
         k += 1;
     }
     Best {
-        upper: x.path + leg(&t, place, 0),
+        upper: x.path + ahead(&t, 0, place, 0),
         first: x.first,
         second: x.second,
     }

@@ -13,7 +13,7 @@ use stops::bound::later;
 use stops::bound::next;
 use stops::bound::without;
 use stops::node_record::Record;
-use stops::table::leg;
+use stops::table::further;
 
 // e, with its bound.
 pub fn root(setting: Setting, t: [[u32; PLACES]; PLACES]) -> Record
@@ -37,7 +37,7 @@ fn child(
     requires { ⌜ Kid setting (now t) b place rest s ⌝ }
     ensures { λ r. ⌜ r ≡ childOf setting (now (t .entry)) b s ⌝ }
 {
-    let mut x = b.extended(s, leg(t, place, s));
+    let mut x = b.extended(s, further(t, place, s));
     x.bound = x.path + ahead(t, setting.bound, s, without(rest, s));
     x
 }

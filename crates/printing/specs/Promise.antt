@@ -1,4 +1,4 @@
--- The promise of what is printed in words of its code: a text in an array, with zeros behind it. Assumes nothing.
+-- The promise of what is printed in words of its code: a text in an array, with zeros behind it.
 use mathlib.Core.List.{List}
 use Prim.Native.Nat.{ℕ}
 use lib.ListN.{length}

@@ -11,12 +11,12 @@ use native.Mathlib.Omega.{arith}
 use lib.ListN.{length, take, drop, length-append, length-take, length-drop}
 use lib.Seq.{slice, length-slice, length-take-le, take-take, paste, take-paste, drop-paste}
 use Rattle.lists.specs.Lists.{keep}
-use Rattle.lists.proofs.Keep.{keep-all}
+use Rattle.lists.proofs.Keep.{keep-all, keep-append}
 use Rattle.lists.proofs.Numbers.{keep-parts}
+use Rattle.lists.proofs.Slices.{drop-further, slice-further}
 use Rattle.stops.specs.declared.node_record.Record.{Record}
 use Rattle.records.specs.Code.{Sifted, dropAt, always}
 use Rattle.passes.specs.Code.{isStaying}
-use Rattle.records.proofs.SliceLaws.{keep-append, drop-further, slice-further}
 use Rattle.children.specs.Code.{othersIn, Spotted}
 use Rattle.children.specs.declared.spot.Spot.{Spot}
 use Rattle.replacement.specs.Code.{stayingOf, Changing, Replaced}

@@ -1,5 +1,5 @@
 -- `checks::order::each_once` meets its contract. The loop's invariant: whether each of 1 to n stands in x once lies with s to n. The
--- measure is what is left of n + 1. Assumes nothing.
+-- measure is what is left of n + 1.
 use mathlib.Core.Path.{ap, sym, _∙_}
 use Prim.Native.Nat.{suc, _≤_, _-_}
 use native.Mathlib.Omega.{arith}

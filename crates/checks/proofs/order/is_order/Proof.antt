@@ -1,5 +1,4 @@
 -- `checks::order::is_order` meets its contract: a list of another length is no order, and the two tests make up the test for orders.
--- Assumes nothing.
 use mathlib.Core.Path.{sym, _∙_}
 use native.Mathlib.Omega.{arith}
 use borrow.Author.Tests.{not-true, not-false}

@@ -1,5 +1,5 @@
 -- `checks::order::only_stops` meets its contract. The loop's invariant: whether all are stops lies with the list from k on. The
--- measure is what is left of the length. Assumes nothing.
+-- measure is what is left of the length.
 use mathlib.Core.Path.{refl}
 use mathlib.Core.Logic.{inl, inr}
 use Prim.Native.Nat.{_≤_, _-_}

@@ -1,5 +1,5 @@
 -- `checks::order::times` meets its contract. The loop's invariant: what is counted so far and how often s stands in the list from k on
--- make up the whole. The measure is what is left of the length. Assumes nothing.
+-- make up the whole. The measure is what is left of the length.
 use Prim.Native.Nat.{_≤_, _-_}
 use mathlib.Core.Logic.{⊎-elim}
 use native.Mathlib.Omega.{arith}

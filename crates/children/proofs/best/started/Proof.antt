@@ -53,14 +53,14 @@ shared-slice-read-s c = omega arith
 cast-s : tie.Need-cast-s Inv-loop μ-loop
 cast-s c = omega (arith, near (c .before))
 
-leg-requires : tie.Need-leg-requires Inv-loop μ-loop
-leg-requires c κs = let i = c .before .before in (flown (i .before) .near, near i)
+further-requires : tie.Need-further-requires Inv-loop μ-loop
+further-requires c κs = let i = c .before .before in (flown (i .before) .near, near i)
 
 extended-requires : tie.Need-extended-requires Inv-loop μ-loop
 extended-requires c κs =
     let i = c .before .before .before in
     let l = i .before in
-    rw (c .leg .ensures) (flown-wide _ (rows l) (order l) (flown l) (i .loop-test .taken))
+    rw (c .further .ensures) (flown-wide _ (rows l) (order l) (flown l) (i .loop-test .taken))
 
 add-k : tie.Need-add-k Inv-loop μ-loop
 add-k c = omega arith
@@ -72,20 +72,20 @@ loop-again : tie.Need-loop-again Inv-loop μ-loop
 loop-again c d p o =
     let i = c .before .before .before .before in
     let l = i .before in
-    rw (c .extended .ensures, c .before .leg .ensures) (flown-more _ p o (l .loop .inv d p o) (i .loop-test .taken))
+    rw (c .extended .ensures, c .before .further .ensures) (flown-more _ p o (l .loop .inv d p o) (i .loop-test .taken))
 
-leg-requires-2 : tie.Need-leg-requires-2 Inv-loop μ-loop
-leg-requires-2 c κs = (flown (c .before .before) .near, omega arith)
+ahead-requires : tie.Need-ahead-requires Inv-loop μ-loop
+ahead-requires c κs = let l = c .before .before in (flown l .near, (omega arith, rows l .cheap))
 
 add-t19 : tie.Need-add-t19 Inv-loop μ-loop
 add-t19 c =
     let l = c .before .before .before .before in
-    record { fits = rw (c .before .leg2 .ensures) (flown-room _ (rows l) (order l) (flown l) 0) }
+    record { fits = rw (c .before .ahead .ensures) (flown-room _ (rows l) (order l) (flown l)) }
 
 returns-2 : tie.Need-returns-2 Inv-loop μ-loop
 returns-2 c =
     let l = c .before .before .before .before in
-    rw (c .before .leg2 .ensures) (flown-best _ (rows l) (order l) (flown l) (c .before .before .before .loop-test .left))
+    rw (c .before .ahead .ensures) (flown-best _ (rows l) (order l) (flown l) (c .before .before .before .loop-test .left))
 
 pub started-spec : {M : Type 1} → statement M
 started-spec =
@@ -98,11 +98,11 @@ started-spec =
     loop-holds
     shared-slice-read-s
     cast-s
-    leg-requires
+    further-requires
     extended-requires
     add-k
     loop-less
     loop-again
-    leg-requires-2
+    ahead-requires
     add-t19
     returns-2)
