@@ -12,7 +12,7 @@ use Rattle.orders.specs.Orders.{Node, nodes}
 use Rattle.records.specs.Records.{recordsIn, poolWords}
 use Rattle.answer.specs.Call.{Call, callOf, Answer}
 use Rattle.answer.specs.Checks.{cause₆, orLater, jobCause, cause}
-use Rattle.answer.specs.Answer.{legsOf, problemOf, choicesOf, given, outcome, wordsOf, ending, respond, answer}
+use Rattle.answer.specs.Answer.{dayOf, problemOf, choicesOf, given, outcome, wordsOf, ending, respond, answer}
 use Rattle.answer.specs.Demands.{written}
 use Rattle.answer.specs.Document01.{ContentsPlayNoPart}
 use Rattle.answer.proofs.Instance.{outcome-ends}
@@ -31,12 +31,12 @@ module _ (c : Call) (pool : List ℕ) (long : length pool ≡ length (c .pool)) 
       long
 
   same-outcome : outcome other ≡ outcome c
-  unfolding outcome problemOf choicesOf legsOf recordsIn
+  unfolding outcome problemOf choicesOf dayOf recordsIn
   same-outcome =
       ap (λ (m : ℕ). run (problemOf c) (choicesOf c) (m / recordWords) (suc (nodes (c .job .n))) (start (problemOf c) (given (c .start)))) long
 
   pub same-report : answer other .report ≡ answer c .report
-  unfolding answer respond ending problemOf legsOf
+  unfolding answer respond ending problemOf dayOf
   same-report = ap (λ (k : ℕ). respond other k .report) same-cause ∙ by-cause (cause c)
     where
       by-outcome : (o : Outcome Node) → ending other o .report ≡ ending c o .report
@@ -49,14 +49,14 @@ module _ (c : Call) (pool : List ℕ) (long : length pool ≡ length (c .pool)) 
       by-cause (suc k) = refl
 
   pub same-words : cause c ≡ 0 → answer other .pool ≡ answer c .pool
-  unfolding answer respond ending wordsOf legsOf
+  unfolding answer respond ending wordsOf dayOf
   same-words passed =
       ap (λ (k : ℕ). respond other k .pool) (same-cause ∙ passed) ∙ ap (λ (o : Outcome Node). ending other o .pool) same-outcome
       ∙ by-outcome (outcome c) refl ∙ sym (ap (λ (k : ℕ). respond c k .pool) passed)
     where
       by-outcome : (o : Outcome Node) → outcome c ≡ o → ending other o .pool ≡ ending c o .pool
-      by-outcome (finished s) e = ap (λ (m : ℕ). poolWords (c .job .n) (legsOf c) (c .job .bound) (c .job .rules) m s) long
-      by-outcome (full s) e = ap (λ (m : ℕ). poolWords (c .job .n) (legsOf c) (c .job .bound) (c .job .rules) m s) long
+      by-outcome (finished s) e = ap (λ (m : ℕ). poolWords (c .job .n) (dayOf c) (c .job .bound) (c .job .rules) m s) long
+      by-outcome (full s) e = ap (λ (m : ℕ). poolWords (c .job .n) (dayOf c) (c .job .bound) (c .job .rules) m s) long
       by-outcome (unfinished s) e = absurd (outcome-ends c s e)
 
 pub contents-play-no-part : ContentsPlayNoPart written

@@ -15,16 +15,16 @@ use Rattle.search.proofs.Optimal.{ended-known, ended-least}
 use Rattle.orders.specs.Orders.{Node, size, Order}
 use Rattle.orders.proofs.Order.{order-complete, order-leads, leads-order, order-length}
 use Rattle.orders.proofs.Orders.{orders-in, in-orders, distinct-orders, length-orders}
-use Rattle.stops.specs.Legs.{Legs, rows, legs, cost}
-use Rattle.stops.specs.Stops.{problem}
-use Rattle.records.specs.Records.{padded, recordsIn}
+use Rattle.days.specs.Days.{Day, problem}
+use Rattle.records.specs.Records.{recordsIn}
 use Rattle.sizes.specs.Sizes.{orderPlaces}
+use Rattle.lists.specs.Lists.{padded}
 use Rattle.answer.specs.Call.{Call, Answer}
-use Rattle.answer.specs.Answer.{legsOf, problemOf, choicesOf, given, stopsOf, reportWith, ending, answer}
+use Rattle.answer.specs.Answer.{dayOf, problemOf, choicesOf, given, stopsOf, reportWith, ending, answer}
 use Rattle.answer.specs.Ends.{orderIn}
 use Rattle.answer.specs.Demands.{written, OneTable, OneCost, Cheapest, CheapestOfAll, OrdersAreAll}
 use Rattle.answer.proofs.Passes.{Passes, passes}
-use Rattle.answer.proofs.Instance.{finished-state, state-reached, finish-stops, call-lawful, bound-laws, call-manner, call-solvable, start-known}
+use Rattle.answer.proofs.Instance.{one-day, finished-state, state-reached, finish-stops, call-lawful, bound-laws, call-manner, call-solvable, start-known}
 use Rattle.answer.proofs.Ending.{Finished, number-0}
 
 -- the state of a finished run knows an order, and none is cheaper
@@ -32,7 +32,7 @@ pub record Solved (c : Call) (s : State Node) : Type 0 where
   pub x : Node
   pub best : s .best ≡ some x
   pub order : Order (c .job .n) x
-  pub least : (y : Node) → Order (c .job .n) y → cost (legsOf c) x ≤ cost (legsOf c) y
+  pub least : (y : Node) → Order (c .job .n) y → dayOf c .cost x ≤ dayOf c .cost y
 
 pub solved : (c : Call) (f : Finished c) → Solved c (f .state)
 unfolding problemOf problem
@@ -48,7 +48,7 @@ solved c f =
       best = known;
       order = leads-order (c .job .n) (problemOf c) (λ y. refl) x whole leads;
       least = λ y o.
-          subst (λ (b : Option Node). upper (problemOf c) b ≤ cost (legsOf c) y) known
+          subst (λ (b : Option Node). upper (problemOf c) b ≤ dayOf c .cost y) known
           (ended-least (tree (problemOf c)) (planOf (problemOf c) (choicesOf c)) (cutOf (choicesOf c)) (recordsIn (c .pool)) (size (c .job .n)) (c .job .n)
           (call-lawful c ok) (bound-laws c ok) (given (c .start)) (start-known c ok) (call-manner c ok) (strict (problemOf c) (choicesOf c))
           (f .state) (state-reached c ok steps) (finish-stops c ok (f .state) end) y (order-complete (c .job .n) y o)
@@ -63,11 +63,11 @@ solved-report c ok s v = subst (λ (b : Option Node). Cheapest c (reportWith 0 (
     front : take (c .job .n) (padded orderPlaces (v .x)) ≡ v .x
     front = take-at (v .x) (replicate (orderPlaces - length (v .x)) 0) (c .job .n) (order-length (c .job .n) (v .x) (v .order))
 
-    shown : Cheapest c (reportWith 0 (cost (legsOf c) (v .x)) (v .x) s)
+    shown : Cheapest c (reportWith 0 (dayOf c .cost (v .x)) (v .x) s)
     shown = record {
       is-order = rw front (v .order);
       zeros-past-n = ap (padded orderPlaces) (sym front);
-      cost-is-its = ap (cost (legsOf c)) (sym front);
+      cost-is-its = ap (dayOf c .cost) (sym front);
       least = λ y m. v .least y (in-orders (c .job .n) y m);
     }
 
@@ -82,7 +82,6 @@ cheapest-of-all c a e h =
 
 -- one of two runs over one table costs at most as much as the other, so by symmetry they cost the same
 pub one-cost : OneCost written
-unfolding legsOf
 one-cost a b x y p q one hx hy =
     le-antisymm (below a b x y p q one hx hy) (below b a y x q p (record { n = sym (one .n); table = sym (one .table) }) hy hx)
   where
@@ -93,8 +92,7 @@ one-cost a b x y p q one hx hy =
         let best : Cheapest a (x .report) = cheapest-of-all a x p hx in
         let other : Cheapest b (y .report) = cheapest-of-all b y q hy in
         let order : Node = orderIn b (y .report) in
-        let same-legs : legsOf a ≡ legsOf b = ap₂ (λ (k : ℕ) (t : List ℕ). legs (rows k t)) (one .n) (one .table) in
-        subst (λ (v : ℕ). x .report .cost ≤ v) (ap (λ (L : Legs). cost L order) same-legs ∙ sym (other .cost-is-its))
+        subst (λ (v : ℕ). x .report .cost ≤ v) (ap (λ (D : Day). D .cost order) (one-day a b one) ∙ sym (other .cost-is-its))
         (best .least order (orders-in (a .job .n) order (subst (λ (k : ℕ). Order k order) (sym (one .n)) (other .is-order))))
 
 pub orders-are-all : OrdersAreAll

@@ -18,18 +18,15 @@ use Rattle.search.proofs.Plain.{tree, planOf, cutOf, adds, finished-iff-done}
 use Rattle.search.proofs.Below.{Closer}
 use Rattle.search.proofs.Compare.{compare-runs}
 use Rattle.orders.specs.Orders.{Node, size, Order, nodes}
-use Rattle.stops.specs.Legs.{cost}
-use Rattle.stops.specs.Bounds.{boundBy}
-use Rattle.stops.specs.Stops.{problem, choices}
-use Rattle.stops.proofs.Bounds.{bound-closer}
-use Rattle.stops.proofs.Instance.{order-below}
+use Rattle.days.specs.Days.{problem, choices}
+use Rattle.days.proofs.Walk.{walk-closer}
 use Rattle.records.specs.Records.{recordsIn}
 use Rattle.answer.specs.Call.{Call, Answer}
 use Rattle.answer.specs.Checks.{cause}
-use Rattle.answer.specs.Answer.{legsOf, problemOf, choicesOf, given, outcome, reportWith, ending, respond, answer}
+use Rattle.answer.specs.Answer.{dayOf, problemOf, choicesOf, given, outcome, reportWith, ending, respond, answer}
 use Rattle.answer.specs.Demands.{written, AsClose, Favours, NoWorse, FavouredFinishes}
 use Rattle.answer.proofs.Passes.{Passes, passes}
-use Rattle.answer.proofs.Instance.{legs-small, call-lawful, bound-laws, call-manner, call-solvable, start-known, selection-small}
+use Rattle.answer.proofs.Instance.{call-walk, order-cheap, call-lawful, bound-laws, call-manner, call-solvable, start-known, selection-small}
 use Rattle.answer.proofs.Ending.{Finished, number-0}
 
 -- B over A's own n, table and selection
@@ -59,20 +56,20 @@ module _ (a : Call) (ok : Passes a) (rules bound : ℕ) (first pool : List ℕ) 
       go (inr h) = h .1
 
   one-rank :
-      rankBy (problemOf a) (boundBy bound (a .job .n) (legsOf a)) (a .job .selection)
-      ≡ rankBy (problemOf a) (boundBy (a .job .bound) (a .job .n) (legsOf a)) (a .job .selection)
+      rankBy (problemOf a) (dayOf a .bound bound) (a .job .selection)
+      ≡ rankBy (problemOf a) (dayOf a .bound (a .job .bound)) (a .job .selection)
   one-rank = go (favours .bound)
     where
       go :
           AsClose (a .job) (alongside a rules bound first pool .job)
-          → rankBy (problemOf a) (boundBy bound (a .job .n) (legsOf a)) (a .job .selection)
-          ≡ rankBy (problemOf a) (boundBy (a .job .bound) (a .job .n) (legsOf a)) (a .job .selection)
-      go (inl e) = ap (λ (k : ℕ). rankBy (problemOf a) (boundBy k (a .job .n) (legsOf a)) (a .job .selection)) (sym e)
-      go (inr h) = same-rank (problemOf a) (boundBy bound (a .job .n) (legsOf a)) (boundBy (a .job .bound) (a .job .n) (legsOf a)) (a .job .selection) (h .0)
+          → rankBy (problemOf a) (dayOf a .bound bound) (a .job .selection)
+          ≡ rankBy (problemOf a) (dayOf a .bound (a .job .bound)) (a .job .selection)
+      go (inl e) = ap (λ (k : ℕ). rankBy (problemOf a) (dayOf a .bound k) (a .job .selection)) (sym e)
+      go (inr h) = same-rank (problemOf a) (dayOf a .bound bound) (dayOf a .bound (a .job .bound)) (a .job .selection) (h .0)
 
   -- both runs share the plan: ranks and dominance rules agree
   one-plan : planOf (problemOf a) (choicesOf (alongside a rules bound first pool)) ≡ planOf (problemOf a) (choicesOf a)
-  unfolding choicesOf choices legsOf
+  unfolding choicesOf choices dayOf
   one-plan = λ i. record {
     late = lateBy (a .job .selection);
     rank = one-rank i;
@@ -84,9 +81,9 @@ module _ (a : Call) (ok : Passes a) (rules bound : ℕ) (first pool : List ℕ) 
   }
 
   closer : Closer (cutOf (choicesOf a)) (cutOf (choicesOf (alongside a rules bound first pool)))
-  unfolding choicesOf choices legsOf
+  unfolding choicesOf choices dayOf
   closer = record {
-    closer = bound-closer bound (a .job .bound) bound-below (ok .bound) (a .job .n) (legsOf a);
+    closer = walk-closer (call-walk a) bound (a .job .bound) bound-below (ok .bound);
     stricter = favours .rule-1;
     longer = λ j k h t. tt;
   }
@@ -99,10 +96,10 @@ module _ (a : Call) (ok : Passes a) (rules bound : ℕ) (first pool : List ℕ) 
       below : (x : Node) → (x ≡ []) ⊎ Order (a .job .n) x → upper (problemOf a) (given x) ≤ problemOf a .above
       below [] o = omega arith
       below (s ∷ x) (inl e) = absurd (let z : _≡_ {A = ℕ} 0 1 = cc in omega arith)
-      below (s ∷ x) (inr o) = omega (arith, order-below (a .job .n) (ok .few) (legsOf a) (legs-small a ok) (s ∷ x) o)
+      below (s ∷ x) (inr o) = omega (arith, order-cheap a ok (s ∷ x) o)
 
       go :
-          (x y : Node) → (x ≡ []) ⊎ Order (a .job .n) x → (y ≡ []) ⊎ ((x ≡ [] → ⊥) × (cost (legsOf a) x ≤ cost (legsOf a) y))
+          (x y : Node) → (x ≡ []) ⊎ Order (a .job .n) x → (y ≡ []) ⊎ ((x ≡ [] → ⊥) × (dayOf a .cost x ≤ dayOf a .cost y))
           → upper (problemOf a) (given x) ≤ upper (problemOf a) (given y)
       go x [] o h = below x o
       go x (r ∷ y) o (inl e) = absurd (let z : _≡_ {A = ℕ} 0 1 = cc in omega arith)
@@ -126,7 +123,7 @@ module _ (a : Call) (ok : Passes a) (rules bound : ℕ) (first pool : List ℕ) 
       → search (tree (problemOf a)) (planOf (problemOf a) (choicesOf a)) (cutOf (choicesOf (alongside a rules bound first pool))) (recordsIn pool)
       (suc (nodes (a .job .n))) (start (problemOf a) (given first))
       ≡ done e
-  unfolding outcome problemOf choicesOf choices legsOf
+  unfolding outcome problemOf choicesOf choices dayOf
   other-done e h =
       subst
       (λ (p : Plan Node).

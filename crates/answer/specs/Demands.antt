@@ -8,16 +8,14 @@ use Prim.Native.Nat.{ℕ, _+_, _≤_}
 use lib.Dec.{T}
 use lib.ListN.{length}
 use Rattle.sizes.specs.Sizes.{orderPlaces}
-use Rattle.lists.specs.Lists.{In, Distinct}
+use Rattle.lists.specs.Lists.{In, padded, Distinct}
 use Rattle.search.specs.Step.{on}
 use Rattle.orders.specs.Orders.{Node, Order, orders, factorial}
-use Rattle.stops.specs.Legs.{cost}
-use Rattle.records.specs.Records.{padded}
 use Rattle.answer.specs.Call.{Call, Answer}
 use Rattle.answer.specs.declared.Job.{Job}
 use Rattle.answer.specs.declared.Report.{Report}
 use Rattle.answer.specs.Checks.{cause}
-use Rattle.answer.specs.Answer.{legsOf, answer}
+use Rattle.answer.specs.Answer.{dayOf, answer}
 use Rattle.answer.specs.Ends.{NextDoesNotFit, ComesTo, FullAt, RefusedAt, orderIn, Ended}
 
 -- A planner as its callers see it: which answers it gives to a call. An answer is the report and the words that the pool holds afterwards.
@@ -76,8 +74,8 @@ OneCost P =
 pub record Cheapest (c : Call) (r : Report) : Type 0 where
   pub is-order : Order (c .job .n) (orderIn c r)
   pub zeros-past-n : r .order ≡ padded orderPlaces (orderIn c r)
-  pub cost-is-its : r .cost ≡ cost (legsOf c) (orderIn c r)
-  pub least : (y : Node) → In y (orders (c .job .n)) → r .cost ≤ cost (legsOf c) y
+  pub cost-is-its : r .cost ≡ dayOf c .cost (orderIn c r)
+  pub least : (y : Node) → In y (orders (c .job .n)) → r .cost ≤ dayOf c .cost y
 
 abbrev pub CheapestOfAll : Planner → Type 0
 CheapestOfAll P = (c : Call) (a : Answer) → P c a → a .report .number ≡ 0 → Cheapest c (a .report)
@@ -110,7 +108,7 @@ pub record Favours (a b : Call) : Type 0 where
   -- where B uses the upper-cost rule, A does
   pub rule-1 : T (on 1 (b .job .rules)) → T (on 1 (a .job .rules))
   -- B has no starting order, or A has one that is no dearer
-  pub start : (b .start ≡ []) ⊎ ((a .start ≢ []) × (cost (legsOf a) (a .start) ≤ cost (legsOf a) (b .start)))
+  pub start : (b .start ≡ []) ⊎ ((a .start ≢ []) × (dayOf a .cost (a .start) ≤ dayOf a .cost (b .start)))
   pub bound : AsClose (a .job) (b .job)
   -- a pool that is at least as large
   pub pool : length (b .pool) ≤ length (a .pool)

@@ -1,63 +1,78 @@
 -- The figures of a record: what the checks that a job passes say of its table, and the bound from the set of a node's record.
--- Assumes nothing.
+--
 use mathlib.Core.Path.{_≡_, refl, sym, _∙_}
-use mathlib.Core.Bool.{Bool, true, false}
-use mathlib.Core.List.{List, [], _∷_}
+use mathlib.Core.Bool.{Bool, true, false, not, _||_}
+use mathlib.Core.List.{List, []}
 use mathlib.Core.Logic.{_≢_}
 use Prim.Native.Nat.{ℕ, zero, suc, _+_, _*_, _-_, _^_, _%_, _≤_}
 use native.Mathlib.Nat.{mod-eq-of-lt}
 use native.Mathlib.Omega.{arith}
-use lib.Dec.{T}
+use lib.Dec.{T, ltb, eqb, nltb→le, eqb→eq, T-not, not-T}
 use lib.ListN.{length}
 use lib.Pow.{pow-mono}
-use Rattle.lists.proofs.Tests.{to-true}
-use Rattle.orders.specs.Orders.{setOf, size}
+use Rattle.sizes.specs.Sizes.{mostStops, dearest}
+use Rattle.lists.specs.Lists.{any, from}
+use Rattle.lists.proofs.Tests.{to-true, not-either, twice-not}
+use Rattle.lists.proofs.Members.{in-any}
+use Rattle.orders.specs.Orders.{size}
 use Rattle.orders.proofs.Sets.{size-left}
-use Rattle.stops.specs.Legs.{Legs, rows, legs, path, last}
+use Rattle.stops.specs.Legs.{Legs, entry, rows, legs, path, last}
 use Rattle.stops.specs.Bounds.{boundBy}
 use Rattle.stops.specs.Code.{stopsIn, ahead, Within}
 use Rattle.stops.specs.declared.node_record.Record.{Record}
 use Rattle.stops.proofs.LegTable.{legs-within}
 use Rattle.stops.proofs.Bounds.{bound-ahead}
-use Rattle.records.specs.Records.{recordsIn}
 use Rattle.records.proofs.Mask.{mask-stops, rest-left}
-use Rattle.answer.specs.Call.{callOf}
-use Rattle.answer.specs.Checks.{cause₆, jobCause}
-use Rattle.answer.proofs.Passes.{Passes, passes}
-use Rattle.answer.proofs.JobCause.{job-passes}
+use Rattle.answer.specs.Checks.{cause₁, cause₂, cause₃, cause₄, cause₅, orLater, jobCause}
+use Rattle.answer.specs.declared.Job.{Job}
 use Rattle.inspection.specs.Code.{ofNumbers}
 use Rattle.node_answers.specs.Nodes.{flownStops, isRecordOf, isNode}
 use Rattle.node_answers.specs.Answers.{isInside, recordAt, found, noFigures, figuresBy, figures}
 use Rattle.node_answers.specs.declared.Found.{Found}
 use Rattle.node_answers.proofs.NodeLaws.{NodeRecord, node-record}
 
--- A job that no cause stops, with a pool of one record, is a call that every check lets pass.
-module _ (n : ℕ) (table : List ℕ) (bound : ℕ) (none : jobCause (callOf n table 0 0 bound [] []) 0 ≡ 0) where
-  one : List ℕ
-  one = 0 ∷ 0 ∷ 0 ∷ 0 ∷ 0 ∷ 0 ∷ []
+-- What the checks of a job let pass.
+none-apply :
+    (a b c d : Bool) (later : ℕ) → orLater a 1 (orLater b 2 (orLater c 3 (orLater d 4 later))) ≡ 0
+    → T (not a) × T (not b) × T (not c) × T (not d)
+none-apply true b c d later e = absurd (omega arith)
+none-apply false true c d later e = absurd (omega arith)
+none-apply false false true d later e = absurd (omega arith)
+none-apply false false false true later e = absurd (omega arith)
+none-apply false false false false later e = (tt, tt, tt, tt)
 
-  job : Passes (callOf n table 0 0 bound [] one)
-  unfolding one cause₆ recordsIn callOf
-  job = passes (callOf n table 0 0 bound [] one) (job-passes n table 0 0 bound [] one 0 (sym none) refl)
+module _ (job : Job) (table : List ℕ) (none : jobCause job table [] 0 ≡ 0) where
+  abbrev n : ℕ
+  n = job .n
 
-  pub job-few : n ≤ 16
-  unfolding callOf
-  job-few = job .few
+  passed : T (not (cause₁ n)) × T (not (cause₂ n table)) × T (not (cause₃ n table)) × T (not (cause₄ job))
+  unfolding jobCause
+  passed = none-apply (cause₁ n) (cause₂ n table) (cause₃ n table) (cause₄ job) (orLater (cause₅ n []) 5 0) none
 
-  pub job-square : length table ≡ suc n * suc n
-  unfolding callOf
-  job-square = job .square
+  pub job-few : job .n ≤ mostStops
+  unfolding cause₁
+  job-few = nltb→le mostStops n (not-either (eqb n 0) (ltb mostStops n) (passed .0) .1)
 
-  pub job-bound : bound ≤ 1
-  unfolding callOf
-  job-bound = job .bound
+  pub job-square : length table ≡ suc (job .n) * suc (job .n)
+  unfolding cause₂
+  job-square =
+      let area : ℕ = suc n * suc n in
+      eqb→eq (length table) area (twice-not (eqb (length table) area) (passed .1))
 
-  pub job-within : Within 1000000 (legs (rows n table))
-  unfolding callOf
-  job-within = legs-within n table 1000000 (job .cheap)
+  pub job-within : Within dearest (legs (rows (job .n) table))
+  unfolding cause₃
+  job-within =
+      let cheap : T (not (any (ltb dearest) table)) =
+      not-either (any (ltb dearest) table) (any (λ i. not (eqb (entry n table i i) 0)) (from 0 (suc n))) (passed .2) .0 in
+      legs-within n table dearest
+      (λ w m. nltb→le dearest w (not-T (ltb dearest w) (λ h. T-not (any (ltb dearest) table) cheap (in-any (ltb dearest) table w m h))))
+
+  pub job-bound : job .bound ≤ 1
+  unfolding cause₄
+  job-bound = nltb→le 1 (job .bound) (not-either (ltb 3 (job .selection) || ltb 15 (job .rules)) (ltb 1 (job .bound)) (passed .3) .1)
 
 -- all stops of n, and one more, as a shift gives it
-pub one-shifted : (n : ℕ) → n ≤ 16 → (1 * 2 ^ n) % 4_294_967_296 ≡ 2 ^ n
+pub one-shifted : (n : ℕ) → n ≤ mostStops → (1 * 2 ^ n) % 4_294_967_296 ≡ 2 ^ n
 one-shifted n few =
     let k : 2 ^ n ≤ 2 ^ 16 = pow-mono {i = n} {j = 16} few in
     mod-eq-of-lt {n = 1 * 2 ^ n} (omega arith) ∙ (let e : 1 * 2 ^ n ≡ 2 ^ n = omega arith in e)
@@ -78,59 +93,63 @@ module _ (n : ℕ) (x : Record) (node : T (isNode n x)) where
       → path L (flownStops x) + ahead bound L (last (flownStops x)) (stopsIn (2 ^ n - 1 - x .set)) ≡ boundBy bound n L (flownStops x)
   bound-sum L bound h = rw (rest-left n (q .few) (flownStops x) (x .set) (q .set-is)) (sym (bound-ahead bound h n L (flownStops x)))
 
+-- the figures of a node's record, from a path cost, a last place and what the bound adds to it; and figures that there are none of
+module _ (x : Record) (job : Job) (table : List ℕ) where
   pub figures-node :
-      (table : List ℕ) (bound : ℕ) → jobCause (callOf n table 0 0 bound [] []) 0 ≡ 0
-      → figures true x n table bound ≡ record {
-        inside = true;
-        number = 0;
-        node = true;
-        path = path (legs (rows n table)) (flownStops x);
-        bound = boundBy bound n (legs (rows n table)) (flownStops x);
-      }
+      T (isNode (job .n) x) → jobCause job table [] 0 ≡ 0
+      → (t : List (List ℕ)) (cost place rest more : ℕ) → t ≡ rows (job .n) table
+      → cost ≡ path (legs t) (flownStops x) → place ≡ last (flownStops x)
+      → rest ≡ 2 ^ job .n - 1 - x .set → more ≡ ahead (job .bound) (legs t) place (stopsIn rest)
+      → record { inside = true; number = 0; node = true; path = cost; bound = cost + more } ≡ figures true x job table
   unfolding figures figuresBy
-  figures-node table bound none = rw (to-true (isNode n x) node, none) refl
+  figures-node node none t cost place rest more et ec ep er em =
+      rw (
+        em,
+        ec,
+        ep,
+        er,
+        et,
+        bound-sum (job .n) x node (legs (rows (job .n) table)) (job .bound) (job-bound job table none),
+        to-true (isNode (job .n) x) node,
+        none,
+      ) refl
 
--- figures that there are none of
-pub figures-outside : (x : Record) (n : ℕ) (table : List ℕ) (bound : ℕ) → noFigures false 0 ≡ figures false x n table bound
-unfolding figures
-figures-outside x n table bound = refl
+  pub figures-outside : noFigures false 0 ≡ figures false x job table
+  unfolding figures
+  figures-outside = refl
 
-pub figures-refused :
-    (x : Record) (n : ℕ) (table : List ℕ) (bound number : ℕ) → number ≡ jobCause (callOf n table 0 0 bound [] []) 0 → number ≢ 0
-    → noFigures true number ≡ figures true x n table bound
-unfolding figures figuresBy
-figures-refused x n table bound number e h = rw (← e) (go (isNode n x) number h)
-  where
-    go : (b : Bool) (k : ℕ) → k ≢ 0 → noFigures true k ≡ figuresBy b k x n (legs (rows n table)) bound
-    go true zero h = absurd (h refl)
-    go true (suc k) h = refl
-    go false k h = refl
+  pub figures-refused : (number : ℕ) → number ≡ jobCause job table [] 0 → number ≢ 0 → noFigures true number ≡ figures true x job table
+  unfolding figures figuresBy
+  figures-refused number e h = rw (← e) (go (isNode (job .n) x) number h)
+    where
+      go : (b : Bool) (k : ℕ) → k ≢ 0 → noFigures true k ≡ figuresBy b k x job (legs (rows (job .n) table))
+      go true zero h = absurd (h refl)
+      go true (suc k) h = refl
+      go false k h = refl
 
-pub figures-other :
-    (x : Record) (n : ℕ) (table : List ℕ) (bound : ℕ) → jobCause (callOf n table 0 0 bound [] []) 0 ≡ 0 → isNode n x ≡ false
-    → noFigures true 0 ≡ figures true x n table bound
-unfolding figures figuresBy
-figures-other x n table bound none e = rw (none, e) refl
+  pub figures-other : jobCause job table [] 0 ≡ 0 → isNode (job .n) x ≡ false → noFigures true 0 ≡ figures true x job table
+  unfolding figures figuresBy
+  figures-other none e = rw (none, e) refl
 
 -- figures lie with the size, the set and the order of a record alone
 figures-numbers :
-    (inside : Bool) (x : Record) (n : ℕ) (table : List ℕ) (bound : ℕ)
-    → figures inside (ofNumbers (x .size) (x .set) (x .first) (x .second)) n table bound ≡ figures inside x n table bound
+    (inside : Bool) (x : Record) (job : Job) (table : List ℕ)
+    → figures inside (ofNumbers (x .size) (x .set) (x .first) (x .second)) job table ≡ figures inside x job table
 unfolding figures figuresBy isNode isRecordOf flownStops ofNumbers
-figures-numbers false x n table bound = refl
-figures-numbers true x n table bound = go (isNode n x) (jobCause (callOf n table 0 0 bound [] []) 0)
+figures-numbers false x job table = refl
+figures-numbers true x job table = go (isNode (job .n) x) (jobCause job table [] 0)
   where
     go :
         (b : Bool) (k : ℕ)
-        → figuresBy b k (ofNumbers (x .size) (x .set) (x .first) (x .second)) n (legs (rows n table)) bound ≡ figuresBy b k x n
-        (legs (rows n table)) bound
+        → figuresBy b k (ofNumbers (x .size) (x .set) (x .first) (x .second)) job (legs (rows (job .n) table))
+        ≡ figuresBy b k x job (legs (rows (job .n) table))
     go true zero = refl
     go true (suc k) = refl
     go false k = refl
 
 pub figures-found :
-    (ys : List Record) (i : ℕ) (r : Found) → r ≡ found ys i → (n : ℕ) (table : List ℕ) (bound : ℕ)
-    → figures (r .inside) (ofNumbers (r .node .size) (r .node .set) (r .node .first) (r .node .second)) n table bound
-    ≡ figures (isInside ys i) (recordAt ys i) n table bound
+    (ys : List Record) (i : ℕ) (r : Found) → r ≡ found ys i → (job : Job) (table : List ℕ)
+    → figures (r .inside) (ofNumbers (r .node .size) (r .node .set) (r .node .first) (r .node .second)) job table
+    ≡ figures (isInside ys i) (recordAt ys i) job table
 unfolding found
-figures-found ys i r e n table bound = rw e (figures-numbers (isInside ys i) (recordAt ys i) n table bound)
+figures-found ys i r e job table = rw e (figures-numbers (isInside ys i) (recordAt ys i) job table)

@@ -3,3 +3,4 @@ pub mod SetLaws
 pub mod PathLaws
 pub mod Retrace
 pub mod FigureLaws
+pub mod ExtendLaws

@@ -1,5 +1,5 @@
 -- The stops of a record's order, as its numbers give them: they lie with the size and the two numbers of the order alone (`stop-same`,
--- `stops-same`). Assumes nothing.
+-- `stops-same`).
 use mathlib.Core.Path.{_≡_, refl}
 use Prim.Native.Nat.{ℕ}
 use lib.ListN.{set}

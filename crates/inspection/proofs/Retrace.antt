@@ -1,6 +1,6 @@
 -- A node put together again from its order, stop by stop, as `check::is_record` does. What is built from the first k stops is the record of
 -- the node that they are, but for its path cost and bound: so the numbers of a record are a node's just when every stop can be added
--- and what is built has its set and its order. Assumes nothing.
+-- and what is built has its set and its order.
 use mathlib.Core.Path.{_≡_, refl, ap, sym, _∙_, subst}
 use mathlib.Core.Bool.{Bool, true, false, not}
 use mathlib.Core.List.{List, [], _∷_, _++_, Memᴰ·append-right}
@@ -10,6 +10,7 @@ use native.Mathlib.Omega.{arith}
 use lib.Dec.{T, eqb, eqb→eq, eqb-refl}
 use lib.ListN.{length, take, drop}
 use lib.Seq.{take-all, split-at}
+use Rattle.sizes.specs.Sizes.{mostStops, wordStops}
 use Rattle.lists.specs.Lists.{In, Distinct}
 use Rattle.lists.proofs.Tests.{same-tests}
 use Rattle.lists.proofs.Members.{in-head, keep-in}
@@ -67,13 +68,13 @@ wide-unbounded w = record {
 -- the first k stops are a node, and what is built is its record
 pub record Retraced (n : ℕ) (x w : Record) (k : ℕ) : Type 0 where
   pub some : 1 ≤ n
-  pub few : n ≤ 16
+  pub few : n ≤ mostStops
   pub short : x .size ≤ n
   pub up-to : k ≤ x .size
   pub node : Partial n (take k (flownStops x))
   pub same : w ≡ built n (take k (flownStops x))
 
-pub retraced-starts : {n : ℕ} {x : Record} → 1 ≤ n → n ≤ 16 → x .size ≤ n → Retraced n x emptyRecord 0
+pub retraced-starts : {n : ℕ} {x : Record} → 1 ≤ n → n ≤ mostStops → x .size ≤ n → Retraced n x emptyRecord 0
 retraced-starts {n} {x} some few short =
     record { some = some; few = few; short = short; up-to = omega arith; node = partial-root n; same = built-none n }
 
@@ -156,8 +157,8 @@ module _ {n : ℕ} {x w : Record} {k : ℕ} (r : Retraced n x w k) where
 
     -- what is built has the set and the order of the stops
     numbers :
-        (w .set ≡ mask (setOf n (flownStops x))) × (w .first ≡ orderWord (take 8 (flownStops x)))
-        × (w .second ≡ orderWord (drop 8 (flownStops x)))
+        (w .set ≡ mask (setOf n (flownStops x))) × (w .first ≡ orderWord (take wordStops (flownStops x)))
+        × (w .second ≡ orderWord (drop wordStops (flownStops x)))
     unfolding encode
     numbers = rw (r .same, all-stops) (refl, refl, refl)
 

@@ -1,4 +1,4 @@
--- A stop's bit in the number of a set: document 01, "stop s adds 2 to the power s-1". Assumes nothing.
+-- A stop's bit in the number of a set: document 01, "The pool".
 use mathlib.Core.Path.{_≡_, refl, ap, sym, _∙_}
 use mathlib.Core.Bool.{Bool, true, false}
 use Prim.Native.Nat.{ℕ, zero, suc, _+_, _-_, _^_, _/_, _%_, _≤_, _<_}
@@ -6,6 +6,7 @@ use native.Mathlib.Nat.{pow-succ', div-div-eq-div-mul}
 use native.Mathlib.Omega.{arith}
 use borrow.Author.Tests.{ne-eqb, eq-eqb}
 use lib.Dec.{eqb}
+use Rattle.sizes.specs.Sizes.{mostStops}
 use Rattle.lists.specs.Lists.{put, any}
 use Rattle.orders.specs.Orders.{flown}
 use Rattle.stops.specs.Code.{bits, stopsIn}
@@ -42,8 +43,8 @@ bits-flown (suc k) s m (suc j) h = go (eqb (m % 2) 1) (bits-flown k (suc s) (m /
     further : eqb (m / 2 / 2 ^ j % 2) 1 ≡ eqb (m / 2 ^ suc j % 2) 1
     further = ap (λ (d : ℕ). eqb (d % 2) 1) (div-div-eq-div-mul m 2 (2 ^ j) ∙ ap (λ (d : ℕ). m / d) (sym (pow-succ' 2 j)))
 
-pub set-flown : (m s : ℕ) → 1 ≤ s → s ≤ 16 → eqb (m / 2 ^ (s - 1) % 2) 1 ≡ flown (stopsIn m) s
+pub set-flown : (m s : ℕ) → 1 ≤ s → s ≤ mostStops → eqb (m / 2 ^ (s - 1) % 2) 1 ≡ flown (stopsIn m) s
 unfolding flown stopsIn
 set-flown m s h k =
     let e : 1 + (s - 1) ≡ s = omega arith in
-    sym (bits-flown 16 1 m (s - 1) (omega arith)) ∙ ap (λ (r : ℕ). any (eqb r) (bits 16 1 m)) e
+    sym (bits-flown mostStops 1 m (s - 1) (omega arith)) ∙ ap (λ (r : ℕ). any (eqb r) (bits mostStops 1 m)) e

@@ -1,18 +1,20 @@
 // Whether numbers are those of a node's record.
 ghost use mathlib.Core.Path.{_≡_};
 ghost use Prim.Native.Nat.{_≤_};
+ghost use Rattle.sizes.specs.Sizes.{mostStops};
 ghost use Rattle.orders.specs.Orders.{flown};
 ghost use Rattle.stops.specs.Code.{stopsIn};
+ghost use Rattle.node_answers.specs.Answers.{verdict};
 ghost use Rattle.node_answers.specs.Nodes.{isNode};
 ghost use Rattle.inspection.specs.Code.{ofNumbers};
-ghost use Rattle.node_answers.specs.Answers.{verdict};
 use node_answers::Verdict;
 use records::order::stop_at;
+use sizes::MOST_STOPS;
 use stops::node_record::Record;
 
 // Whether a set holds stop s.
-fn holds(set: u32, s: u32) -> bool
-    requires { ⌜ (1 ≤ s) × (s ≤ 16) ⌝ }
+pub fn holds(set: u32, s: u32) -> bool
+    requires { ⌜ (1 ≤ s) × (s ≤ mostStops) ⌝ }
     ensures { λ r. ⌜ r ≡ flown (stopsIn set) s ⌝ }
 {
     (set >> (s - 1)) % 2 == 1
@@ -25,7 +27,7 @@ pub fn is_record(size: u32, set: u32, first: u32, second: u32, n: u32) -> bool
     if n == 0 {
         return false;
     }
-    if 16 < n {
+    if MOST_STOPS < n {
         return false;
     }
     if n < size {

@@ -4,17 +4,19 @@ ghost use mathlib.Core.Bool.{true};
 ghost use mathlib.Core.List.{[]};
 ghost use Prim.Native.Nat.{_≤_};
 ghost use lib.Dec.{T};
-ghost use Rattle.stops.specs.Legs.{legs, path, last};
+ghost use Rattle.sizes.specs.Sizes.{mostStops, dearest};
+ghost use Rattle.stops.specs.Legs.{legs};
 ghost use Rattle.stops.specs.Code.{Within};
-ghost use Rattle.answer.specs.Call.{callOf};
 ghost use Rattle.answer.specs.Checks.{jobCause};
-ghost use Rattle.node_answers.specs.Nodes.{flownStops, isNode};
-ghost use Rattle.inspection.specs.Code.{ofNumbers};
 ghost use Rattle.node_answers.specs.Answers.{figures, noFigures};
+ghost use Rattle.node_answers.specs.Nodes.{isNode};
+ghost use Rattle.inspection.specs.Code.{ofNumbers, Flew};
 use crate::check::is_record;
+use answer::Job;
 use checks::job_cause;
 use node_answers::Figures;
 use records::order::stop_at;
+use sizes::PLACES;
 use stops::bound::ahead;
 use stops::table::leg;
 use stops::table::rows;
@@ -26,9 +28,9 @@ struct Walked {
 }
 
 // Flies the stops of a record's order.
-fn along(t: &[[u32; 17]; 17], size: u32, first: u32, second: u32) -> Walked
-    requires { ⌜ (size ≤ 16) × Within 1000000 (legs (now t)) ⌝ }
-    ensures { λ r. ⌜ (r .path ≡ path (legs (now (t .entry))) (flownStops (ofNumbers size 0 first second))) × ((r .place ≡ last (flownStops (ofNumbers size 0 first second))) × ((r .path ≤ 16000000) × (r .place ≤ 16))) ⌝ }
+fn along(t: &[[u32; PLACES]; PLACES], size: u32, first: u32, second: u32) -> Walked
+    requires { ⌜ (size ≤ mostStops) × Within dearest (legs (now t)) ⌝ }
+    ensures { λ r. ⌜ Flew (legs (now (t .entry))) (ofNumbers size 0 first second) (r .path) (r .place) ⌝ }
 {
     let mut path = 0;
     let mut place = 0;
@@ -42,7 +44,7 @@ fn along(t: &[[u32; 17]; 17], size: u32, first: u32, second: u32) -> Walked
     Walked { path, place }
 }
 
-// No figures: "number, zeros".
+// No figures: the number of a refusal, or 0, and zeros.
 fn no_figures(inside: bool, number: u32) -> Figures
     ensures { λ r. ⌜ r ≡ noFigures inside number ⌝ }
 {
@@ -56,22 +58,14 @@ fn no_figures(inside: bool, number: u32) -> Figures
 }
 
 // The figures of a node's record, against a table that every check lets pass.
-fn reckoned(
-    size: u32,
-    set: u32,
-    first: u32,
-    second: u32,
-    n: u32,
-    table: &[u32],
-    bound: u32,
-) -> Figures
-    requires { ⌜ T (isNode n (ofNumbers size set first second)) × (jobCause (callOf n (now table) 0 0 bound [] []) 0 ≡ 0) ⌝ }
-    ensures { λ r. ⌜ r ≡ figures true (ofNumbers size set first second) n (now (table .entry)) bound ⌝ }
+fn reckoned(size: u32, set: u32, first: u32, second: u32, job: Job, table: &[u32]) -> Figures
+    requires { ⌜ T (isNode (job .n) (ofNumbers size set first second)) × (jobCause job (now table) [] 0 ≡ 0) ⌝ }
+    ensures { λ r. ⌜ r ≡ figures true (ofNumbers size set first second) job (now (table .entry)) ⌝ }
 {
-    let t = rows(n as usize, table);
+    let t = rows(job.n as usize, table);
     let w = along(&t, size, first, second);
-    let rest = (1u32 << n) - 1 - set;
-    let to_come = ahead(&t, bound, w.place, rest);
+    let rest = (1u32 << job.n) - 1 - set;
+    let to_come = ahead(&t, job.bound, w.place, rest);
     Figures {
         inside: true,
         number: 0,
@@ -81,29 +75,29 @@ fn reckoned(
     }
 }
 
-// The figures of a record; none for one that is not inside, whose job has a cause, or that is no node.
+// The figures of a record; none for one that is not inside, whose job has a cause, or that is no node's.
 pub fn figures_of(
     inside: bool,
     size: u32,
     set: u32,
     first: u32,
     second: u32,
-    n: u32,
+    job: Job,
     table: &[u32],
-    bound: u32,
 ) -> Figures
-    ensures { λ r. ⌜ r ≡ figures inside (ofNumbers size set first second) n (now (table .entry)) bound ⌝ }
+    ensures { λ r. ⌜ r ≡ figures inside (ofNumbers size set first second) job (now (table .entry)) ⌝ }
 {
     if !inside {
         return no_figures(false, 0);
     }
+    // no starting order
     let start = [0u8; 0];
-    let number = job_cause(n, table, 0, 0, bound, &start);
+    let number = job_cause(job, table, &start);
     if number != 0 {
         return no_figures(true, number);
     }
-    if !is_record(size, set, first, second, n) {
+    if !is_record(size, set, first, second, job.n) {
         return no_figures(true, 0);
     }
-    reckoned(size, set, first, second, n, table, bound)
+    reckoned(size, set, first, second, job, table)
 }

@@ -1,21 +1,17 @@
 -- What holds of contents that checks 1 to 5 let pass, and of their bytes.
 --   Passed, passed    each number is within its bounds
 --   length-trailer, length-file, file-short    how long the file is
-use mathlib.Core.Path.{_≡_, refl, ap, sym}
+use mathlib.Core.Path.{_≡_, refl, ap}
 use mathlib.Core.List.{List, [], _++_, List·Memᴰ·not-nil}
 use mathlib.Core.Logic.{_⊎_, inl, inr}
 use Prim.Native.Nat.{ℕ, _*_, _≤_}
 use native.Mathlib.Omega.{arith}
-use lib.ListN.{length, replicate, length-append}
-use Rattle.sizes.specs.Sizes.{mostStops, orderPlaces, dearest, recordWords, longest}
+use lib.ListN.{length, length-append}
+use Rattle.sizes.specs.Sizes.{mostStops, orderPlaces, dearest, longest}
 use Rattle.lists.specs.Lists.{In, each}
 use Rattle.orders.specs.Orders.{Order}
 use Rattle.orders.proofs.Order.{order-length}
-use Rattle.records.specs.Records.{recordsIn}
-use Rattle.answer.specs.Call.{Call, callOf}
-use Rattle.answer.specs.Checks.{cause₆, cause}
-use Rattle.answer.proofs.Passes.{passes}
-use Rattle.answer.proofs.JobCause.{job-passes}
+use Rattle.answer.proofs.Passes.{job-passed}
 use Rattle.job_format.specs.Bytes.{word, AllBytes}
 use Rattle.job_format.specs.Contents.{Contents, Trailer, trailerLength, area, trailerOf, trailerBytes, bytesOf, fileLength}
 use Rattle.job_format.specs.Demands.{Passes}
@@ -38,18 +34,9 @@ order-short : (n : ℕ) (x : List ℕ) → n ≤ mostStops → (x ≡ []) ⊎ Or
 order-short n x h (inl e) = rw e (omega arith, λ b m. absurd (List·Memᴰ·not-nil m))
 order-short n x h (inr o) = (omega (arith, order-length n x o), λ b m. omega (arith, o .only b m))
 
--- the contents with a pool of one record: a call, of which the planner's own theorem speaks
-withPool : Contents → Call
-withPool c = callOf (c .job) (c .table) (c .start) (replicate recordWords 0)
-
-no-cause : (c : Contents) → Passes c → cause (withPool c) ≡ 0
-unfolding withPool cause₆ recordsIn
-no-cause c e = job-passes (c .job) (c .table) (c .start) (replicate recordWords 0) 0 (sym e) refl
-
 pub passed : (c : Contents) → Passes c → Passed c
-unfolding withPool callOf
 passed c e =
-    let p = passes (withPool c) (no-cause c e) in
+    let p = job-passed (c .job) (c .table) (c .start) 0 e .0 in
     let order = order-short (c .job .n) (c .start) (p .few) (p .start) in
     record {
       some = p .some;

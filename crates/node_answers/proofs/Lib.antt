@@ -1,3 +1,4 @@
 pub mod StopLaws
 pub mod NodeLaws
 pub mod NodesRead
+pub mod LongerLaws

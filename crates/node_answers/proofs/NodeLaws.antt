@@ -1,10 +1,11 @@
--- The records that pass `isNode` are just those of nodes. Assumes nothing.
+-- The records that pass `isNode` are just those of nodes.
 use mathlib.Core.Path.{_≡_, sym}
 use mathlib.Core.Bool.{Bool, false, not, _&&_}
 use mathlib.Core.List.{[], _∷_}
 use Prim.Native.Nat.{ℕ, _≤_}
 use lib.Dec.{T, leb, eqb, leb→le, le→leb, eqb→eq, T-not, not-T}
 use lib.ListN.{take, drop}
+use Rattle.sizes.specs.Sizes.{mostStops, wordStops}
 use Rattle.lists.specs.Lists.{all, Distinct, none, more}
 use Rattle.lists.proofs.Tests.{and-left, and-right, and-both, to-false, equal-eqb}
 use Rattle.lists.proofs.Members.{all-in, in-all}
@@ -30,12 +31,12 @@ list-distinct (more {x = s} {xs = x} new d) =
 -- what `isNode` says: the stops y of the order are a node for n stops, and the numbers are those of its record
 pub record NodeRecord (n : ℕ) (x : Record) (y : Node) : Type 0 where
   pub some : 1 ≤ n
-  pub few : n ≤ 16
+  pub few : n ≤ mostStops
   pub node : Partial n y
   pub size-is : x .size ≡ size n y
   pub set-is : x .set ≡ mask (setOf n y)
-  pub first-is : x .first ≡ orderWord (take 8 y)
-  pub second-is : x .second ≡ orderWord (drop 8 y)
+  pub first-is : x .first ≡ orderWord (take wordStops y)
+  pub second-is : x .second ≡ orderWord (drop wordStops y)
 
 module _ (a b c d e f : Bool) where
   six-parts : T (a && b && c && d && e && f) → T a × T b × T c × T d × T e × T f
@@ -59,34 +60,34 @@ module _ (a b c d e f : Bool) where
       (and-both (a && b && c && d) e (and-both (a && b && c) d (and-both (a && b) c (and-both a b ha hb) hc) hd) he) hf
 
 module _ (n : ℕ) (x : Record) (y : Node) where
-  pub tests-record : T (leb 1 n && leb n 16 && isRecordOf n x y) → NodeRecord n x y
+  pub tests-record : T (leb 1 n && leb n mostStops && isRecordOf n x y) → NodeRecord n x y
   unfolding isRecordOf
   tests-record h =
-      let r : T (leb 1 n && leb n 16) = and-left (leb 1 n && leb n 16) (isRecordOf n x y) h in
+      let r : T (leb 1 n && leb n mostStops) = and-left (leb 1 n && leb n mostStops) (isRecordOf n x y) h in
       let (d, o, s, m, e, f) =
       six-parts (distinct y) (all (flown (stops n)) y) (eqb (x .size) (size n y)) (eqb (x .set) (mask (setOf n y)))
-      (eqb (x .first) (orderWord (take 8 y))) (eqb (x .second) (orderWord (drop 8 y)))
-      (and-right (leb 1 n && leb n 16) (isRecordOf n x y) h) in
+      (eqb (x .first) (orderWord (take wordStops y))) (eqb (x .second) (orderWord (drop wordStops y)))
+      (and-right (leb 1 n && leb n mostStops) (isRecordOf n x y) h) in
       record {
-        some = leb→le 1 n (and-left (leb 1 n) (leb n 16) r);
-        few = leb→le n 16 (and-right (leb 1 n) (leb n 16) r);
+        some = leb→le 1 n (and-left (leb 1 n) (leb n mostStops) r);
+        few = leb→le n mostStops (and-right (leb 1 n) (leb n mostStops) r);
         node = record { once = distinct-list y d; only = λ s i. in-stops n s (flown-in (stops n) s (all-in (flown (stops n)) y o s i)) };
         size-is = eqb→eq (x .size) (size n y) s;
         set-is = eqb→eq (x .set) (mask (setOf n y)) m;
-        first-is = eqb→eq (x .first) (orderWord (take 8 y)) e;
-        second-is = eqb→eq (x .second) (orderWord (drop 8 y)) f;
+        first-is = eqb→eq (x .first) (orderWord (take wordStops y)) e;
+        second-is = eqb→eq (x .second) (orderWord (drop wordStops y)) f;
       }
 
-  pub record-tests : NodeRecord n x y → T (leb 1 n && leb n 16 && isRecordOf n x y)
+  pub record-tests : NodeRecord n x y → T (leb 1 n && leb n mostStops && isRecordOf n x y)
   unfolding isRecordOf
   record-tests r =
-      and-both (leb 1 n && leb n 16) (isRecordOf n x y) (and-both (leb 1 n) (leb n 16) (le→leb 1 n (r .some)) (le→leb n 16 (r .few)))
+      and-both (leb 1 n && leb n mostStops) (isRecordOf n x y) (and-both (leb 1 n) (leb n mostStops) (le→leb 1 n (r .some)) (le→leb n mostStops (r .few)))
       (parts-six (distinct y) (all (flown (stops n)) y) (eqb (x .size) (size n y)) (eqb (x .set) (mask (setOf n y)))
-      (eqb (x .first) (orderWord (take 8 y))) (eqb (x .second) (orderWord (drop 8 y)))
+      (eqb (x .first) (orderWord (take wordStops y))) (eqb (x .second) (orderWord (drop wordStops y)))
       (list-distinct (r .node .once))
       (in-all (flown (stops n)) y (λ s i. let h = r .node .only s i in in-flown (stops n) s (stops-in n s (h .0) (h .1))))
       (equal-eqb (x .size) (size n y) (r .size-is)) (equal-eqb (x .set) (mask (setOf n y)) (r .set-is))
-      (equal-eqb (x .first) (orderWord (take 8 y)) (r .first-is)) (equal-eqb (x .second) (orderWord (drop 8 y)) (r .second-is)))
+      (equal-eqb (x .first) (orderWord (take wordStops y)) (r .first-is)) (equal-eqb (x .second) (orderWord (drop wordStops y)) (r .second-is)))
 
 module _ (n : ℕ) (x : Record) where
   pub node-record : T (isNode n x) → NodeRecord n x (flownStops x)

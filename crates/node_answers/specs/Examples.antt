@@ -1,33 +1,39 @@
 -- Worked examples on document 01's table T. They stand beside the definitions, and the laws name this module, so that a wrong
--- definition is met here first. Assumes nothing.
+-- definition is met here first.
 use mathlib.Core.Path.{_≡_, refl}
 use mathlib.Core.Bool.{true, false}
 use mathlib.Core.List.{List, [], _∷_, map}
 use Prim.Native.Nat.{ℕ}
+use lib.ListN.{replicate}
 use Rattle.orders.specs.Orders.{flown, setOf, left, size, complete}
 use Rattle.stops.specs.Legs.{entry, rows, rowLeg, legs, path, last, cost}
 use Rattle.stops.specs.Bounds.{plain, cheapestInto, remainder, close, boundBy}
 use Rattle.stops.specs.Code.{emptyRecord}
 use Rattle.stops.specs.declared.node_record.Record.{Record}
 use Rattle.records.specs.Records.{mask, stopAt, padded}
-use Rattle.answer.specs.Call.{callOf}
 use Rattle.answer.specs.Checks.{cause₁, cause₂, cause₃, cause₄, cause₅, jobCause}
+use Rattle.answer.specs.declared.Job.{Job}
 use Rattle.node_answers.specs.Nodes.{flownStops, isRecordOf, isNode}
-use Rattle.node_answers.specs.Answers.{isInside, recordAt, found, verdict, flownAt, noFigures, figuresBy, figures}
+use Rattle.node_answers.specs.Answers.{isInside, noRecord, recordAt, found, verdict, flownAt, noFigures, figuresBy, figures, fits, longer}
+use Rattle.node_answers.specs.Answers.{extension, extendAt}
 
 -- the record of 21: two stops, bits 0 and 1, path cost 7 + 8; stop 2 stands in the lowest four bits, stop 1 in the next
 twoOne : Record
 unfolding flown setOf left size complete entry rows rowLeg legs path last cost plain cheapestInto remainder close boundBy emptyRecord mask padded
-    callOf cause₁ cause₂ cause₃ cause₄ cause₅ jobCause stopAt flownStops isRecordOf isNode isInside recordAt found verdict flownAt noFigures
-    figuresBy figures
+    cause₁ cause₂ cause₃ cause₄ cause₅ jobCause stopAt flownStops isRecordOf isNode isInside recordAt found verdict flownAt noFigures
+    figuresBy figures fits longer extension extendAt
 twoOne = record { size = 2; set = 3; path = 15; bound = 15; first = 1; second = 0 }
 
 -- ten stops: the ninth and tenth stand in the second word, 8 + 16 · 9
 tenStops : Record
 tenStops = record { size = 10; set = 1023; path = 10; bound = 10; first = 0x7654_3210; second = 152 }
 
+-- document 01's table, and the job with it that goes by a bound
 legsT : List ℕ
 legsT = 0 ∷ 4 ∷ 7 ∷ 9 ∷ 5 ∷ 0 ∷ 2 ∷ 6 ∷ 3 ∷ 8 ∷ 0 ∷ 1 ∷ 6 ∷ 5 ∷ 4 ∷ 0 ∷ []
+
+jobT : ℕ → Job
+jobT bound = record { n = 3; selection = 0; rules = 0; bound = bound }
 
 -- the stops in flown order
 stops-of-21 : flownStops twoOne ≡ 2 ∷ 1 ∷ []
@@ -86,7 +92,7 @@ second-record : found (emptyRecord ∷ twoOne ∷ []) 1 ≡ record { inside = tr
 unfolding twoOne
 second-record = refl
 
-past-the-end : found (emptyRecord ∷ twoOne ∷ []) 2 ≡ record { inside = false; node = emptyRecord }
+past-the-end : found (emptyRecord ∷ twoOne ∷ []) 2 ≡ record { inside = false; node = noRecord }
 unfolding twoOne
 past-the-end = refl
 
@@ -96,32 +102,109 @@ unfolding twoOne
 verdicts = refl
 
 -- 21 in T: path cost 7 + 8; plain adds nothing; close adds the leg 1 to 3, 6, and the leg home from 3, 6
-figures-plain : figures true twoOne 3 legsT 0 ≡ record { inside = true; number = 0; node = true; path = 15; bound = 15 }
-unfolding twoOne legsT
+figures-plain : figures true twoOne (jobT 0) legsT ≡ record { inside = true; number = 0; node = true; path = 15; bound = 15 }
+unfolding twoOne legsT jobT
 figures-plain = refl
 
-figures-close : figures true twoOne 3 legsT 1 ≡ record { inside = true; number = 0; node = true; path = 15; bound = 27 }
-unfolding twoOne legsT
+figures-close : figures true twoOne (jobT 1) legsT ≡ record { inside = true; number = 0; node = true; path = 15; bound = 27 }
+unfolding twoOne legsT jobT
 figures-close = refl
 
--- refused by 1, 2, 3 and 4: "number, zeros"
+-- refused by 1 and 2, by 3, and by 4 for a bound, a selection and rules that there are not
 refusals :
-    figures true twoOne 17 legsT 1 .number ∷ figures true twoOne 2 legsT 1 .number
-    ∷ figures true twoOne 1 (0 ∷ 1_000_001 ∷ 5 ∷ 0 ∷ []) 1 .number ∷ figures true twoOne 3 legsT 2 .number ∷ [] ≡ 1 ∷ 2 ∷ 3 ∷ 4 ∷ []
+    map (λ n. figures true twoOne (record { n = n; selection = 0; rules = 0; bound = 1 }) legsT .number) (0 ∷ 17 ∷ 2 ∷ [])
+    ≡ 1 ∷ 1 ∷ 2 ∷ []
 unfolding twoOne legsT
 refusals = refl
 
-refused-zeros : figures true twoOne 3 legsT 2 ≡ record { inside = true; number = 4; node = false; path = 0; bound = 0 }
-unfolding twoOne legsT
+dear-leg :
+    figures true twoOne (record { n = 1; selection = 0; rules = 0; bound = 1 }) (0 ∷ 1_000_001 ∷ 5 ∷ 0 ∷ []) .number ≡ 3
+unfolding twoOne
+dear-leg = refl
+
+no-choice :
+    figures true twoOne (jobT 2) legsT .number
+    ∷ figures true twoOne (record { n = 3; selection = 4; rules = 0; bound = 1 }) legsT .number
+    ∷ figures true twoOne (record { n = 3; selection = 0; rules = 16; bound = 1 }) legsT .number ∷ [] ≡ 4 ∷ 4 ∷ 4 ∷ []
+unfolding twoOne legsT jobT
+no-choice = refl
+
+refused-zeros : figures true twoOne (jobT 2) legsT ≡ record { inside = true; number = 4; node = false; path = 0; bound = 0 }
+unfolding twoOne legsT jobT
 refused-zeros = refl
 
 -- no figures for a record that is no node, and none past the end
 no-node-zeros :
-    figures true (record { size = 2; set = 5; path = 15; bound = 15; first = 1; second = 0 }) 3 legsT 0
+    figures true (record { size = 2; set = 5; path = 15; bound = 15; first = 1; second = 0 }) (jobT 0) legsT
     ≡ record { inside = true; number = 0; node = false; path = 0; bound = 0 }
-unfolding twoOne legsT
+unfolding twoOne legsT jobT
 no-node-zeros = refl
 
-outside-zeros : figures false emptyRecord 3 legsT 0 ≡ record { inside = false; number = 0; node = false; path = 0; bound = 0 }
-unfolding twoOne legsT
+outside-zeros : figures false emptyRecord (jobT 0) legsT ≡ record { inside = false; number = 0; node = false; path = 0; bound = 0 }
+unfolding twoOne legsT jobT
 outside-zeros = refl
+
+-- 21 extended by 3, whose leg from 1 costs 6: bit 2, path cost 15 + 6, and 2 in the third four bits; the bound is not yet known
+longer-213 : extension true twoOne 3 6 ≡ record {
+  inside = true;
+  fits = true;
+  node = record { size = 3; set = 7; path = 21; bound = 0; first = 513; second = 0 };
+}
+unfolding twoOne
+longer-213 = refl
+
+-- the eleventh stop stands in the second word; the ninth begins it
+longer-second : longer tenStops 12 5 ≡ record { size = 11; set = 3071; path = 15; bound = 0; first = 0x7654_3210; second = 0xb98 }
+unfolding twoOne tenStops
+longer-second = refl
+
+longer-ninth :
+    longer (record { size = 8; set = 255; path = 8; bound = 9; first = 0x7654_3210; second = 0 }) 16 0
+    ≡ record { size = 9; set = 33023; path = 8; bound = 0; first = 0x7654_3210; second = 15 }
+unfolding twoOne
+longer-ninth = refl
+
+-- the stops that 21 leaves fit, whatever n will be; 0, its own and those above 16 do not
+fitting-stops :
+    map (λ s. fits twoOne s 6) (0 ∷ 1 ∷ 2 ∷ 3 ∷ 16 ∷ 17 ∷ []) ≡ false ∷ false ∷ false ∷ true ∷ true ∷ false ∷ []
+unfolding twoOne
+fitting-stops = refl
+
+-- with sixteen stops there is no room; and nothing is added to numbers that are no node's: another size, another set, unused bits not 0
+no-room :
+    map (λ s. fits (record { size = 16; set = 65535; path = 0; bound = 0; first = 0x7654_3210; second = 0xfedc_ba98 }) s 0) (1 ∷ 16 ∷ 17 ∷ [])
+    ≡ false ∷ false ∷ false ∷ []
+unfolding twoOne
+no-room = refl
+
+not-extended :
+    fits (record { size = 3; set = 3; path = 15; bound = 15; first = 1; second = 0 }) 3 6
+    ∷ fits (record { size = 2; set = 65539; path = 15; bound = 15; first = 1; second = 0 }) 3 6
+    ∷ fits (record { size = 2; set = 3; path = 15; bound = 15; first = 257; second = 0 }) 3 6 ∷ [] ≡ false ∷ false ∷ false ∷ []
+unfolding twoOne
+not-extended = refl
+
+-- the path cost may become the largest number of 32 bits
+dearest-path : map (fits twoOne 3) (4_294_967_280 ∷ 4_294_967_281 ∷ []) ≡ true ∷ false ∷ []
+unfolding twoOne
+dearest-path = refl
+
+-- what does not fit is as it was, and past the end there are zeros
+as-it-was : extension true twoOne 2 6 ≡ record { inside = true; fits = false; node = twoOne }
+unfolding twoOne
+as-it-was = refl
+
+none-extended : extension false emptyRecord 2 6 ≡ record { inside = false; fits = false; node = noRecord }
+unfolding twoOne
+none-extended = refl
+
+-- in a run of two records the second is extended; where the stop does not fit, and past the end, nothing is changed
+run-extended :
+    extendAt (twoOne ∷ twoOne ∷ []) 1 3 6
+    ≡ twoOne ∷ record { size = 3; set = 7; path = 21; bound = 0; first = 513; second = 0 } ∷ []
+unfolding twoOne
+run-extended = refl
+
+run-stays : map (λ i. extendAt (twoOne ∷ tenStops ∷ []) i 1 6) (0 ∷ 1 ∷ 2 ∷ []) ≡ replicate 3 (twoOne ∷ tenStops ∷ [])
+unfolding twoOne tenStops
+run-stays = refl

@@ -1,5 +1,7 @@
-// What the functions over node records answer: their structs, and as definitions which records are nodes and what each function answers
-// (specs/); the records that pass are just those of nodes (proofs/). No function.
+// What the functions over node records answer: their structs, and as definitions which records are nodes' and what each function answers
+// (specs/). That the records that pass are just those of nodes, and a record extended that of the node one stop longer, stands in proofs/.
+// No function.
+use sizes::ORDER_PLACES;
 use stops::node_record::Record;
 
 // Record i; zeros where it is not inside.
@@ -9,7 +11,7 @@ pub struct Found {
     pub node: Record,
 }
 
-// Whether record i is a node.
+// Whether record i is a node's.
 #[repr(C)]
 pub struct Verdict {
     pub inside: bool,
@@ -20,10 +22,10 @@ pub struct Verdict {
 #[repr(C)]
 pub struct Flown {
     pub inside: bool,
-    pub stops: [u8; 16],
+    pub stops: [u8; ORDER_PLACES],
 }
 
-// The path cost and the bound of record i; zeros unless the number is 0 and the record a node.
+// The path cost and the bound of record i; zeros unless the number is 0 and the record a node's.
 #[repr(C)]
 pub struct Figures {
     pub inside: bool,
@@ -31,4 +33,13 @@ pub struct Figures {
     pub node: bool,
     pub path: u32,
     pub bound: u32,
+}
+
+// Whether a stop and its leg fit on record i, and the record as it then is: with both added where they fit, its bound 0, not yet known;
+// as it was where they do not; zeros where it is not inside.
+#[repr(C)]
+pub struct Extended {
+    pub inside: bool,
+    pub fits: bool,
+    pub node: Record,
 }

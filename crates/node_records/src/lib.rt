@@ -1,12 +1,17 @@
-// Node records in a run that a host holds: thin functions over `&[Record]` and `&mut [Record]`, open to a host. Their answers are those of crate
-// `node_answers`. Those that inspect a record take it apart and call a covered function of crate `inspection` on its numbers, which carries
-// the meaning. Nothing is asked of the arguments: an index past the end gives an answer that says so, and changes nothing.
+// Node records in a run that a host holds: thin functions over `&[Record]` and `&mut [Record]`, open to a host. Their answers are those of
+// crate `node_answers`. Those that inspect or extend a record take it apart and call a covered function of crate `inspection` on its
+// numbers, which carries the meaning. Nothing is asked of the arguments: an index past the end gives an answer that says so, and changes
+// nothing.
 ghost use mathlib.Core.Path.{_≡_};
 ghost use lib.ListN.{set};
-ghost use Rattle.node_answers.specs.Answers.{isInside, recordAt, found, verdict, flownAt, figures};
+ghost use Rattle.node_answers.specs.Answers.{isInside, recordAt, found, verdict, flownAt, figures, extension, extendAt};
+use answer::Job;
 use inspection::check::verdict_of;
 use inspection::cost::figures_of;
+use inspection::extend::extended_of;
+use inspection::extend::Added;
 use inspection::order::flown_of;
+use node_answers::Extended;
 use node_answers::Figures;
 use node_answers::Flown;
 use node_answers::Found;
@@ -47,7 +52,7 @@ pub fn write(pool: &mut [Record], i: usize, x: Record) -> bool
     false
 }
 
-// Whether record i is a node at all, for n stops.
+// Whether record i is a node's at all, for n stops.
 pub fn is_node(pool: &[Record], i: usize, n: u32) -> Verdict
     ensures { λ r. ⌜ r ≡ verdict (isInside (now (pool .entry)) i) (recordAt (now (pool .entry)) i) n ⌝ }
 {
@@ -70,9 +75,9 @@ pub fn stops(pool: &[Record], i: usize) -> Flown
     flown_of(r.inside, r.node.size, r.node.first, r.node.second)
 }
 
-// The path cost of record i and its bound by a number, against a table of n stops.
-pub fn costs(pool: &[Record], i: usize, n: u32, table: &[u32], bound: u32) -> Figures
-    ensures { λ r. ⌜ r ≡ figures (isInside (now (pool .entry)) i) (recordAt (now (pool .entry)) i) n (now (table .entry)) bound ⌝ }
+// The path cost of record i and its bound, against a job and its table.
+pub fn costs(pool: &[Record], i: usize, job: Job, table: &[u32]) -> Figures
+    ensures { λ r. ⌜ r ≡ figures (isInside (now (pool .entry)) i) (recordAt (now (pool .entry)) i) job (now (table .entry)) ⌝ }
 {
     let r = read(pool, i);
     figures_of(
@@ -81,8 +86,39 @@ pub fn costs(pool: &[Record], i: usize, n: u32, table: &[u32], bound: u32) -> Fi
         r.node.set,
         r.node.first,
         r.node.second,
-        n,
+        job,
         table,
-        bound,
     )
+}
+
+// Extends record i by a stop and its leg, where they fit.
+pub fn extend(pool: &mut [Record], i: usize, stop: u32, leg: u32) -> Extended
+    ensures { λ r. ⌜ (r ≡ extension (isInside (now (pool .entry)) i) (recordAt (now (pool .entry)) i) stop leg) × (now (pool .exit) ≡ extendAt (now (pool .entry)) i stop leg) ⌝ }
+{
+    if i < pool.len() {
+        let x = pool[i];
+        let r = extended_of(
+            x.size,
+            x.set,
+            x.path,
+            x.bound,
+            x.first,
+            x.second,
+            Added { stop, leg },
+        );
+        pool[i] = r.node;
+        return r;
+    }
+    Extended {
+        inside: false,
+        fits: false,
+        node: Record {
+            size: 0,
+            set: 0,
+            path: 0,
+            bound: 0,
+            first: 0,
+            second: 0,
+        },
+    }
 }

@@ -2,10 +2,10 @@
 -- A node is a partial order: the list of its stops as they are flown. The empty one, e, is [].
 use mathlib.Core.Bool.{Bool, not, _&&_}
 use mathlib.Core.List.{List, [], _∷_, _++_, map}
-use Prim.Native.Nat.{ℕ, zero, suc, _+_, _*_, _≤_}
+use Prim.Native.Nat.{ℕ, zero, suc, _+_, _*_, _-_, _^_, _≤_}
 use lib.Dec.{eqb}
 use lib.ListN.{length}
-use Rattle.lists.specs.Lists.{In, keep, any, all, from, each, Distinct}
+use Rattle.lists.specs.Lists.{In, keep, any, all, sum, from, each, Distinct}
 
 abbrev pub Node : Type 0
 Node = List ℕ
@@ -24,6 +24,18 @@ setOf n x = keep (flown x) (stops n)
 
 unfoldable pub left : ℕ → Node → List ℕ
 left n x = keep (λ s. not (flown x s)) (stops n)
+
+-- a set of stops as a number: stop s adds 2 to the power s-1
+unfoldable pub mask : List ℕ → ℕ
+mask stops = sum (λ s. 2 ^ (s - 1)) stops
+
+-- where a node ends: its last stop, and home, place 0, for e
+abbrev pub lastFrom : ℕ → Node → ℕ
+lastFrom place [] = place
+lastFrom place (s ∷ x) = lastFrom s x
+
+unfoldable pub last : Node → ℕ
+last x = lastFrom 0 x
 
 -- how many stops of 1 to n it flies, and whether it flies all
 unfoldable pub size : ℕ → Node → ℕ

@@ -1,6 +1,6 @@
 -- `costs` meets its contract: a walk of its MIR, by hand. `read` is called on the slice and the index (`Reading`), and `figures_of` on the
 -- numbers of what is found and on the table, whose slice is had twice too. All that the proof knows of the two is that each meets its
--- contract. Assumes nothing.
+-- contract.
 use mathlib.Core.Path.{_≡_, refl, _∙_}
 use Prim.Native.Nat.{ℕ, _<_, _^_}
 use mathlib.Core.List.{List, [], _∷_}
@@ -22,12 +22,13 @@ use types.Part.{whole, sub, look-in}
 use sound.WpLaws.{FmC, fmOf, WpFn-mono}
 use denote.Exit.{yes}
 use denote.RattleType.{owns}
+use denote.Laws.{Is}
 use denote.Plain.{uint-vals, uint-tells}
 use denote.Builtin.{u32, usize}
 use denote.Ref.{RefT}
 use denote.Signature.{plain}
 use denote.Slice.{sliceVal, ShrSlice, Room, slice-vals, shr-slice-tells, shr-slice-copy}
-use denote.Steps.{nothing}
+use denote.Steps.{owned, nothing}
 use denote.Struct.Laws as LL
 use denote.Triple.Statement.{Contract, Triple}
 use denote.Triple.Call.{calls-at}
@@ -39,6 +40,9 @@ use denote.Triple.Walked.{says, Stays, stay-none-slice, stay-none, walkOf, AllGo
 use denote.Triple.Walked.{walk-meets}
 use Rattle.stops.specs.declared.node_record.Record.{Record}
 use Rattle.stops.proofs.node_record.Record as T
+use Rattle.answer.specs.declared.Job.{Job}
+use Rattle.answer.proofs.Job as J
+use Rattle.answer.proofs.Job.Laws as J′
 use Rattle.inspection.specs.Code.{ofNumbers}
 use Rattle.node_answers.specs.Answers.{isInside, recordAt, figures}
 use Rattle.node_answers.specs.declared.Found.{Found}
@@ -65,21 +69,19 @@ stayed = (
   stay-none-slice (0 ∷ []) tt (plain (λ _. T.the-row)) yes,
   (
     stay-none (λ _. usize) yes,
-    (
-      stay-none (λ _. u32) yes,
-      (
-        stay-none-slice (1 ∷ []) tt (plain (λ _. u32)) yes,
-        (stay-none (λ _. u32) yes, tt),
-      ),
-    ),
+    (stay-none (λ _. J.the-row) yes, (stay-none-slice (1 ∷ []) tt (plain (λ _. u32)) yes, tt)),
   ),
 )
+
+-- a job's machine values
+abbrev jobs : Job → List Val
+jobs job = LL.vals J.the-type J′.the-laws job
 
 module _ {M : Type 1} (𝓤 : URA M) (H : Heap 𝓤) (A : Atoms 𝓤) (mem : Memory → SProp 𝓤) (run : Routine → Fun 𝓤) where
   abbrev Callee : Contract 𝓤
   Callee = tripleOf 𝓤 H A callee.signature (callee.spec 𝓤 H A mem run)
 
-  module _ (κ : Lft) (q : Share) (r : Found) (n : ℕ) (t : RefT (List ℕ)) (bound : ℕ) where
+  module _ (κ : Lft) (q : Share) (r : Found) (job : Job) (t : RefT (List ℕ)) where
     abbrev table : Val
     table = sliceVal (t .ptr) (length (t .now))
 
@@ -93,14 +95,14 @@ module _ {M : Type 1} (𝓤 : URA M) (H : Heap 𝓤) (A : Atoms 𝓤) (mem : Mem
         (κ, tt),
         (q, tt),
         tt,
-        (r .inside, (r .node .size, (r .node .set, (r .node .first, (r .node .second, (n, (t, (bound, tt)))))))),
+        (r .inside, (r .node .size, (r .node .set, (r .node .first, (r .node .second, (job, (t, tt))))))),
         (
           vbool (r .inside) ∷ [],
           (
             vint w32 (r .node .size) ∷ [],
             (
               vint w32 (r .node .set) ∷ [],
-              (vint w32 (r .node .first) ∷ [], (vint w32 (r .node .second) ∷ [], (vint w32 n ∷ [], (table ∷ [], (vint w32 bound ∷ [], tt))))),
+              (vint w32 (r .node .first) ∷ [], (vint w32 (r .node .second) ∷ [], (jobs job, (table ∷ [], tt)))),
             ),
           ),
         ),
@@ -110,7 +112,7 @@ module _ {M : Type 1} (𝓤 : URA M) (H : Heap 𝓤) (A : Atoms 𝓤) (mem : Mem
 
     -- what it answers, and of what it ensures the clause alone
     abbrev answer : Figures
-    answer = figures (r .inside) (ofNumbers (r .node .size) (r .node .set) (r .node .first) (r .node .second)) n (t .now) bound
+    answer = figures (r .inside) (ofNumbers (r .node .size) (r .node .set) (r .node .first) (r .node .second)) job (t .now)
 
     abbrev Ensured : Figures → SProp 𝓤
     Ensured u = ensured 𝓤 H A callee.ended (callee.clauses 𝓤 H A mem run) (κ, tt) (to .0 .3) tt u
@@ -119,12 +121,12 @@ module _ {M : Type 1} (𝓤 : URA M) (H : Heap 𝓤) (A : Atoms 𝓤) (mem : Mem
     said u = exE 𝓤 _ (λ ws. snd∗ 𝓤 (sem 𝓤 H A (lasts callee.ended (κ, tt) (to .0 .3) ws)) (fact 𝓤 (u ≡ answer)))
 
     asked :
-        (W : Given 𝓤 H A) → n < 2 ^ 32 → bound < 2 ^ 32 → Numbers (r .node)
+        (W : Given 𝓤 H A) → Is J.the-row job (jobs job) → Numbers (r .node)
         → ent 𝓤 (⋆ 𝓤 H A (‵ (flft κ q) ∷ ‵ owned-table ∷ [])) (Callee .pre to)
-    asked W gn gb x =
+    asked W isJ x =
         qed W (‵ (flft κ q) ∷ ‵ owned-table ∷ []) ∵ nothing ! $ move ! (1 ∷ 0 ∷ []) $ join ! $
-        nothing ! $ own-u32 ! bound gb $ fjoin ! $ move ! (2 ∷ 0 ∷ []) $ fjoin ! $
-        own-u32 ! n gn $ fjoin ! $
+        nothing ! $ move ! (2 ∷ 0 ∷ []) $ fjoin ! $
+        owned ! J.the-row (Is J.the-row) (LL.makes J.the-type J′.the-plain 𝓤 H A) job (jobs job) isJ $ fjoin ! $
         own-u32 ! (r .node .second) (x .second) $ fjoin ! $
         own-u32 ! (r .node .first) (x .first) $ fjoin ! $
         own-u32 ! (r .node .set) (x .set) $ fjoin ! $
@@ -133,18 +135,21 @@ module _ {M : Type 1} (𝓤 : URA M) (H : Heap 𝓤) (A : Atoms 𝓤) (mem : Mem
 
 module _
     {M : Type 1} (𝓤 : URA M) (H : Heap 𝓤) (A : Atoms 𝓤) (W : Given 𝓤 H A) (mem : Memory → SProp 𝓤) (run : Routine → Fun 𝓤)
-    (κ κ′ : Lft) (q q′ : Share) (s : RefT (List Record)) (i n : ℕ) (t : RefT (List ℕ)) (bound : ℕ) where
+    (κ κ′ : Lft) (q q′ : Share) (s : RefT (List Record)) (i : ℕ) (job : Job) (t : RefT (List ℕ)) where
   abbrev v : Val
   v = slice 𝓤 H A mem run κ q s i
 
   abbrev v′ : Val
   v′ = sliceVal (t .ptr) (length (t .now))
 
-  abbrev a : RefT (List Record) × (ℕ × (ℕ × (RefT (List ℕ) × (ℕ × Unit {0}))))
-  a = (s, (i, (n, (t, (bound, tt)))))
+  abbrev a : RefT (List Record) × (ℕ × (Job × (RefT (List ℕ) × Unit {0})))
+  a = (s, (i, (job, (t, tt))))
 
-  abbrev at : List Val × (List Val × (List Val × (List Val × (List Val × Unit {0}))))
-  at = (v ∷ [], (vint w64 i ∷ [], (vint w32 n ∷ [], (v′ ∷ [], (vint w32 bound ∷ [], tt)))))
+  abbrev mach : Val
+  mach = LL.val J.the-type J′.the-laws job
+
+  abbrev at : List Val × (List Val × (List Val × (List Val × Unit {0})))
+  at = (v ∷ [], (vint w64 i ∷ [], (mach ∷ [], (v′ ∷ [], tt))))
 
   abbrev bind : walkOf 𝓤 H A costs.ended stayed (costs.clauses 𝓤 H A mem run) .Ghost
   bind = (((κ, (κ′, tt)), (q, (q′, tt)), tt, a, at), tt)
@@ -159,61 +164,61 @@ module _
   Own′ = ShrSlice (named 0) κ′ u32 .own t (v′ ∷ [])
 
   exits :
-      (r : Figures) (u : Val) → i < 2 ^ 64 → n < 2 ^ 32 → bound < 2 ^ 32
-      → r ≡ figures (isInside (s .now) i) (recordAt (s .now) i) n (t .now) bound
+      (r : Figures) (u : Val) → i < 2 ^ 64 → Is J.the-row job (mach ∷ [])
+      → r ≡ figures (isInside (s .now) i) (recordAt (s .now) i) job (t .now)
       → ent 𝓤 (⋆ 𝓤 H A (‵ (R.the-row .own r (u ∷ [])) ∷ (‵ (flft κ′ q′) ⊛ ‵ ftrue) ∷ ‵ Own′ ∷ ‵ (flft κ q) ∷ ‵ Own ∷ [])) (Post u)
-  exits r u gi gn gb e =
+  exits r u gi isJ e =
       qed W (‵ (R.the-row .own r (u ∷ [])) ∷ (‵ (flft κ′ q′) ⊛ ‵ ftrue) ∷ ‵ Own′ ∷ ‵ (flft κ q) ∷ ‵ Own ∷ []) ∵
-      suffices ! _ (ends-at 𝓤 H A costs.ended stayed (costs.clauses 𝓤 H A mem run) W bind u r (tt, (tt, (tt, (tt, (tt, tt)))))
-      (tt, (tt, (tt, (tt, (tt, tt)))))) $ says ! e $
+      suffices ! _ (ends-at 𝓤 H A costs.ended stayed (costs.clauses 𝓤 H A mem run) W bind u r (tt, (tt, (tt, (tt, tt))))
+      (tt, (tt, (tt, (tt, tt))))) $ says ! e $
       move ! (3 ∷ 1 ∷ []) $ join ! $ frame ! $
-      nothing ! $ own-u32 ! bound gb $ fjoin ! $ move ! (2 ∷ 0 ∷ []) $ fjoin ! $
-      own-u32 ! n gn $ fjoin ! $ own-usize ! i gi $ fjoin ! $
+      nothing ! $ move ! (2 ∷ 0 ∷ []) $ fjoin ! $
+      owned ! J.the-row (Is J.the-row) (LL.makes J.the-type J′.the-plain 𝓤 H A) job (mach ∷ []) isJ $ fjoin ! $
+      own-usize ! i gi $ fjoin ! $
       move ! (2 ∷ 0 ∷ []) $ fjoin ! $ frame ! $ done !
 
   module _
       (C : Calls 𝓤 H) (Λ : Loops 𝓤 H) (fm : FmC 𝓤 H (W .laws) C) (known-read : Triple 𝓤 (C #read) (ReadAt 𝓤 H A mem run))
       (known : Triple 𝓤 (C #callee) (Callee 𝓤 H A mem run)) where
     walk :
-        Room T.the-row (length (s .now)) → i < 2 ^ 64 → n < 2 ^ 32 → Room u32 (length (t .now)) → bound < 2 ^ 32
+        Room T.the-row (length (s .now)) → i < 2 ^ 64 → Is J.the-row job (mach ∷ []) → Room u32 (length (t .now))
         → ent 𝓤 (onEntry 𝓤 H A costs.signature (κ, (κ′, tt)) (q, (q′, tt)) a at)
-        (WpFn 𝓤 H C Λ code.function (v ∷ vint w64 i ∷ vint w32 n ∷ v′ ∷ vint w32 bound ∷ []) Post)
-    walk room gi gn room′ gb =
-        qed W ((‵ (flft κ q) ⊛ ‵ (flft κ′ q′) ⊛ ‵ ftrue) ∷ ‵ (owns (ShrSlice (named 0) κ T.the-row ∷ usize ∷ u32 ∷ ShrSlice
-        (named 1) κ′ u32 ∷ u32 ∷ []) a at) ∷ []) ∵
-        enter ! C Λ code.function (v ∷ vint w64 i ∷ vint w32 n ∷ v′ ∷ vint w32 bound ∷ []) _ $
-        alloc1 ! (λ l₀. alloc1 ! (λ l₁. alloc1 ! (λ l₂. alloc1 ! (λ l₃. alloc1 ! (λ l₄. alloc1 ! (λ l₅. alloc1 ! (λ l₆. alloc0 ! $
+        (WpFn 𝓤 H C Λ code.function (v ∷ vint w64 i ∷ mach ∷ v′ ∷ []) Post)
+    walk room gi isJ room′ =
+        qed W ((‵ (flft κ q) ⊛ ‵ (flft κ′ q′) ⊛ ‵ ftrue) ∷ ‵ (owns (ShrSlice (named 0) κ T.the-row ∷ usize ∷ J.the-row ∷ ShrSlice
+        (named 1) κ′ u32 ∷ []) a at) ∷ []) ∵
+        enter ! C Λ code.function (v ∷ vint w64 i ∷ mach ∷ v′ ∷ []) _ $
+        alloc1 ! (λ l₀. alloc1 ! (λ l₁. alloc1 ! (λ l₂. alloc1 ! (λ l₃. alloc1 ! (λ l₄. alloc1 ! (λ l₅. alloc0 ! $
         params1 ! $
-        pass1 ! (init ! 10 refl (tt, (tt, (record { fits = room .0 }, tt)))) $ pass1 ! (init ! 8 refl (tt, record { fits = gi })) $
-        pass1 ! (init ! 6 refl (tt, record { fits = gn })) $
-        pass1 ! (init ! 4 refl (tt, (tt, (record { fits = room′ .0 }, tt)))) $ pass1 ! (init ! 2 refl (tt, record { fits = gb })) $
-        pass0 ! $
-        move ! (15 ∷ []) $ fsplit ! $ move ! (1 ∷ []) $ fsplit ! $ drop ! $ fsplit ! $ drop ! $ fsplit ! $ move ! (1 ∷ []) $ drop ! $
-        move ! (16 ∷ []) $ split ! $ move ! (1 ∷ []) $ split ! $ move ! (2 ∷ 4 ∷ 0 ∷ 3 ∷ []) $
-        -- [the pool's token; what the slice owns; the table's token; what the table owns; true; _6; …; _0; …]
-        reads-record 𝓤 H A mem run κ q s i W ! fm known-read gi (and-then ! (value ! 15 refl) (and-then ! (value ! 13 refl) (no-more !)))
+        pass1 ! (init ! 8 refl (tt, (tt, (record { fits = room .0 }, tt)))) $ pass1 ! (init ! 6 refl (tt, record { fits = gi })) $
+        pass1 ! (init ! 4 refl (LL.lawful J.the-type J′.the-laws 𝓤 H A W .typed job _ isJ .0)) $
+        pass1 ! (init ! 2 refl (tt, (tt, (record { fits = room′ .0 }, tt)))) $ pass0 ! $
+        move ! (13 ∷ []) $ fsplit ! $ move ! (1 ∷ []) $ fsplit ! $ drop ! $ fsplit ! $ drop ! $ fsplit ! $ move ! (1 ∷ []) $ drop ! $
+        move ! (14 ∷ []) $ split ! $ move ! (1 ∷ []) $ split ! $ move ! (2 ∷ 4 ∷ 0 ∷ 3 ∷ []) $
+        -- [the pool's token; what the slice owns; the table's token; what the table owns; true; _5; …; _0; …]
+        reads-record 𝓤 H A mem run κ q s i W ! fm known-read gi (and-then ! (value ! 13 refl) (and-then ! (value ! 11 refl) (no-more !)))
         (λ r e is.
         land ! (from ! (stop !)) (init ! 5 refl (found-typed 𝓤 H A W r is)) $
         move ! (3 ∷ []) $ use1 W (‵ Own′ ⊛ ‵ Own′) (shr-slice-copy 𝓤 H A W (named 0) κ′ u32 .twice t (v′ ∷ [])) $ split ! $
         move ! (4 ∷ 0 ∷ []) $
-        use2 W (raw (Callee 𝓤 H A mem run .pre (to 𝓤 H A mem run κ′ q′ r n t bound)))
-        (asked 𝓤 H A mem run κ′ q′ r n t bound W gn gb (numbers r is)) $
-        -- [what is asked; what the table owns; the pool's token; what the slice owns; true; _6; …; _0; …]
-        calls-at ! fm (Callee 𝓤 H A mem run) known (to 𝓤 H A mem run κ′ q′ r n t bound)
+        use2 W (raw (Callee 𝓤 H A mem run .pre (to 𝓤 H A mem run κ′ q′ r job t)))
+        (asked 𝓤 H A mem run κ′ q′ r job t W isJ (numbers r is)) $
+        -- [what is asked; what the table owns; the pool's token; what the slice owns; true; _5; …; _0; …]
+        calls-at ! fm (Callee 𝓤 H A mem run) known (to 𝓤 H A mem run κ′ q′ r job t)
         (and-then ! (load ! (from ! (fld ! refl (stop !))) (look-in ! 5 (sub ! 0 refl (whole !))))
         (and-then ! (load ! (from ! (fld ! refl (fld ! refl (stop !)))) (look-in ! 5 (sub ! 0 refl (sub ! 1 refl (whole !)))))
         (and-then ! (load ! (from ! (fld ! refl (fld ! refl (stop !)))) (look-in ! 5 (sub ! 1 refl (sub ! 1 refl (whole !)))))
         (and-then ! (load ! (from ! (fld ! refl (fld ! refl (stop !)))) (look-in ! 5 (sub ! 4 refl (sub ! 1 refl (whole !)))))
         (and-then ! (load ! (from ! (fld ! refl (fld ! refl (stop !)))) (look-in ! 5 (sub ! 5 refl (sub ! 1 refl (whole !)))))
-        (and-then ! (value ! 11 refl) (and-then ! (value ! 9 refl) (and-then ! (value ! 7 refl) (no-more !)))))))))
-        (λ u. hears ! tt R.the-row (‵ (flft κ′ q′) ⊛ ‵ ftrue) (Ensured 𝓤 H A mem run κ′ q′ r n t bound)
-        (λ w. w ≡ answer 𝓤 H A mem run κ′ q′ r n t bound) (said 𝓤 H A mem run κ′ q′ r n t bound) u (id⊢ 𝓤 _) (λ w f is′.
-        -- [the answer; the table's token; what the table owns; the pool's token; what the slice owns; true; _6; …; _0; …]
-        land ! (from ! (stop !)) (init ! 18 refl (LL.lawful R.the-type R′.the-laws 𝓤 H A W .typed w _ is′ .0)) $
-        returns ! (look ! 18 refl) $ forget ! 6 refl $ forget ! 8 refl $ forget ! 10 refl $ forget ! 12 refl $ forget ! 14 refl $
-        forget ! 16 refl $ forget ! 18 refl $
-        move ! (18 ∷ 19 ∷ 16 ∷ 17 ∷ 14 ∷ 15 ∷ 12 ∷ 13 ∷ 10 ∷ 11 ∷ 8 ∷ 9 ∷ 6 ∷ 7 ∷ []) $ frees-all ! $
-        keep ! (0 ∷ 1 ∷ 2 ∷ 3 ∷ 4 ∷ []) $ by ! (exits w u gi gn gb (f ∙ figures-found (s .now) i r e n (t .now) bound))))))))))))
+        (and-then ! (value ! 9 refl) (and-then ! (value ! 7 refl) (no-more !))))))))
+        (λ u. hears ! tt R.the-row (‵ (flft κ′ q′) ⊛ ‵ ftrue) (Ensured 𝓤 H A mem run κ′ q′ r job t)
+        (λ w. w ≡ answer 𝓤 H A mem run κ′ q′ r job t) (said 𝓤 H A mem run κ′ q′ r job t) u (id⊢ 𝓤 _) (λ w f is′.
+        -- [the answer; the table's token; what the table owns; the pool's token; what the slice owns; true; _5; …; _0; …]
+        land ! (from ! (stop !)) (init ! 16 refl (LL.lawful R.the-type R′.the-laws 𝓤 H A W .typed w _ is′ .0)) $
+        returns ! (look ! 16 refl) $ forget ! 6 refl $ forget ! 8 refl $ forget ! 10 refl $ forget ! 12 refl $ forget ! 14 refl $
+        forget ! 16 refl $
+        move ! (16 ∷ 17 ∷ 14 ∷ 15 ∷ 12 ∷ 13 ∷ 10 ∷ 11 ∷ 8 ∷ 9 ∷ 6 ∷ 7 ∷ []) $ frees-all ! $
+        keep ! (0 ∷ 1 ∷ 2 ∷ 3 ∷ 4 ∷ []) $ by ! (exits w u gi isJ (f ∙ figures-found (s .now) i r e job (t .now))))))))))))
 
 module _ {M : Type 1} (𝓤 : URA M) (H : Heap 𝓤) (A : Atoms 𝓤) (W : Given 𝓤 H A) (mem : Memory → SProp 𝓤) (run : Routine → Fun 𝓤) where
   costs-walks :
@@ -222,18 +227,14 @@ module _ {M : Type 1} (𝓤 : URA M) (H : Heap 𝓤) (A : Atoms 𝓤) (W : Given
       → Walks 𝓤 H A costs.ended stayed (WpFn 𝓤 H C Λ code.function) (costs.clauses 𝓤 H A mem run)
   costs-walks C Λ fm known-read known =
       walked 𝓤 H A costs.ended stayed (costs.clauses 𝓤 H A mem run) (WpFn 𝓤 H C Λ code.function)
-      (λ κs. (slice-vals, (uint-vals w64, (uint-vals w32, (slice-vals, (uint-vals w32, tt))))))
+      (λ κs. (slice-vals, (uint-vals w64, (jobs, (slice-vals, tt)))))
       (λ κs. (
         shr-slice-tells (named 0) (κs .0) T.the-row,
-        (
-          uint-tells w64,
-          (uint-tells w32, (shr-slice-tells (named 1) (κs .1 .0) u32, (uint-tells w32, tt))),
-        ),
+        (uint-tells w64, (LL.tells J.the-type J′.the-laws, (shr-slice-tells (named 1) (κs .1 .0) u32, tt))),
       ))
       (λ κs qs bounds a g are. via 𝓤 _ (fst∗ 𝓤 _ (emp 𝓤))
       (walk 𝓤 H A W mem run (κs .0) (κs .1 .0) (qs .0) (qs .1 .0) (a .0) (a .1 .0) (a .1 .1 .0) (a .1 .1 .1 .0)
-      (a .1 .1 .1 .1 .0) C Λ fm known-read known
-      (are .0 .0 .1) (are .1 .0 .1) (are .1 .1 .0 .1) (are .1 .1 .1 .0 .0 .1) (are .1 .1 .1 .1 .0 .1)))
+      C Λ fm known-read known (are .0 .0 .1) (are .1 .0 .1) (are .1 .1 .0) (are .1 .1 .1 .0 .0 .1)))
 
   goes : AllGo 𝓤 H A W 2 (costs.signature .params) (costs.ended .kept) stayed
   goes = (
@@ -241,8 +242,8 @@ module _ {M : Type 1} (𝓤 : URA M) (H : Heap 𝓤) (A : Atoms 𝓤) (W : Given
     (
       goes-none 𝓤 H A W 2 (λ _. usize) yes (λ κs x f. refl),
       (
-        goes-none 𝓤 H A W 2 (λ _. u32) yes (λ κs x f. refl),
-        (goes-none-slice 𝓤 H A W 2 (1 ∷ []) tt (plain (λ _. u32)) yes, (goes-none 𝓤 H A W 2 (λ _. u32) yes (λ κs x f. refl), tt)),
+        goes-none 𝓤 H A W 2 (λ _. J.the-row) yes (λ κs x f. refl),
+        (goes-none-slice 𝓤 H A W 2 (1 ∷ []) tt (plain (λ _. u32)) yes, tt),
       ),
     ),
   )

@@ -1,5 +1,5 @@
 -- `is_node` meets its contract: a walk of its MIR, by hand. `read` is called on the slice and the index (`Reading`), and `verdict_of` on the
--- numbers of what is found. All that the proof knows of the two is that each meets its contract. Assumes nothing.
+-- numbers of what is found. All that the proof knows of the two is that each meets its contract.
 use mathlib.Core.Path.{_≡_, refl, _∙_}
 use Prim.Native.Nat.{ℕ, _<_, _^_}
 use mathlib.Core.List.{List, [], _∷_}

@@ -1,6 +1,6 @@
 -- `read` meets its contract: a walk of its MIR, by hand (the logic's `Denote/Examples/Slices/At.antt`, over records and with a branch).
 -- What the slice owns is had twice, and one copy is kept whole for the exit. Inside, the other is looked into, and record i is copied out of
--- the row. Past the end nothing is looked into. Assumes nothing.
+-- the row. Past the end nothing is looked into.
 use mathlib.Core.Path.{_≡_, refl, sym}
 use mathlib.Core.Bool.{Bool, true, false}
 use Prim.Native.Nat.{ℕ, _*_, _<_, _^_}
@@ -41,7 +41,6 @@ use denote.Triple.Spec.{Meets, tripleOf}
 use denote.Triple.Table.{entered}
 use denote.Triple.Walked.{says, Stays, stay-none-slice, stay-none, walkOf, AllGo, goes-none, goes-none-slice, Walks, ends-at, walked}
 use denote.Triple.Walked.{walk-meets}
-use Rattle.stops.specs.Code.{emptyRecord}
 use Rattle.stops.specs.declared.node_record.Record.{Record}
 use Rattle.node_answers.specs.declared.Found.{Found}
 use Rattle.stops.proofs.node_record.Record as T
@@ -50,7 +49,7 @@ use Rattle.node_answers.proofs.Found as F
 use Rattle.node_answers.proofs.Found.Laws as F′
 use Rattle.node_records.proofs.Walk.{value, frees-all, val, vals, typed}
 use Rattle.node_records.proofs.Indices.{offset-fits, found-inside, found-outside}
-use Rattle.node_answers.specs.Answers.{found}
+use Rattle.node_answers.specs.Answers.{noRecord, found}
 use Rattle.node_records.proofs.read.Key.{name as #read}
 use Rattle.node_records.proofs.read as read
 use Rattle.node_records.proofs.read.Statement as stated
@@ -102,7 +101,6 @@ module _
         Room T.the-row (length ys) → i < 2 ^ 64
         → ent 𝓤 (onEntry 𝓤 H A read.signature (κ, tt) (q, tt) a at) (WpFn 𝓤 H C Λ code.function
         (sliceVal (b, o) (length ys) ∷ vint w64 i ∷ []) Post)
-    unfolding emptyRecord
     walk room gi =
         qed W ((‵ (flft κ q) ⊛ ‵ ftrue) ∷ ‵ (owns (ShrSlice (named 0) κ T.the-row ∷ usize ∷ []) a at) ∷ []) ∵
         enter ! C Λ code.function (sliceVal (b, o) (length ys) ∷ vint w64 i ∷ []) _ $
@@ -127,31 +125,31 @@ module _
         fsplit ! $ drop ! $ fsplit ! $ drop ! $ move ! (0 ∷ 2 ∷ []) $
         looks-slice ! tt T.the-row (Is T.the-row) (shows 𝓤 H A T.the-row) vals (LL.tells T.the-type T′.the-laws)
         (LL.copy T.the-type T′.the-copy 𝓤 H A W) ys b o (λ q′.
-        elem-out ! T.the-row (Is T.the-row) (shows 𝓤 H A T.the-row) vals (LL.tells T.the-type T′.the-laws) q′ ys i emptyRecord b o
+        elem-out ! T.the-row (Is T.the-row) (shows 𝓤 H A T.the-row) vals (LL.tells T.the-type T′.the-laws) q′ ys i noRecord b o
         (ltb→lt i (length ys) inside) (λ is.
         -- [record i; what it owns; the others; what shuts; the fractured borrow; what the slice owns; what i owns; true; _8; …; _0; …]
         assigns ! (of-opd ! (load ! (from ! (hop ! (look ! 12 refl) (stop !))) (look-raw ! 0 refl))) (from ! (stop !))
-        (init ! 10 refl (typed 𝓤 H A W (getD ys i emptyRecord) is)) $
+        (init ! 10 refl (typed 𝓤 H A W (getD ys i noRecord) is)) $
         assigns ! (agg ! (and-then ! (true-lit !) (and-then ! (value ! 10 refl) (no-more !)))) (from ! (stop !))
-        (init ! 24 refl (answer-typed true (getD ys i emptyRecord) is)) $
-        elem-back ! T.the-row q′ ys i emptyRecord (vals (getD ys i emptyRecord)) b o (ltb→lt i (length ys) inside) $
+        (init ! 24 refl (answer-typed true (getD ys i noRecord) is)) $
+        elem-back ! T.the-row q′ ys i noRecord (vals (getD ys i noRecord)) b o (ltb→lt i (length ys) inside) $
         shuts-slice ! tt T.the-row q′ ys b o $
         returns-within ! Post refl (look ! 21 refl) $ forget ! 7 refl $ forget ! 9 refl $ forget ! 11 refl $ forget ! 13 refl $
         forget ! 15 refl $ forget ! 17 refl $ forget ! 19 refl $ forget ! 21 refl $
         move ! (21 ∷ 22 ∷ 19 ∷ 20 ∷ 17 ∷ 18 ∷ 15 ∷ 16 ∷ 13 ∷ 14 ∷ 11 ∷ 12 ∷ 9 ∷ 10 ∷ 7 ∷ 8 ∷ 5 ∷ 6 ∷ []) $
         frees-all ! $
-        keep ! (0 ∷ 2 ∷ 3 ∷ []) $ by ! (exits _ (answered true (getD ys i emptyRecord) is) (found-inside ys i inside)))))
+        keep ! (0 ∷ 2 ∷ 3 ∷ []) $ by ! (exits _ (answered true (getD ys i noRecord) is) (found-inside ys i inside)))))
         (λ outside. skips ! $ exec ! C Λ _ none (atRet _ Post) $
         assigns ! (agg ! (and-then ! (lit ! tt) (and-then ! (lit ! tt)
         (and-then ! (lit ! tt) (and-then ! (lit ! tt) (and-then ! (lit ! tt) (and-then ! (lit ! tt) (no-more !)))))))) (from ! (stop !))
-        (init ! 4 refl (typed 𝓤 H A W emptyRecord zeros)) $
+        (init ! 4 refl (typed 𝓤 H A W noRecord zeros)) $
         assigns ! (agg ! (and-then ! (false-lit !) (and-then ! (value ! 4 refl) (no-more !)))) (from ! (stop !))
-        (init ! 20 refl (answer-typed false emptyRecord zeros)) $
+        (init ! 20 refl (answer-typed false noRecord zeros)) $
         returns ! (look ! 20 refl) $ forget ! 4 refl $ forget ! 12 refl $ forget ! 14 refl $ forget ! 16 refl $ forget ! 18 refl $
         forget ! 20 refl $
         move ! (20 ∷ 21 ∷ 18 ∷ 19 ∷ 16 ∷ 17 ∷ 14 ∷ 15 ∷ 12 ∷ 13 ∷ 10 ∷ 11 ∷ 8 ∷ 9 ∷ 6 ∷ 7 ∷ 4 ∷ 5 ∷ []) $
         free1 ! $ free1 ! $ free1 ! $ free1 ! $ free1 ! $ free1 ! $ free1 ! $ free1 ! $ free1 ! $ free0 ! $
-        keep ! (0 ∷ 1 ∷ 2 ∷ []) $ by ! (exits _ (answered false emptyRecord zeros) (found-outside ys i outside))))))))))))
+        keep ! (0 ∷ 1 ∷ 2 ∷ []) $ by ! (exits _ (answered false noRecord zeros) (found-outside ys i outside))))))))))))
       where
         fits : T (ltb i (length ys)) → i * 24 < 2 ^ 64
         fits inside = offset-fits i (length ys) (ltb→lt i (length ys) inside) (room .1)
@@ -161,9 +159,9 @@ module _
             seq (assign (place 8 []) (aggregate (int w32 0 ∷ int w32 0 ∷ int w32 0 ∷ int w32 0 ∷ int w32 0 ∷ int w32 0 ∷ [])))
             (seq (assign (place 0 []) (aggregate (opdFalse ∷ copy (place 8 []) ∷ []))) return)
 
-        zeros : Is T.the-row emptyRecord (vals emptyRecord)
+        zeros : Is T.the-row noRecord (vals noRecord)
         zeros =
-            LL.owes T.the-type T′.the-laws emptyRecord (
+            LL.owes T.the-type T′.the-laws noRecord (
               (refl, lit< tt),
               ((refl, lit< tt), ((refl, lit< tt), ((refl, lit< tt), ((refl, lit< tt), ((refl, lit< tt), tt))))),
             )

@@ -1,6 +1,6 @@
 -- `write` meets its contract: a walk of its MIR, by hand (the logic's `Denote/Examples/Slices/Put.antt`, over records and with a branch).
 -- Inside, the borrow is opened, record i is taken out of the row and overwritten, and the borrow is closed at the list with x at i. Past
--- the end nothing is opened. Assumes nothing.
+-- the end nothing is opened.
 use mathlib.Core.Path.{_≡_, refl, sym, ap, subst}
 use mathlib.Core.Bool.{Bool, true, false}
 use Prim.Native.Nat.{ℕ, _*_, _<_, _^_}

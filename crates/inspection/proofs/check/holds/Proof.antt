@@ -1,4 +1,4 @@
--- `check::holds` meets its contract: the bit is the stop's (`SetLaws`). Assumes nothing.
+-- `check::holds` meets its contract: the bit is the stop's (`SetLaws`).
 use borrow.Author.Needs.{needs}
 use Rattle.inspection.proofs.SetLaws.{set-flown}
 use Rattle.inspection.proofs.check.holds.Statement.{statement}

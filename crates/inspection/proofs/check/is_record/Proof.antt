@@ -1,9 +1,13 @@
 -- `check::is_record` meets its contract. The loop's invariant is `Retraced`: what is built from the first k stops is the record of the node
--- that they are. The measure is what is left of the size. Assumes nothing.
+-- that they are. The measure is what is left of the size.
 use mathlib.Core.Path.{_≡_, sym, _∙_}
+use mathlib.Core.Bool.{false}
 use Prim.Native.Nat.{_-_, _<_}
 use native.Mathlib.Omega.{arith}
+use Rattle.orders.specs.Orders.{flown}
 use Rattle.orders.proofs.Sets.{size-left}
+use Rattle.stops.specs.Code.{stopsIn}
+use Rattle.stops.specs.declared.node_record.Record.{Record}
 use Rattle.records.proofs.OrderWords.{stop-range}
 use Rattle.inspection.specs.Code.{ofNumbers}
 use Rattle.node_answers.specs.Nodes.{flownStops}
@@ -21,6 +25,17 @@ Inv-loop size set first second n x₀ k₀ x k = Retraced n (ofNumbers size set 
 abbrev μ-loop : tie.MeasureT-loop
 μ-loop size set first second n x₀ k₀ x k = size - k
 
+-- from the head of the loop back to the start, and from the test of a stop that is flown to the turn
+abbrev entered : tie.At-loop Inv-loop μ-loop → tie.Start Inv-loop μ-loop
+entered c = c .before .before .before .before .before
+
+abbrev turn : tie.After-holds Inv-loop μ-loop → tie.In-loop Inv-loop μ-loop
+turn c = c .before .before .before
+
+-- the record
+abbrev given : tie.Start Inv-loop μ-loop → Record
+given c = ofNumbers (c .args .size) (c .args .set) (c .args .first) (c .args .second)
+
 returns : tie.Need-returns Inv-loop μ-loop
 returns c = no-node _ _ (λ q. absurd (omega (arith, q .some)))
 
@@ -30,9 +45,8 @@ returns-2 c = no-node _ _ (λ q. absurd (omega (arith, q .few)))
 returns-3 : tie.Need-returns-3 Inv-loop μ-loop
 unfolding ofNumbers
 returns-3 c =
-    let a = c .before .before .before .args in
-    no-node (a .n) (ofNumbers (a .size) (a .set) (a .first) (a .second))
-    (λ q. absurd (omega (arith, q .size-is, size-left (a .n) (flownStops (ofNumbers (a .size) (a .set) (a .first) (a .second))))))
+    let s = c .before .before .before in
+    no-node (s .args .n) (given s) (λ q. absurd (omega (arith, q .size-is, size-left (s .args .n) (flownStops (given s)))))
 
 empty-requires : tie.Need-empty-requires Inv-loop μ-loop
 empty-requires c κs = tt
@@ -42,11 +56,7 @@ unfolding ofNumbers
 loop-holds c = rw (c .empty .ensures) (retraced-starts (omega arith) (omega arith) (omega arith))
 
 -- the loop goes on below the size
-below :
-    (c : tie.In-loop Inv-loop μ-loop)
-    → c .before .loop .k < ofNumbers (c .before .before .before .before .before .before .args .size)
-    (c .before .before .before .before .before .before .args .set) (c .before .before .before .before .before .before .args .first)
-    (c .before .before .before .before .before .before .args .second) .size
+below : (c : tie.In-loop Inv-loop μ-loop) → c .before .loop .k < given (entered (c .before)) .size
 unfolding ofNumbers
 below c = c .loop-test .taken
 
@@ -55,13 +65,11 @@ unfolding ofNumbers
 stop-at-requires c κs = omega (arith, c .before .loop .inv .short, c .before .loop .inv .few)
 
 -- what `stop_at` gives is the record's stop
-stop :
-    (c : tie.After-stop-at Inv-loop μ-loop) →
-    let a = c .before .before .before .before .before .before .before .args in
-    c .stop-at .result ≡ stopOf (ofNumbers (a .size) (a .set) (a .first) (a .second)) (c .before .before .loop .k)
+stop : (c : tie.After-stop-at Inv-loop μ-loop) → c .stop-at .result ≡ stopOf (given (entered (c .before .before))) (c .before .before .loop .k)
 stop c =
-    let a = c .before .before .before .before .before .before .before .args in
-    c .stop-at .ensures .0 ∙ stop-same (a .size) (a .set) (a .first) (a .second) (c .before .before .loop .k)
+    let l = c .before .before in
+    let a = entered l .args in
+    c .stop-at .ensures .0 ∙ stop-same (a .size) (a .set) (a .first) (a .second) (l .loop .k)
 
 returns-4 : tie.Need-returns-4 Inv-loop μ-loop
 returns-4 c = stop-above (c .before .before .before .loop .inv) (below (c .before .before)) (omega (arith, stop (c .before)))
@@ -69,21 +77,27 @@ returns-4 c = stop-above (c .before .before .before .loop .inv) (below (c .befor
 holds-requires : tie.Need-holds-requires Inv-loop μ-loop
 holds-requires c κs =
     let l = c .before .before .before in
-    let a = l .before .before .before .before .before .args in
+    let a = entered l .args in
     omega (arith, stop (c .before), stop-range (a .first) (a .second) (l .loop .k))
 
 returns-5 : tie.Need-returns-5 Inv-loop μ-loop
 returns-5 c =
-    let l = c .before .before .before .before .before in
-    stop-again (l .loop .inv) (below (c .before .before .before .before)) (omega (arith, stop (c .before .before .before)))
-    (rw (← stop (c .before .before .before)) (sym (c .if5 .taken) ∙ c .before .holds .ensures))
+    let h = c .before in
+    let s = stop (h .before .before) in
+    stop-again (turn h .before .loop .inv) (below (turn h)) (omega (arith, s)) (rw (← s) (sym (c .if5 .taken) ∙ h .holds .ensures))
+
+-- the stop is a new one
+new :
+    (c : tie.Else5 Inv-loop μ-loop) →
+    let l = turn (c .before) .before in
+    false ≡ flown (stopsIn (l .loop .x .set)) (stopOf (given (entered l)) (l .loop .k))
+new c = let h = c .before in rw (← stop (h .before .before)) (sym (c .if5 .left) ∙ h .holds .ensures)
 
 extended-requires : tie.Need-extended-requires Inv-loop μ-loop
 extended-requires c κs =
-    let l = c .before .before .before .before .before in
-    rw (stop (c .before .before .before))
-    (stop-fits (l .loop .inv) (below (c .before .before .before .before)) (omega (arith, stop (c .before .before .before)))
-    (rw (← stop (c .before .before .before)) (sym (c .if5 .left) ∙ c .before .holds .ensures)))
+    let h = c .before in
+    let s = stop (h .before .before) in
+    rw s (stop-fits (turn h .before .loop .inv) (below (turn h)) (omega (arith, s)) (new c))
 
 add-k : tie.Need-add-k Inv-loop μ-loop
 add-k c = omega arith
@@ -93,27 +107,28 @@ loop-less c = omega arith
 
 loop-again : tie.Need-loop-again Inv-loop μ-loop
 loop-again c =
-    let l = c .before .before .before .before .before .before in
-    let s = c .before .before .before .before in
-    rw (c .extended .ensures, stop s)
-    (stop-added (l .loop .inv) (below (s .before)) (omega (arith, stop s))
-    (rw (← stop s) (sym (c .before .if5 .left) ∙ c .before .before .holds .ensures)))
+    let h = c .before .before in
+    let s = stop (h .before .before) in
+    rw (c .extended .ensures, s) (stop-added (turn h .before .loop .inv) (below (turn h)) (omega (arith, s)) (new (c .before)))
 
 returns-6 : tie.Need-returns-6 Inv-loop μ-loop
 unfolding ofNumbers
 returns-6 c = other-set (c .before .before .before .loop .inv) (c .before .before .loop-test .left) (c .if6 .taken)
 
+-- from the first number of the order back to what comes behind the loop
+abbrev ended : tie.After-struct-known2 Inv-loop μ-loop → tie.After-loop Inv-loop μ-loop
+ended c = c .before .before .before
+
 returns-7 : tie.Need-returns-7 Inv-loop μ-loop
 unfolding ofNumbers
-returns-7 c =
-    other-first (c .before .before .before .before .before .loop .inv) (c .before .before .before .before .loop-test .left) (c .if7 .taken)
+returns-7 c = let e = ended (c .before) in other-first (e .before .loop .inv) (e .loop-test .left) (c .if7 .taken)
 
 returns-8 : tie.Need-returns-8 Inv-loop μ-loop
 unfolding ofNumbers
 returns-8 c =
-    let l = c .before .before .before .before .before .before in
-    same-record (l .loop .inv) (c .before .before .before .before .before .loop-test .left) (c .before .before .before .if6 .left)
-    (c .before .if7 .left)
+    let f = c .before .before in
+    let e = ended f in
+    same-record (e .before .loop .inv) (e .loop-test .left) (f .before .if6 .left) (c .before .if7 .left)
 
 pub is-record-spec : {M : Type 1} → statement M
 is-record-spec =

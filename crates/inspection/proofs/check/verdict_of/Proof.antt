@@ -1,4 +1,4 @@
--- `check::verdict_of` meets its contract: a record that is not inside is no node, and of one that is `is_record` says it. Assumes nothing.
+-- `check::verdict_of` meets its contract: a record that is not inside is no node, and of one that is `is_record` says it.
 use mathlib.Core.Path.{refl}
 use borrow.Author.Tests.{not-true, not-false}
 use Rattle.node_answers.specs.Answers.{verdict}

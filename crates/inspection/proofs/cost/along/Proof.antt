@@ -1,12 +1,12 @@
 -- `cost::along` meets its contract. The loop's invariant is `Along`: the path cost and the last place are those of the first k stops. The
--- measure is what is left of the size. Assumes nothing.
+-- measure is what is left of the size.
 use Prim.Native.Nat.{_-_}
 use mathlib.Core.Path.{sym, _∙_}
 use native.Mathlib.Omega.{arith}
 use Rattle.stops.specs.Legs.{legs}
 use Rattle.inspection.specs.Code.{ofNumbers}
 use Rattle.inspection.proofs.OrderLaws.{stop-same, size-same}
-use Rattle.inspection.proofs.PathLaws.{Along, along-starts, along-small, along-fits, along-more, along-ends}
+use Rattle.inspection.proofs.PathLaws.{Along, along-starts, along-fits, along-more, along-ends}
 use Rattle.inspection.proofs.cost.along.Statement.{statement}
 use Rattle.inspection.proofs.cost.along.Tie as tie
 
@@ -48,10 +48,7 @@ loop-again c =
     (c .before .stop-at .ensures .0 ∙ stop-same (a .size) 0 (a .first) (a .second) (s .loop .k)))
 
 returns : tie.Need-returns Inv-loop μ-loop
-returns c =
-    let v = c .before .loop .inv in
-    let e = along-ends v (c .loop-test .left) in
-    (e .0, (e .1, (omega (arith, along-small v (c .before .before .pre .1), v .up-to, v .few), v .place-few)))
+returns c = along-ends (c .before .loop .inv) (c .before .before .pre .1) (c .loop-test .left)
 
 pub along-spec : {M : Type 1} → statement M
 along-spec =

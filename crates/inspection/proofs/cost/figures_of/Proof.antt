@@ -1,4 +1,4 @@
--- `cost::figures_of` meets its contract: each `return` is the case of `figures` that its tests name (`FigureLaws`). Assumes nothing.
+-- `cost::figures_of` meets its contract: each `return` is the case of `figures` that its tests name (`FigureLaws`).
 use mathlib.Core.Path.{sym, _∙_}
 use borrow.Author.Needs.{needs}
 use borrow.Author.Tests.{not-true, not-false}
@@ -18,8 +18,8 @@ no-figures-requires c κs = tt
 returns : tie.Need-returns
 returns c =
     let s = c .before .before .before in
-    rw (not-true (s .args .inside) (c .before .if1 .taken)) (c .no-figures .ensures ∙ figures-outside (x s) (s .args .n)
-    (s .args .table .now) (s .args .bound))
+    rw (not-true (s .args .inside) (c .before .if1 .taken)) (c .no-figures .ensures ∙ figures-outside (x s) (s .args .job)
+    (s .args .table .now))
 
 slice-aggregate-job-cause : tie.Need-slice-aggregate-job-cause
 slice-aggregate-job-cause c = search needs
@@ -36,7 +36,7 @@ returns-2 c =
     let s = j .before .before .before .before in
     rw (not-false (s .args .inside) (j .before .before .if1 .left))
     (c .no-figures2 .ensures
-    ∙ figures-refused (x s) (s .args .n) (s .args .table .now) (s .args .bound) (j .job-cause .result) (j .job-cause .ensures)
+    ∙ figures-refused (x s) (s .args .job) (s .args .table .now) (j .job-cause .result) (j .job-cause .ensures)
     (c .before .if2 .taken))
 
 is-record-requires : tie.Need-is-record-requires
@@ -51,7 +51,7 @@ returns-3 c =
     let s = j .before .before .before .before in
     rw (not-false (s .args .inside) (j .before .before .if1 .left))
     (c .no-figures3 .ensures
-    ∙ figures-other (x s) (s .args .n) (s .args .table .now) (s .args .bound)
+    ∙ figures-other (x s) (s .args .job) (s .args .table .now)
     (sym (j .job-cause .ensures) ∙ c .before .before .before .if2 .left)
     (sym (c .before .before .is-record .ensures) ∙ not-true (c .before .before .is-record .result) (c .before .if3 .taken)))
 

@@ -1,4 +1,4 @@
--- `order::flown_of` meets its contract: the stops of at most sixteen places are the record's. Assumes nothing.
+-- `order::flown_of` meets its contract: the stops of at most sixteen places are the record's.
 use mathlib.Core.Path.{refl}
 use native.Mathlib.Omega.{arith}
 use Rattle.inspection.specs.Code.{ofNumbers}

@@ -1,6 +1,5 @@
 -- Laws of parts of lists: `keep` and `any` of a slice that grows by one, `any` where one element decides, slices joined, lists that are
--- the same from a place on, and slices whose elements are all as a test should be (`AllSo`), one or four elements more at a time. Assumes
--- nothing.
+-- the same from a place on, and slices whose elements are all as a test should be (`AllSo`), one or four elements more at a time.
 use mathlib.Core.Path.{_≡_, refl, ap, sym, subst, _∙_}
 use mathlib.Core.Bool.{Bool, true, false, not, cond, _||_, or-true, or-false}
 use mathlib.Core.List.{List, [], _∷_, _++_}
@@ -10,20 +9,10 @@ use native.Mathlib.Omega.{arith}
 use lib.Dec.{T}
 use lib.ListN.{length, getD, take, drop}
 use lib.Seq.{slice, slice-empty, length-take-le, take-suc, take-add, take-nil, drop-at, drop-append-le, drop-drop}
 use Rattle.lists.specs.Lists.{put, keep, any}
-use Rattle.lists.proofs.Keep.{any-append}
+use Rattle.lists.proofs.Keep.{keep-append, any-append}
 
 module _ {A : Type 0} where
-  pub keep-append : (test : A → Bool) (xs ys : List A) → keep test (xs ++ ys) ≡ keep test xs ++ keep test ys
-  keep-append test [] ys = refl
-  keep-append test (x ∷ xs) ys = go (test x) (keep-append test xs ys)
-    where
-      go :
-          (b : Bool) → keep test (xs ++ ys) ≡ keep test xs ++ keep test ys
-          → put b x (keep test (xs ++ ys)) ≡ put b x (keep test xs) ++ keep test ys
-      go true e = ap (λ (l : List A). x ∷ l) e
-      go false e = e
-
   slice-more :
       (d : A) (from to : ℕ) (l : List A) → from ≤ to → to < length l → slice from (to + 1) l ≡ slice from to l ++ (getD l to d ∷ [])
   slice-more d from to l h k =
