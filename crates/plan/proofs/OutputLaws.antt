@@ -10,7 +10,7 @@ use Prim.Native.Nat.{ℕ, zero, suc, _≤_, _<_}
 use native.Mathlib.Omega.{arith}
 use lib.ListN.{length, take, replicate, length-append}
 use borrow.Author.Tests.{lt-ltb, le-ltb}
-use Rattle.records.specs.Records.{padded}
+use Rattle.lists.specs.Lists.{padded}
 use Rattle.sizes.specs.Sizes.{mostStops, tableNumbers, orderPlaces, longest}
 use Rattle.answer.specs.Call.{Answer, callOf}
 use Rattle.answer.specs.declared.Report.{Report}
