@@ -1,12 +1,13 @@
-/* The proved stop-order planner, and the proved reader and writer of job files, for C on x86-64 Linux. Link with libexports.a.
+/* The proved stop-order planner, and the proved reader and writer of job files, for C on x86-64 Linux. Link with
+ * libgondamuy.a. docs/HOSTS.md has the same for people, with examples.
  *
- * Nothing is asked of the numbers and the bytes: whatever they are, each call ends and answers what it is asked for (number 0) or a
- * refusal (number 1 to 10, with zeros; 7 comes with the counts so far). What is asked is what C asks of any pointer:
+ * Nothing is asked of the numbers and the bytes: whatever they are, each call ends and answers what it is asked for
+ * (number 0) or a refusal (number 1 to 10). What is asked is what C asks of any pointer:
  *   - each points to as many elements as its length says, aligned as its type is;
  *   - pool and buffer, which are written to, overlap nothing else that the call is given;
  *   - with a length of 0 any pointer will do, a null one too.
- * A call uses nothing but its arguments and a few kilobytes of stack, keeps nothing between calls, and may run in several threads at
- * once over different pools and buffers. There is no bound on the time of gondamuy_plan.
+ * A call uses nothing but its arguments and a few kilobytes of stack, keeps nothing between calls, and may run in
+ * several threads at once over different pools and buffers. There is no bound on the time of gondamuy_plan.
  */
 #ifndef GONDAMUY_H
 #define GONDAMUY_H
@@ -18,82 +19,204 @@
 extern "C" {
 #endif
 
-/* words in a record of the pool */
-#define GONDAMUY_RECORD_WORDS 6
+/* Raised with every change of a call, of a struct or of what a number means. */
+#define GONDAMUY_VERSION 2
 
-/* A record of the pool: six words in a row. */
-struct gondamuy_node {
-    uint32_t size;
-    uint32_t set;        /* stop s adds 2 to the power s-1 */
-    uint32_t path;
-    uint32_t bound;
-    uint32_t first;      /* s-1 in four bits each, the first eight stops, first stop lowest */
-    uint32_t second;     /* the others */
+/* Sizes. */
+#define GONDAMUY_MOST_STOPS 16                                         /* stops of a day at most */
+#define GONDAMUY_PLACES (GONDAMUY_MOST_STOPS + 1)                      /* 17: home and the stops */
+#define GONDAMUY_TABLE_NUMBERS (GONDAMUY_PLACES * GONDAMUY_PLACES)     /* 289: legs of the largest table */
+#define GONDAMUY_ORDER_PLACES GONDAMUY_MOST_STOPS                      /* 16: stops of the longest order */
+#define GONDAMUY_DEAREST_LEG 1000000                                   /* what a leg may cost at most */
+#define GONDAMUY_RECORD_WORDS 6                                        /* words in a record of the pool */
+#define GONDAMUY_LONGEST_FILE \
+    (4 * GONDAMUY_TABLE_NUMBERS + GONDAMUY_ORDER_PLACES + 13)          /* 1,185: a buffer that every job's file fits */
+
+/* Which waiting (active) node is branched next. */
+enum gondamuy_selection {
+    GONDAMUY_SELECTION_LEAST_BOUND_EARLIEST = 0, /* the least bound, the earliest generated on ties (LLB) */
+    GONDAMUY_SELECTION_LEAST_BOUND_LATEST = 1,   /* the least bound, the latest generated on ties (LLB) */
+    GONDAMUY_SELECTION_FIFO = 2,                 /* the earliest generated */
+    GONDAMUY_SELECTION_LIFO = 3                  /* the latest generated that is not complete: depth first */
 };
 
-/* refused by a compiler that puts anything between or behind the six words */
-typedef char gondamuy_node_is_six_words[sizeof(struct gondamuy_node) == GONDAMUY_RECORD_WORDS * sizeof(uint32_t) ? 1 : -1];
+/* Which nodes are eliminated: the sum of the rules that are on. */
+enum gondamuy_rules {
+    GONDAMUY_RULES_NONE = 0,
+    GONDAMUY_RULE_UPPER_COST = 1,  /* nodes whose bound is above the cost of the cheapest order known (U/DBAS) */
+    GONDAMUY_RULE_BY_ACTIVE = 2,   /* children that an active node dominates (AS/DB) */
+    GONDAMUY_RULE_BY_BRANCHED = 4, /* children that a branched node dominates (BFS/DB); the pool then keeps these too */
+    GONDAMUY_RULE_BY_CHILD = 8,    /* active nodes that a child dominates (DB/AS) */
+    GONDAMUY_RULES_ALL = 15
+};
 
-/* bytes of the longest job file: a buffer that every job's file fits */
-#define GONDAMUY_LONGEST_FILE 1185
+/* What a node's whole orders cost at least. */
+enum gondamuy_bound {
+    GONDAMUY_BOUND_PLAIN = 0, /* the legs flown */
+    GONDAMUY_BOUND_CLOSE = 1  /* the legs flown and the cheapest legs to come */
+};
+
+/* Why a call gave nothing, and what to do about it. */
+enum gondamuy_refusal {
+    GONDAMUY_NOT_REFUSED = 0,
+    /* the number of stops is 0 or above 16. */
+    GONDAMUY_REFUSED_STOPS = 1,
+    /* the table's length is not (n+1) squared. */
+    GONDAMUY_REFUSED_TABLE_LENGTH = 2,
+    /* a leg is above 1,000,000 or a diagonal entry is not 0. */
+    GONDAMUY_REFUSED_LEG = 3,
+    /* selection is above 3, rules above 15 or bound above 1. */
+    GONDAMUY_REFUSED_CHOICE = 4,
+    /* the starting order is neither empty nor a permutation of 1 to n. Name each stop once, or hand in none. */
+    GONDAMUY_REFUSED_START = 5,
+    /* the pool has no whole record, or a part record. Lend a multiple of six words, six at least. */
+    GONDAMUY_REFUSED_POOL = 6,
+    /* the pool is full. Lend more records, or search in fewer, if longer: LIFO, rule 1, close, a starting order. */
+    GONDAMUY_REFUSED_FULL = 7,
+    /* the file is shorter than 13 bytes. It is no job file, or was cut. */
+    GONDAMUY_REFUSED_SHORT_FILE = 8,
+    /* the file's length or its places are not those of a job file. It is none, or is damaged or too long. */
+    GONDAMUY_REFUSED_LAYOUT = 9,
+    /* the write buffer is shorter than the file. GONDAMUY_LONGEST_FILE bytes are always enough. */
+    GONDAMUY_REFUSED_SHORT_BUFFER = 10
+};
+
+/* What a caller chooses. The fields are plain numbers, so that any may be handed in: what does not fit is refused. */
+struct gondamuy_job {
+    uint32_t n;         /* how many stops: 1 to GONDAMUY_MOST_STOPS */
+    uint32_t selection; /* of enum gondamuy_selection */
+    uint32_t rules;     /* a sum of enum gondamuy_rules */
+    uint32_t bound;     /* of enum gondamuy_bound */
+};
 
 struct gondamuy_report {
-    uint32_t number;     /* 0, or the number of the refusal: 1 to 7 */
+    uint32_t number;    /* 0, or the number of the refusal: 1 to 7 */
     uint32_t cost;
-    uint8_t order[16];   /* zeros past n */
-    uint64_t branched;
-    uint64_t generated;
+    uint8_t order[GONDAMUY_ORDER_PLACES]; /* the stops as they are flown, zeros past n */
+    uint64_t branched;  /* nodes branched */
+    uint64_t generated; /* the empty node and every child: branched + eliminated + active */
     uint64_t eliminated;
-    uint64_t active;
-    uint64_t most;
+    uint64_t active;    /* nodes still active at the end */
+    uint64_t most;      /* the most that were active at once */
 };
 
 struct gondamuy_reading {
-    uint32_t number;     /* 0, or the number of the refusal: 8, 1, 9, 3, 4 or 5 */
-    uint32_t n;
-    uint32_t table[289]; /* (n+1)*(n+1) legs, row by row, zeros behind */
-    uint32_t selection;
-    uint32_t rules;
-    uint32_t bound;
-    uint8_t start[16];   /* the starting order, zeros behind */
-    uint32_t stops;      /* how many stops the starting order has: 0 or n */
+    uint32_t number;    /* 0, or the number of the refusal: 8, 1, 9, 3, 4 or 5 */
+    struct gondamuy_job job;
+    uint32_t table[GONDAMUY_TABLE_NUMBERS]; /* (n+1)*(n+1) legs, row by row, zeros behind */
+    uint8_t start[GONDAMUY_ORDER_PLACES];   /* the starting order, zeros behind */
+    uint32_t stops;     /* how many stops the starting order has: 0 or n */
 };
 
 struct gondamuy_written {
-    uint32_t number;     /* 0, or the number of the refusal: 1 to 5 or 10 */
-    size_t length;       /* of the file; 0 beside a refusal */
+    uint32_t number;    /* 0, or the number of the refusal: 1 to 5 or 10 */
+    size_t length;      /* of the file; 0 beside a refusal */
 };
 
-/* Puts the stops 1 to n into the cheapest order.
- * n: 1 to 16. table: (n+1)*(n+1) legs, row by row. selection: 0 to 3. rules: the sum of 1, 2, 4, 8. bound: 0 plain, 1 close.
- * start: a starting order of n stops, or nothing. pool: whole records of six words. */
-struct gondamuy_report gondamuy_plan(uint32_t n,
+/* A record of the pool, six words in a row: a node, the stops that are flown first. */
+struct gondamuy_record {
+    uint32_t size;      /* how many stops */
+    uint32_t set;       /* stop s adds 2 to the power s-1 */
+    uint32_t path;      /* the cost of the legs flown */
+    uint32_t bound;
+    uint32_t first;     /* s-1 in four bits each, the first eight stops, first stop lowest */
+    uint32_t second;    /* the others */
+};
+
+/* Puts the stops 1 to job.n into the cheapest order.
+ *
+ * table: (n+1)*(n+1) legs, row by row. Row i has what flying from place i to each place costs, at most
+ * GONDAMUY_DEAREST_LEG, and 0 on the diagonal; home is place 0. start: an order of the n stops that is known
+ * beforehand, or nothing. pool: words, six to a record; what they hold beforehand plays no part.
+ *
+ * What comes back and what the pool then holds, by number; the lowest that applies is returned:
+ *   0       A cheapest order, its cost, and the counts of the search. The pool holds the nodes that were left: the
+ *           active ones, report.active records, earliest generated first; with rule 4 behind them the branched ones,
+ *           report.branched records, earliest branched first; zeros behind.
+ *   1 to 6  The number, and zeros in every other field. The pool is as it was.
+ *   7       The number and the counts up to there; cost and order are zeros, since the search ran short. The pool
+ *           holds, in the same layout, the nodes before the branching whose nodes it could not hold.
+ */
+struct gondamuy_report gondamuy_plan(struct gondamuy_job job,
                                      const uint32_t *table, size_t table_len,
-                                     uint32_t selection, uint32_t rules, uint32_t bound,
                                      const uint8_t *start, size_t start_len,
                                      uint32_t *pool, size_t pool_len);
 
-/* The same with a pool of node records: the same call over the same memory. pool_len counts records. */
-static inline struct gondamuy_report gondamuy_plan_nodes(uint32_t n,
-                                                         const uint32_t *table, size_t table_len,
-                                                         uint32_t selection, uint32_t rules, uint32_t bound,
-                                                         const uint8_t *start, size_t start_len,
-                                                         struct gondamuy_node *pool, size_t pool_len)
-{
-    return gondamuy_plan(n, table, table_len, selection, rules, bound, start, start_len,
-                         (uint32_t *)pool, pool_len * GONDAMUY_RECORD_WORDS);
-}
-
-/* Reads a job file: the job comes back by value, so that no buffer can be too short. */
+/* Reads a job file. The job comes back by value, so that no buffer can be too short.
+ *
+ * What comes back, by number:
+ *   0                 The job, its table and its starting order; zeros in the places that they do not take.
+ *   8, 1, 9, 3, 4, 5  The number, and zeros in every other field. Of several, the first in this row is returned. 2
+ *                     never comes from a file.
+ * The file is not written to. To plan what was read, hand in reading.job, the first (n+1)*(n+1) numbers of
+ * reading.table and the first reading.stops of reading.start.
+ */
 struct gondamuy_reading gondamuy_read(const uint8_t *file, size_t file_len);
 
-/* Writes the file of a job, given as for gondamuy_plan, at the front of the buffer. The bytes behind it stay as they were; beside a
- * refusal all of them do. */
-struct gondamuy_written gondamuy_write(uint32_t n,
+/* Writes the file of a job, given as for gondamuy_plan, at the front of the buffer.
+ *
+ * What comes back and what the buffer then holds, by number; the lowest that applies is returned:
+ *   0           The file's length. The file stands at the buffer's front; the bytes behind it are as they were.
+ *   1 to 5, 10  The number, and length 0. The buffer is as it was.
+ */
+struct gondamuy_written gondamuy_write(struct gondamuy_job job,
                                        const uint32_t *table, size_t table_len,
-                                       uint32_t selection, uint32_t rules, uint32_t bound,
                                        const uint8_t *start, size_t start_len,
                                        uint8_t *buffer, size_t buffer_len);
+
+/* gondamuy_plan with a pool of records: the same call over the same memory, and nothing is copied. pool_len counts
+ * records. No record is a part record, so 6 comes from an empty pool alone. */
+static inline struct gondamuy_report gondamuy_plan_records(struct gondamuy_job job,
+                                                           const uint32_t *table, size_t table_len,
+                                                           const uint8_t *start, size_t start_len,
+                                                           struct gondamuy_record *pool, size_t pool_len)
+{
+    return gondamuy_plan(job, table, table_len, start, start_len, (uint32_t *)pool, pool_len * GONDAMUY_RECORD_WORDS);
+}
+
+/* The layout that the library was built with: a compiler that lays out a struct in another way refuses these. */
+#define GONDAMUY_SIZE(type, size) \
+    typedef char gondamuy_size_of_##type[sizeof(struct gondamuy_##type) == (size) ? 1 : -1]
+#define GONDAMUY_FIELD(type, field, offset) \
+    typedef char gondamuy_place_of_##type##_##field[offsetof(struct gondamuy_##type, field) == (offset) ? 1 : -1]
+
+GONDAMUY_SIZE(job, 16);
+GONDAMUY_FIELD(job, n, 0);
+GONDAMUY_FIELD(job, selection, 4);
+GONDAMUY_FIELD(job, rules, 8);
+GONDAMUY_FIELD(job, bound, 12);
+
+GONDAMUY_SIZE(report, 64);
+GONDAMUY_FIELD(report, number, 0);
+GONDAMUY_FIELD(report, cost, 4);
+GONDAMUY_FIELD(report, order, 8);
+GONDAMUY_FIELD(report, branched, 24);
+GONDAMUY_FIELD(report, generated, 32);
+GONDAMUY_FIELD(report, eliminated, 40);
+GONDAMUY_FIELD(report, active, 48);
+GONDAMUY_FIELD(report, most, 56);
+
+GONDAMUY_SIZE(reading, 1196);
+GONDAMUY_FIELD(reading, number, 0);
+GONDAMUY_FIELD(reading, job, 4);
+GONDAMUY_FIELD(reading, table, 20);
+GONDAMUY_FIELD(reading, start, 1176);
+GONDAMUY_FIELD(reading, stops, 1192);
+
+GONDAMUY_SIZE(written, 16);
+GONDAMUY_FIELD(written, number, 0);
+GONDAMUY_FIELD(written, length, 8);
+
+GONDAMUY_SIZE(record, 24);
+GONDAMUY_FIELD(record, size, 0);
+GONDAMUY_FIELD(record, set, 4);
+GONDAMUY_FIELD(record, path, 8);
+GONDAMUY_FIELD(record, bound, 12);
+GONDAMUY_FIELD(record, first, 16);
+GONDAMUY_FIELD(record, second, 20);
+
+#undef GONDAMUY_SIZE
+#undef GONDAMUY_FIELD
 
 #ifdef __cplusplus
 }

@@ -1,8 +1,5 @@
--- Demand 3, second half, of the reports: "let A and B be jobs over one table that share selection and dominance rules; A uses the
--- upper-cost rule if B does, starts from an order no dearer than B's (or B has none), and uses B's bound or, under FIFO and LIFO only,
--- one at least as close. Whichever pool B finishes in, A finishes in every pool of whole records at least as large, and none of
--- branched, generated and most in A's report exceeds the same count in B's."
--- A is any call that every check lets pass; B is any call that finishes. Assumes nothing.
+-- Demand 3 of the written run, the second half: a job A that the letter favours over B finishes where B does, with no higher counts. A is any
+-- call that every check lets pass, B any call that finishes.
 use mathlib.Core.Path.{_≡_, refl, sym, _∙_, ap, subst}
 use mathlib.Core.Bool.{true, _||_}
 use mathlib.Core.List.{List, [], _∷_}
@@ -21,38 +18,16 @@ use Rattle.search.proofs.Plain.{tree, planOf, cutOf, adds, finished-iff-done}
 use Rattle.search.proofs.Below.{Closer}
 use Rattle.search.proofs.Compare.{compare-runs}
 use Rattle.orders.specs.Orders.{Node, size, Order, nodes}
-use Rattle.stops.specs.Legs.{cost}
-use Rattle.stops.specs.Bounds.{boundBy}
-use Rattle.stops.specs.Stops.{problem, choices}
-use Rattle.stops.proofs.Bounds.{bound-closer}
-use Rattle.stops.proofs.Instance.{order-below}
+use Rattle.days.specs.Days.{problem, choices}
+use Rattle.days.proofs.Walk.{walk-closer}
 use Rattle.records.specs.Records.{recordsIn}
 use Rattle.answer.specs.Call.{Call, Answer}
-use Rattle.answer.specs.declared.Report.{Report}
 use Rattle.answer.specs.Checks.{cause}
-use Rattle.answer.specs.Answer.{legsOf, problemOf, choicesOf, given, outcome, reportWith, ending, respond, answer}
+use Rattle.answer.specs.Answer.{dayOf, problemOf, choicesOf, given, outcome, reportWith, ending, respond, answer}
+use Rattle.answer.specs.Demands.{written, AsClose, Favours, NoWorse, FavouredFinishes}
 use Rattle.answer.proofs.Passes.{Passes, passes}
-use Rattle.answer.proofs.Instance.{legs-small, call-lawful, bound-laws, call-manner, call-solvable, start-known, selection-small}
+use Rattle.answer.proofs.Instance.{call-walk, order-cheap, call-lawful, bound-laws, call-manner, call-solvable, start-known, selection-small}
 use Rattle.answer.proofs.Ending.{Finished, number-0}
-
--- A stands to B as the letter asks.
-pub record Favours (a b : Call) : Type 0 where
-  -- over one table
-  pub n : a .job .n ≡ b .job .n
-  pub table : a .table ≡ b .table
-  -- share selection and dominance rules
-  pub selection : a .job .selection ≡ b .job .selection
-  pub rule-2 : on 2 (a .job .rules) ≡ on 2 (b .job .rules)
-  pub rule-4 : on 4 (a .job .rules) ≡ on 4 (b .job .rules)
-  pub rule-8 : on 8 (a .job .rules) ≡ on 8 (b .job .rules)
-  -- A uses the upper-cost rule if B does
-  pub rule-1 : T (on 1 (b .job .rules)) → T (on 1 (a .job .rules))
-  -- A starts from an order no dearer than B's, or B has none
-  pub start : (b .start ≡ []) ⊎ ((a .start ≡ [] → ⊥) × (cost (legsOf a) (a .start) ≤ cost (legsOf a) (b .start)))
-  -- A uses B's bound or, under FIFO and LIFO only, one at least as close: close (1) is at least as close as plain (0)
-  pub bound : (a .job .bound ≡ b .job .bound) ⊎ ((2 ≤ a .job .selection) × (b .job .bound ≤ a .job .bound))
-  -- A's pool is at least as large
-  pub pool : length (b .pool) ≤ length (a .pool)
 
 -- B over A's own n, table and selection
 abbrev alongside : Call → ℕ → ℕ → List ℕ → List ℕ → Call
@@ -76,25 +51,25 @@ module _ (a : Call) (ok : Passes a) (rules bound : ℕ) (first pool : List ℕ) 
   bound-below : bound ≤ a .job .bound
   bound-below = go (favours .bound)
     where
-      go : (a .job .bound ≡ bound) ⊎ ((2 ≤ a .job .selection) × (bound ≤ a .job .bound)) → bound ≤ a .job .bound
+      go : AsClose (a .job) (alongside a rules bound first pool .job) → bound ≤ a .job .bound
       go (inl e) = omega arith
       go (inr h) = h .1
 
   one-rank :
-      rankBy (problemOf a) (boundBy bound (a .job .n) (legsOf a)) (a .job .selection)
-      ≡ rankBy (problemOf a) (boundBy (a .job .bound) (a .job .n) (legsOf a)) (a .job .selection)
+      rankBy (problemOf a) (dayOf a .bound bound) (a .job .selection)
+      ≡ rankBy (problemOf a) (dayOf a .bound (a .job .bound)) (a .job .selection)
   one-rank = go (favours .bound)
     where
       go :
-          (a .job .bound ≡ bound) ⊎ ((2 ≤ a .job .selection) × (bound ≤ a .job .bound))
-          → rankBy (problemOf a) (boundBy bound (a .job .n) (legsOf a)) (a .job .selection)
-          ≡ rankBy (problemOf a) (boundBy (a .job .bound) (a .job .n) (legsOf a)) (a .job .selection)
-      go (inl e) = ap (λ (k : ℕ). rankBy (problemOf a) (boundBy k (a .job .n) (legsOf a)) (a .job .selection)) (sym e)
-      go (inr h) = same-rank (problemOf a) (boundBy bound (a .job .n) (legsOf a)) (boundBy (a .job .bound) (a .job .n) (legsOf a)) (a .job .selection) (h .0)
+          AsClose (a .job) (alongside a rules bound first pool .job)
+          → rankBy (problemOf a) (dayOf a .bound bound) (a .job .selection)
+          ≡ rankBy (problemOf a) (dayOf a .bound (a .job .bound)) (a .job .selection)
+      go (inl e) = ap (λ (k : ℕ). rankBy (problemOf a) (dayOf a .bound k) (a .job .selection)) (sym e)
+      go (inr h) = same-rank (problemOf a) (dayOf a .bound bound) (dayOf a .bound (a .job .bound)) (a .job .selection) (h .0)
 
   -- both runs share the plan: ranks and dominance rules agree
   one-plan : planOf (problemOf a) (choicesOf (alongside a rules bound first pool)) ≡ planOf (problemOf a) (choicesOf a)
-  unfolding choicesOf choices legsOf
+  unfolding choicesOf choices dayOf
   one-plan = λ i. record {
     late = lateBy (a .job .selection);
     rank = one-rank i;
@@ -106,9 +81,9 @@ module _ (a : Call) (ok : Passes a) (rules bound : ℕ) (first pool : List ℕ) 
   }
 
   closer : Closer (cutOf (choicesOf a)) (cutOf (choicesOf (alongside a rules bound first pool)))
-  unfolding choicesOf choices legsOf
+  unfolding choicesOf choices dayOf
   closer = record {
-    closer = bound-closer bound (a .job .bound) bound-below (ok .bound) (a .job .n) (legsOf a);
+    closer = walk-closer (call-walk a) bound (a .job .bound) bound-below (ok .bound);
     stricter = favours .rule-1;
     longer = λ j k h t. tt;
   }
@@ -121,10 +96,10 @@ module _ (a : Call) (ok : Passes a) (rules bound : ℕ) (first pool : List ℕ) 
       below : (x : Node) → (x ≡ []) ⊎ Order (a .job .n) x → upper (problemOf a) (given x) ≤ problemOf a .above
       below [] o = omega arith
       below (s ∷ x) (inl e) = absurd (let z : _≡_ {A = ℕ} 0 1 = cc in omega arith)
-      below (s ∷ x) (inr o) = omega (arith, order-below (a .job .n) (ok .few) (legsOf a) (legs-small a ok) (s ∷ x) o)
+      below (s ∷ x) (inr o) = omega (arith, order-cheap a ok (s ∷ x) o)
 
       go :
-          (x y : Node) → (x ≡ []) ⊎ Order (a .job .n) x → (y ≡ []) ⊎ ((x ≡ [] → ⊥) × (cost (legsOf a) x ≤ cost (legsOf a) y))
+          (x y : Node) → (x ≡ []) ⊎ Order (a .job .n) x → (y ≡ []) ⊎ ((x ≡ [] → ⊥) × (dayOf a .cost x ≤ dayOf a .cost y))
           → upper (problemOf a) (given x) ≤ upper (problemOf a) (given y)
       go x [] o h = below x o
       go x (r ∷ y) o (inl e) = absurd (let z : _≡_ {A = ℕ} 0 1 = cc in omega arith)
@@ -148,7 +123,7 @@ module _ (a : Call) (ok : Passes a) (rules bound : ℕ) (first pool : List ℕ) 
       → search (tree (problemOf a)) (planOf (problemOf a) (choicesOf a)) (cutOf (choicesOf (alongside a rules bound first pool))) (recordsIn pool)
       (suc (nodes (a .job .n))) (start (problemOf a) (given first))
       ≡ done e
-  unfolding outcome problemOf choicesOf choices legsOf
+  unfolding outcome problemOf choicesOf choices dayOf
   other-done e h =
       subst
       (λ (p : Plan Node).
@@ -188,17 +163,10 @@ same-call a b f = λ i. record {
   pool = b .pool;
 }
 
--- what A's report owes to B's
-pub record NoWorse (a b : Report) : Type 0 where
-  pub finishes : a .number ≡ 0
-  pub branched : a .branched ≤ b .branched
-  pub generated : a .generated ≤ b .generated
-  pub most : a .most ≤ b .most
-
-pub favoured-finishes :
+answers-no-worse :
     (a b : Call) → Favours a b → cause a ≡ 0 → answer b .report .number ≡ 0 → NoWorse (answer a .report) (answer b .report)
 unfolding answer respond ending reportWith
-favoured-finishes a b f passed h =
+answers-no-worse a b f passed h =
     let fb : Finished b = number-0 b h in
     let e : b ≡ alongside a (b .job .rules) (b .job .bound) (b .start) (b .pool) = same-call a b f in
     let (d, ran, branched, generated, most) =
@@ -208,3 +176,9 @@ favoured-finishes a b f passed h =
     subst (λ (x : Answer). NoWorse (x .report) (answer b .report)) (sym answered)
     (subst (λ (y : Answer). NoWorse (ending a (finished d) .report) (y .report)) (sym (fb .answered))
     (record { finishes = refl; branched = branched; generated = generated; most = most }))
+
+pub favoured-finishes : FavouredFinishes written
+favoured-finishes a b x y p q f passed h =
+    subst (λ (z : Answer). NoWorse (z .report) (y .report)) (sym p)
+    (subst (λ (z : Answer). NoWorse (answer a .report) (z .report)) (sym q)
+    (answers-no-worse a b f passed (sym (ap (λ (z : Answer). z .report .number) q) ∙ h)))

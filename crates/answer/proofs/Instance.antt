@@ -1,10 +1,11 @@
 -- A call that every check lets pass is an instance of the theory: its problem and choices are lawful, some order is cheaper than
--- "above every cost", and its fuel is enough. Assumes nothing.
-use mathlib.Core.Path.{_≡_, refl, ap, _∙_}
+-- "above every cost", and its fuel is enough.
+use mathlib.Core.Path.{_≡_, refl, ap, ap₂, _∙_}
 use mathlib.Core.List.{List, [], _∷_}
 use mathlib.Core.Logic.{_⊎_, inl, inr}
 use Prim.Native.Nat.{ℕ, suc, _-_, _≤_, _<_}
 use native.Mathlib.Omega.{arith}
+use Rattle.sizes.specs.Sizes.{aboveEveryCost}
 use Rattle.lists.specs.Lists.{sum}
 use Rattle.search.specs.Problem.{State, start}
 use Rattle.search.specs.Run.{finished, full, unfinished, finish, next, Overflows}
@@ -16,13 +17,17 @@ use Rattle.search.proofs.Outcome.{finished-means, full-means, overflow-full, fi
 use Rattle.orders.specs.Orders.{Node, size, Order, nodes}
 use Rattle.orders.proofs.Partial.{partial-root, partial-size}
 use Rattle.orders.proofs.Order.{order-complete, order-leads}
-use Rattle.stops.specs.Stops.{problem, choices}
-use Rattle.stops.specs.Code.{Within}
-use Rattle.stops.proofs.LegTable.{legs-within}
-use Rattle.stops.proofs.Instance.{tree-lawful, bound-lawful, stops-weigh, stops-solvable}
+use Rattle.days.specs.Days.{problem, choices}
+use Rattle.days.proofs.Walk.{Walk, walk-lawful, walk-bound, day-weighs, day-solvable}
+use Rattle.stops.specs.Tables.{rows}
+use Rattle.stops.specs.Stops.{dayOn}
+use Rattle.stops.specs.Code.{reckonOn, Cheap}
+use Rattle.stops.proofs.LegTable.{rows-cheap}
+use Rattle.stops.proofs.StopsWalk.{rows-walk, order-below}
 use Rattle.records.specs.Records.{recordsIn}
 use Rattle.answer.specs.Call.{Call}
-use Rattle.answer.specs.Answer.{legsOf, problemOf, choicesOf, given, outcome, StateOf}
+use Rattle.answer.specs.Answer.{dayOf, problemOf, choicesOf, given, outcome, StateOf}
+use Rattle.answer.specs.Demands.{OneTable}
 use Rattle.answer.proofs.Passes.{Passes}
 
 -- a node weighs as much as there are nodes below it, itself included
@@ -31,7 +36,7 @@ weight c x = nodes (c .job .n - size (c .job .n) x)
 
 pub call-weighs : (c : Call) → Weighs (problemOf c) (weight c)
 unfolding problemOf weight
-call-weighs c = stops-weigh (c .job .n) (legsOf c)
+call-weighs c = day-weighs (c .job .n) (dayOf c)
 
 -- e weighs less than the fuel
 root-light : (c : Call) → weight c (problemOf c .root) < suc (nodes (c .job .n))
@@ -78,18 +83,31 @@ Reaches c s =
     Reached (tree (problemOf c)) (planOf (problemOf c) (choicesOf c)) (cutOf (choicesOf c)) (recordsIn (c .pool))
     (start (problemOf c) (given (c .start))) s
 
+-- the day of a call is a walk
+pub call-walk : (c : Call) → Walk (c .job .n) 1 (dayOf c) (reckonOn (rows (c .job .n) (c .table)))
+unfolding dayOf
+call-walk c = rows-walk (c .job .n) (rows (c .job .n) (c .table))
+
+-- and two calls over one table have one day
+pub one-day : (a b : Call) → OneTable a b → dayOf a ≡ dayOf b
+unfolding dayOf
+one-day a b one = ap₂ (λ (k : ℕ) (t : List ℕ). dayOn k (rows k t)) (one .n) (one .table)
+
 module _ (c : Call) (ok : Passes c) where
-  pub legs-small : Within 1_000_000 (legsOf c)
-  unfolding legsOf
-  legs-small = legs-within (c .job .n) (c .table) 1_000_000 (ok .cheap)
+  pub call-cheap : Cheap (rows (c .job .n) (c .table))
+  call-cheap = rows-cheap (c .job .n) (c .table) (ok .cheap)
+
+  pub order-cheap : (x : Node) → Order (c .job .n) x → dayOf c .cost x < aboveEveryCost
+  unfolding dayOf
+  order-cheap x o = order-below (rows (c .job .n) (c .table)) call-cheap (c .job .n) (ok .few) x o
 
   pub call-lawful : Lawful (tree (problemOf c)) (size (c .job .n)) (c .job .n)
   unfolding problemOf
-  call-lawful = tree-lawful (c .job .n) (ok .some) (legsOf c)
+  call-lawful = walk-lawful (call-walk c) (ok .some)
 
   pub bound-laws : BoundLaws (tree (problemOf c)) (choicesOf c .bound)
   unfolding problemOf choicesOf choices
-  bound-laws = bound-lawful (c .job .bound) (ok .bound) (c .job .n) (legsOf c)
+  bound-laws = walk-bound (call-walk c) (c .job .bound) (ok .bound)
 
   pub selection-small : choicesOf c .selection ≤ 3
   unfolding choicesOf choices
@@ -100,7 +118,7 @@ module _ (c : Call) (ok : Passes c) where
 
   pub call-solvable : Solvable (problemOf c)
   unfolding problemOf
-  call-solvable = stops-solvable (c .job .n) (ok .few) (legsOf c) legs-small
+  call-solvable = day-solvable (c .job .n) (dayOf c) order-cheap
 
   pub start-known : KnownIn (problemOf c) (given (c .start))
   unfolding problemOf problem

@@ -2,7 +2,6 @@
 --   First, job-first    a cause from 1 to 5 stands whatever comes later; where there is none, what comes later is the answer
 --   job-refuses         a call with one of causes 1 to 5 has that cause, whatever its pool
 --   job-passes          a call with none has cause 6 or no cause
--- Assumes nothing.
 use mathlib.Core.Path.{_≡_, refl, sym, _∙_}
 use mathlib.Core.Bool.{Bool, true, false}
 use mathlib.Core.List.{List}

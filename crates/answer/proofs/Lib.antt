@@ -2,8 +2,11 @@ pub mod Passes
 pub mod JobCause
 pub mod Instance
 pub mod Ending
-pub mod Counting
-pub mod Full
+pub mod Bounds
 pub mod Tested
+pub mod Ends
+pub mod Contents
+pub mod Demand1
+pub mod Demand2
 pub mod Demand3
 pub mod Demand3Pairs

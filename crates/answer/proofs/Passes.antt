@@ -1,4 +1,4 @@
--- What it means that every check lets a call pass. Assumes nothing.
+-- What it means that checks 1 to 5 let a job pass (`JobPasses`), and that every check lets a call pass (`Passes`).
 use mathlib.Core.Path.{_≡_, refl}
 use mathlib.Core.Bool.{Bool, true, false, not, _||_}
 use mathlib.Core.List.{List, [], _∷_}
@@ -12,12 +12,23 @@ use Rattle.lists.proofs.Tests.{neq, not-either, twice-not}
 use Rattle.lists.proofs.Members.{in-any}
 use Rattle.orders.specs.Orders.{Order, isOrder}
 use Rattle.orders.proofs.Order.{isOrder-order}
-use Rattle.stops.specs.Legs.{entry}
+use Rattle.stops.specs.Tables.{entry}
 use Rattle.sizes.specs.Sizes.{mostStops, dearest, recordWords}
 use Rattle.records.specs.Records.{recordsIn}
 use Rattle.answer.specs.Call.{Call}
+use Rattle.answer.specs.declared.Job.{Job}
 use Rattle.answer.specs.Checks.{cause₁, cause₂, cause₃, cause₄, cause₅, cause₆, isEmpty, orLater, jobCause, cause}
 use Rattle.answer.specs.Cases
+
+pub record JobPasses (job : Job) (table order : List ℕ) : Type 0 where
+  pub some : 1 ≤ job .n
+  pub few : job .n ≤ mostStops
+  pub square : length table ≡ suc (job .n) * suc (job .n)
+  pub cheap : (w : ℕ) → In w table → w ≤ dearest
+  pub selection : job .selection ≤ 3
+  pub rules : job .rules ≤ 15
+  pub bound : job .bound ≤ 1
+  pub start : (order ≡ []) ⊎ Order (job .n) order
 
 pub record Passes (c : Call) : Type 0 where
   pub some : 1 ≤ c .job .n
@@ -44,73 +55,88 @@ positive : (k : ℕ) → T (not (eqb k 0)) → 1 ≤ k
 positive k h = let e : k ≢ 0 = neq k 0 h in omega arith
 
 -- what each check lets pass
-module _ (c : Call) where
-  stops-pass : T (not (cause₁ (c .job .n))) → (1 ≤ c .job .n) × (c .job .n ≤ mostStops)
+module _ (n : ℕ) (table : List ℕ) where
+  stops-pass : T (not (cause₁ n)) → (1 ≤ n) × (n ≤ mostStops)
   unfolding cause₁
-  stops-pass h = let (p, q) = not-either (eqb (c .job .n) 0) (ltb mostStops (c .job .n)) h in (positive (c .job .n) p, nltb→le mostStops (c .job .n) q)
+  stops-pass h = let (p, q) = not-either (eqb n 0) (ltb mostStops n) h in (positive n p, nltb→le mostStops n q)
 
-  table-passes : T (not (cause₂ (c .job .n) (c .table))) → length (c .table) ≡ suc (c .job .n) * suc (c .job .n)
+  table-passes : T (not (cause₂ n table)) → length table ≡ suc n * suc n
   unfolding cause₂
-  table-passes h = let area : ℕ = suc (c .job .n) * suc (c .job .n) in eqb→eq (length (c .table)) area (twice-not (eqb (length (c .table)) area) h)
+  table-passes h = let area : ℕ = suc n * suc n in eqb→eq (length table) area (twice-not (eqb (length table) area) h)
 
-  legs-pass : T (not (cause₃ (c .job .n) (c .table))) → (w : ℕ) → In w (c .table) → w ≤ dearest
+  legs-pass : T (not (cause₃ n table)) → (w : ℕ) → In w table → w ≤ dearest
   unfolding cause₃
   legs-pass h w m =
-      let (p, q) = not-either (any (ltb dearest) (c .table)) (any (λ i. not (eqb (entry (c .job .n) (c .table) i i) 0)) (from 0 (suc (c .job .n)))) h in
-      nltb→le dearest w (not-T (ltb dearest w) (λ k. T-not (any (ltb dearest) (c .table)) p (in-any (ltb dearest) (c .table) w m k)))
+      let (p, q) = not-either (any (ltb dearest) table) (any (λ i. not (eqb (entry n table i i) 0)) (from 0 (suc n))) h in
+      nltb→le dearest w (not-T (ltb dearest w) (λ k. T-not (any (ltb dearest) table) p (in-any (ltb dearest) table w m k)))
 
-  choices-pass : T (not (cause₄ (c .job))) → (c .job .selection ≤ 3) × (c .job .rules ≤ 15) × (c .job .bound ≤ 1)
-  unfolding cause₄
-  choices-pass h =
-      let (p, q) = not-either (ltb 3 (c .job .selection) || ltb 15 (c .job .rules)) (ltb 1 (c .job .bound)) h in
-      let (r, s) = not-either (ltb 3 (c .job .selection)) (ltb 15 (c .job .rules)) p in
-      (nltb→le 3 (c .job .selection) r, nltb→le 15 (c .job .rules) s, nltb→le 1 (c .job .bound) q)
+choices-pass : (job : Job) → T (not (cause₄ job)) → (job .selection ≤ 3) × (job .rules ≤ 15) × (job .bound ≤ 1)
+unfolding cause₄
+choices-pass job h =
+    let (p, q) = not-either (ltb 3 (job .selection) || ltb 15 (job .rules)) (ltb 1 (job .bound)) h in
+    let (r, s) = not-either (ltb 3 (job .selection)) (ltb 15 (job .rules)) p in
+    (nltb→le 3 (job .selection) r, nltb→le 15 (job .rules) s, nltb→le 1 (job .bound) q)
 
-  start-passes : T (not (cause₅ (c .job .n) (c .start))) → (c .start ≡ []) ⊎ Order (c .job .n) (c .start)
-  unfolding cause₅
-  start-passes h = start-given (c .job .n) (c .start) (twice-not (isEmpty (c .start) || isOrder (c .job .n) (c .start)) h)
+start-passes : (n : ℕ) (x : List ℕ) → T (not (cause₅ n x)) → (x ≡ []) ⊎ Order n x
+unfolding cause₅
+start-passes n x h = start-given n x (twice-not (isEmpty x || isOrder n x) h)
 
-  pool-passes : T (not (cause₆ (c .pool))) → (1 ≤ recordsIn (c .pool)) × (length (c .pool) % recordWords ≡ 0)
-  unfolding cause₆
-  pool-passes h =
-      let part : ℕ = length (c .pool) % recordWords in
-      let (p, q) = not-either (eqb (recordsIn (c .pool)) 0) (not (eqb part 0)) h in
-      (positive (recordsIn (c .pool)) p, eqb→eq part 0 (twice-not (eqb part 0) q))
+pool-passes : (pool : List ℕ) → T (not (cause₆ pool)) → (1 ≤ recordsIn pool) × (length pool % recordWords ≡ 0)
+unfolding cause₆
+pool-passes pool h =
+    let part : ℕ = length pool % recordWords in
+    let (p, q) = not-either (eqb (recordsIn pool) 0) (not (eqb part 0)) h in
+    (positive (recordsIn pool) p, eqb→eq part 0 (twice-not (eqb part 0) q))
 
+-- where none of causes 1 to 5 applies, what is left is what comes later
+module _ (job : Job) (table order : List ℕ) (later : ℕ) where
   -- the numbers that are left when the first causes do not apply
-  after₅ : ℕ
-  after₅ = orLater (cause₆ (c .pool)) 6 0
-
   after₄ : ℕ
-  after₄ = orLater (cause₅ (c .job .n) (c .start)) 5 after₅
+  after₄ = orLater (cause₅ (job .n) order) 5 later
 
   after₃ : ℕ
-  after₃ = orLater (cause₄ (c .job)) 4 after₄
+  after₃ = orLater (cause₄ job) 4 after₄
 
   after₂ : ℕ
-  after₂ = orLater (cause₃ (c .job .n) (c .table)) 3 after₃
+  after₂ = orLater (cause₃ (job .n) table) 3 after₃
 
   after₁ : ℕ
-  after₁ = orLater (cause₂ (c .job .n) (c .table)) 2 after₂
+  after₁ = orLater (cause₂ (job .n) table) 2 after₂
+
+  pub job-passed : jobCause job table order later ≡ 0 → JobPasses job table order × (later ≡ 0)
+  unfolding jobCause after₁ after₂ after₃ after₄
+  job-passed e =
+      let (h₁, e₁) = none-first (cause₁ (job .n)) 0 after₁ e in
+      let (h₂, e₂) = none-first (cause₂ (job .n) table) 1 after₂ e₁ in
+      let (h₃, e₃) = none-first (cause₃ (job .n) table) 2 after₃ e₂ in
+      let (h₄, e₄) = none-first (cause₄ job) 3 after₄ e₃ in
+      let (h₅, e₅) = none-first (cause₅ (job .n) order) 4 later e₄ in
+      let passed : JobPasses job table order = record {
+        some = stops-pass (job .n) table h₁ .0;
+        few = stops-pass (job .n) table h₁ .1;
+        square = table-passes (job .n) table h₂;
+        cheap = legs-pass (job .n) table h₃;
+        selection = choices-pass job h₄ .0;
+        rules = choices-pass job h₄ .1;
+        bound = choices-pass job h₄ .2;
+        start = start-passes (job .n) order h₅;
+      } in
+      (passed, e₅)
 
 pub passes : (c : Call) → cause c ≡ 0 → Passes c
-unfolding cause jobCause after₁ after₂ after₃ after₄ after₅
+unfolding cause
 passes c e =
-    let (h₁, e₁) = none-first (cause₁ (c .job .n)) 0 (after₁ c) e in
-    let (h₂, e₂) = none-first (cause₂ (c .job .n) (c .table)) 1 (after₂ c) e₁ in
-    let (h₃, e₃) = none-first (cause₃ (c .job .n) (c .table)) 2 (after₃ c) e₂ in
-    let (h₄, e₄) = none-first (cause₄ (c .job)) 3 (after₄ c) e₃ in
-    let (h₅, e₅) = none-first (cause₅ (c .job .n) (c .start)) 4 (after₅ c) e₄ in
+    let (p, e₅) = job-passed (c .job) (c .table) (c .start) (orLater (cause₆ (c .pool)) 6 0) e in
     let (h₆, e₆) = none-first (cause₆ (c .pool)) 5 0 e₅ in
     record {
-      some = stops-pass c h₁ .0;
-      few = stops-pass c h₁ .1;
-      square = table-passes c h₂;
-      cheap = legs-pass c h₃;
-      selection = choices-pass c h₄ .0;
-      rules = choices-pass c h₄ .1;
-      bound = choices-pass c h₄ .2;
-      start = start-passes c h₅;
-      pool = pool-passes c h₆ .0;
-      whole = pool-passes c h₆ .1;
+      some = p .some;
+      few = p .few;
+      square = p .square;
+      cheap = p .cheap;
+      selection = p .selection;
+      rules = p .rules;
+      bound = p .bound;
+      start = p .start;
+      pool = pool-passes (c .pool) h₆ .0;
+      whole = pool-passes (c .pool) h₆ .1;
     }

@@ -1,6 +1,5 @@
--- The active set is never empty, and the bound that the finish test holds against U never exceeds U; so document 000's test "equal to
--- U" and ours, "at least U", agree on every run. Under FIFO and LIFO the bound is tested only where b is the only active node.
--- Assumes nothing.
+-- The finish test of the written run: the active set is never empty, the bound that is held against U never exceeds it, and so document 000's
+-- test and ours agree.
 use mathlib.Core.Path.{_≡_, refl, sym, _∙_, ap}
 use mathlib.Core.Bool.{Bool, true, false, not, _&&_, _||_}
 use mathlib.Core.List.{List, [], _∷_}
@@ -22,23 +21,17 @@ use Rattle.records.specs.Records.{recordsIn}
 use Rattle.answer.specs.Call.{Call}
 use Rattle.answer.specs.Checks.{cause}
 use Rattle.answer.specs.Answer.{problemOf, choicesOf, given, StateOf}
+use Rattle.answer.specs.Document01.{ActiveNeverEmpty, BoundCounts, TestedWithinU, TestsAgree}
 use Rattle.answer.proofs.Passes.{Passes, passes}
 use Rattle.answer.proofs.Instance.{state-reached, call-lawful, bound-laws, call-manner, call-solvable, start-known, selection-small}
 
-pub active-never-empty : (c : Call) → cause c ≡ 0 → (s : State Node) → StateOf c s → (x : Node) × In x (s .active)
+pub active-never-empty : ActiveNeverEmpty
 active-never-empty c e s steps =
     let ok : Passes c = passes c e in
     active-some (tree (problemOf c)) (planOf (problemOf c) (choicesOf c)) (cutOf (choicesOf c)) (recordsIn (c .pool)) (size (c .job .n)) (c .job .n)
     (call-lawful c ok) (bound-laws c ok) (given (c .start)) (start-known c ok) (call-solvable c ok) s (state-reached c ok steps)
 
--- the bound counts in the finish test: under selections 0 and 1 always, under 2 and 3 where b is the only active node
-abbrev Counts : Call → List Node → Bool
-Counts c rest = not (eqb (choicesOf c .selection) 2 || eqb (choicesOf c .selection) 3) || empty rest
-
-pub tested-bound-within-U :
-    (c : Call) → cause c ≡ 0 → (s : State Node) → StateOf c s → (b : Node) (rest : List Node)
-    → select (problemOf c) (choicesOf c) (s .active) ≡ chosen b rest → T (Counts c rest)
-    → choicesOf c .bound b ≤ upper (problemOf c) (s .best)
+pub tested-bound-within-U : TestedWithinU
 unfolding select cap
 tested-bound-within-U c e s steps b rest chose counts =
     let ok : Passes c = passes c e in
@@ -53,18 +46,10 @@ tested-bound-within-U c e s steps b rest chose counts =
     either-way true [] h = inr refl
     either-way true (x ∷ xs) h = absurd h
 
--- document 000's finish test
-pub finishesWhenEqual : {N : Type 0} → Problem N → Choices N → Option N → N → List N → Bool
-finishesWhenEqual P C best b rest =
-    eqb (upper P best) (C .bound b) && (not (eqb (C .selection) 2 || eqb (C .selection) 3) || empty rest) || P .complete b
-
-pub tests-agree :
-    (c : Call) → cause c ≡ 0 → (s : State Node) → StateOf c s → (b : Node) (rest : List Node)
-    → select (problemOf c) (choicesOf c) (s .active) ≡ chosen b rest
-    → finishes (problemOf c) (choicesOf c) (s .best) b rest ≡ finishesWhenEqual (problemOf c) (choicesOf c) (s .best) b rest
-unfolding finishes finishesWhenEqual
+pub tests-agree : TestsAgree
+unfolding finishes
 tests-agree c e s steps b rest chose =
-    agree (upper (problemOf c) (s .best)) (choicesOf c .bound b) (Counts c rest) (problemOf c .complete b)
+    agree (upper (problemOf c) (s .best)) (choicesOf c .bound b) (BoundCounts c rest) (problemOf c .complete b)
     (tested-bound-within-U c e s steps b rest chose)
   where
     never : (a : Bool) → (a && false) ≡ false

@@ -4,25 +4,28 @@ use mathlib.Core.List.{List, [], _∷_}
 use mathlib.Core.Option.{Option, none, some}
 use Prim.Native.Nat.{ℕ, zero, suc}
 use lib.ListN.{length}
+use Rattle.lists.specs.Lists.{padded}
 use Rattle.search.specs.Problem.{Problem, Choices, State, upper, start}
 use Rattle.search.specs.Run.{Outcome, finished, full, unfinished, run, Steps}
 use Rattle.orders.specs.Orders.{Node, nodes}
-use Rattle.stops.specs.Legs.{Legs, rows, legs}
-use Rattle.stops.specs.Stops.{problem, choices}
-use Rattle.records.specs.Records.{padded, poolWords, recordsIn}
+use Rattle.days.specs.Days.{Day, problem, choices}
+use Rattle.stops.specs.Tables.{rows}
+use Rattle.stops.specs.Stops.{dayOn}
+use Rattle.records.specs.Records.{poolWords, recordsIn}
 use Rattle.sizes.specs.Sizes.{orderPlaces}
 use Rattle.answer.specs.Call.{Call, Answer, refusal}
 use Rattle.answer.specs.declared.Report.{Report}
 use Rattle.answer.specs.Checks.{cause}
 
-unfoldable pub legsOf : Call → Legs
-legsOf c = legs (rows (c .job .n) (c .table))
+-- the day that a call is about
+unfoldable pub dayOf : Call → Day
+dayOf c = dayOn (c .job .n) (rows (c .job .n) (c .table))
 
 unfoldable pub problemOf : Call → Problem Node
-problemOf c = problem (c .job .n) (legsOf c)
+problemOf c = problem (c .job .n) (dayOf c)
 
 unfoldable pub choicesOf : Call → Choices Node
-choicesOf c = choices (c .job .n) (legsOf c) (c .job .selection) (c .job .rules) (c .job .bound)
+choicesOf c = choices (dayOf c) (c .job .selection) (c .job .rules) (c .job .bound)
 
 -- the starting order, if one is given
 abbrev pub given : List ℕ → Option Node
@@ -57,7 +60,7 @@ reportWith number cost order s = record {
 
 -- "Contents before the run play no part": only the pool's length is looked at.
 unfoldable pub wordsOf : Call → State Node → List ℕ
-wordsOf c s = poolWords (c .job .n) (legsOf c) (c .job .bound) (c .job .rules) (length (c .pool)) s
+wordsOf c s = poolWords (c .job .n) (dayOf c) (c .job .bound) (c .job .rules) (length (c .pool)) s
 
 unfoldable pub ending : Call → Outcome Node → Answer
 ending c (finished s) = record { report = reportWith 0 (upper (problemOf c) (s .best)) (stopsOf (s .best)) s; pool = wordsOf c s }

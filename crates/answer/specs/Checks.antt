@@ -7,7 +7,7 @@ use lib.ListN.{length}
 use Rattle.sizes.specs.Sizes.{mostStops, dearest, recordWords}
 use Rattle.lists.specs.Lists.{any, from}
 use Rattle.orders.specs.Orders.{isOrder}
-use Rattle.stops.specs.Legs.{entry}
+use Rattle.stops.specs.Tables.{entry}
 use Rattle.records.specs.Records.{recordsIn}
 use Rattle.answer.specs.Call.{Call}
 use Rattle.answer.specs.declared.Job.{Job}

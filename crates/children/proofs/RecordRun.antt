@@ -1,37 +1,49 @@
--- The run on records is the written run: the problem of a call on records (`Code`) is its problem on nodes, each node encoded as
--- its record. Assumes nothing.
+-- The run on records is the written run: the problem of a setting and a table's rows on records (`Code`) is its problem on nodes, each node
+-- encoded as its record.
 use mathlib.Core.Path.{_≡_, refl, sym, _∙_, ap}
-use mathlib.Core.List.{List, [], _∷_, map}
-use Prim.Native.Nat.{ℕ, _+_, _-_, _^_, _≤_}
+use mathlib.Core.List.{[], map, map-map}
+use Prim.Native.Nat.{ℕ, _+_, _-_, _^_}
 use native.Mathlib.Omega.{arith}
 use Rattle.lists.specs.Lists.{In}
 use Rattle.lists.proofs.Map.{map-same}
 use Rattle.search.proofs.Mapped.{Maps}
-use Rattle.orders.specs.Orders.{Node, Partial, extend, setOf, left, size, complete, children}
+use Rattle.orders.specs.Orders.{Node, Partial, extend, setOf, left, mask, size, complete, children}
 use Rattle.orders.proofs.Sets.{empty-set}
 use Rattle.orders.proofs.Partial.{partial-root, partial-child, partial-size}
-use Rattle.stops.specs.Legs.{rowLeg, legs, path, last}
-use Rattle.stops.specs.Bounds.{boundBy}
-use Rattle.stops.specs.Code.{emptyRecord, extended, lastStop, stopsIn, ahead}
-use Rattle.stops.specs.Stops.{problem, choices}
-use Rattle.stops.proofs.Paths.{path-extend}
-use Rattle.stops.proofs.Bounds.{bound-ahead, bound-exact}
-use Rattle.records.specs.Records.{mask}
+use Rattle.days.specs.Days.{Day, problem, choices}
+use Rattle.days.specs.Code.{Reckoning}
+use Rattle.days.proofs.Walk.{Walk, bound-exact}
+use Rattle.stops.specs.Stops.{dayOn}
+use Rattle.stops.specs.Code.{emptyRecord, extended, lastStop, stopsIn, reckonOn}
+use Rattle.stops.proofs.StopsWalk.{rows-walk, place-last}
 use Rattle.records.specs.Code.{encode}
 use Rattle.records.proofs.Mask.{stops-left}
 use Rattle.records.proofs.Encode.{encode-last, encode-extend}
 use Rattle.records.proofs.EncodeLaws.{encode-child, encode-dominates}
-use Rattle.children.specs.Code.{restOf, bounded, childOf, childrenOf, rootOf, recProblem, recChoices}
+use Rattle.children.specs.Code.{Table, Rows, problemOf, choicesOf, encodeOf, restOf, bounded, childOf, childrenOf, rootOf, recProblem, recChoices}
+use Rattle.children.specs.declared.setting.Setting.{Setting}
 
-map-map : {A B C : Type 0} (f : B → C) (g : A → B) (xs : List A) → map f (map g xs) ≡ map (λ x. f (g x)) xs
-map-map f g [] = refl
-map-map {C = C} f g (x ∷ xs) = ap (λ (ys : List C). f (g x) ∷ ys) (map-map f g xs)
+module _ {d : Setting} {t : Table} (rows : Rows d t) where
+  abbrev n : ℕ
+  n = d .n
 
-module _ (n : ℕ) (few : n ≤ 16) (t : List (List ℕ)) (k : ℕ) (number : k ≤ 1) where
+  abbrev k : ℕ
+  k = d .bound
+
+  abbrev D : Day
+  D = dayOn n t
+
+  abbrev R : Reckoning
+  R = reckonOn t
+
+  walk : Walk n 1 D R
+  walk = rows-walk n t
+
   -- the record of e
-  pub encode-root : rootOf n t k ≡ encode n (legs t) k []
-  unfolding rootOf bounded emptyRecord encode path last mask
-  encode-root = λ i. record { size = sym none i; set = sym unset i; path = 0; bound = bound i; first = 0; second = 0 }
+  pub encode-root : rootOf d t ≡ encodeOf d t []
+  unfolding rootOf encodeOf bounded emptyRecord encode mask
+  encode-root =
+      λ i. record { size = sym none i; set = sym unset i; path = sym (walk .path-root) i; bound = bound i; first = 0; second = 0 }
     where
       none : size n [] ≡ 0
       none = partial-size n [] (partial-root n)
@@ -40,54 +52,52 @@ module _ (n : ℕ) (few : n ≤ 16) (t : List (List ℕ)) (k : ℕ) (number : k 
       unset = ap mask (empty-set n)
 
       all : stopsIn (2 ^ n - 1) ≡ left n []
-      all = ap stopsIn (let e : 2 ^ n - 1 ≡ 2 ^ n - 1 - mask (setOf n []) = omega (arith, unset) in e) ∙ stops-left n few []
+      all = ap stopsIn (let e : 2 ^ n - 1 ≡ 2 ^ n - 1 - mask (setOf n []) = omega (arith, unset) in e) ∙ stops-left n (rows .few) []
 
-      bound : ahead k (legs t) 0 (stopsIn (2 ^ n - 1)) ≡ boundBy k n (legs t) []
-      bound =
-          ap (ahead k (legs t) 0) all
-          ∙ (let e : ahead k (legs t) 0 (left n []) ≡ 0 + ahead k (legs t) 0 (left n []) = omega arith in e) ∙ sym (bound-ahead k number n (legs t) [])
+      bound : R .ahead k 0 (stopsIn (2 ^ n - 1)) ≡ D .bound k []
+      bound = rw (all, walk .bound-ahead k (rows .bound) [], walk .path-root, walk .place-root) (omega arith)
 
-  module _ (x : Node) (p : Partial n x) where
-    encode-kid : (s : ℕ) → In s (left n x) → childOf n t k (encode n (legs t) k x) s ≡ encode n (legs t) k (extend x s)
-    unfolding childOf restOf bounded legs encode
+  module _ (x : Node) (p : Partial (d .n) x) where
+    encode-kid : (s : ℕ) → In s (left n x) → childOf d t (encodeOf d t x) s ≡ encodeOf d t (extend x s)
+    unfolding childOf restOf encodeOf bounded encode
     encode-kid s m =
-        ap (λ (place : ℕ). bounded (path (legs t) x + rowLeg t place s + rest) (extended (encode n (legs t) k x) s (rowLeg t place s))) place
-        ∙ ap (bounded (path (legs t) x + rowLeg t (last x) s + rest)) (encode-extend n few (legs t) k x p s m)
-        ∙ ap (λ (v : ℕ). bounded v (encode n (legs t) k (extend x s))) bound
+        ap (λ (q : ℕ). bounded (D .path x + R .further q s + rest q) (extended (encode n D k x) s (R .further q s))) place
+        ∙ ap (bounded (D .path x + R .further (R .place x) s + rest (R .place x)))
+        (encode-extend n (rows .few) D k x p s m (R .further (R .place x) s) (walk .path-extend x s m))
+        ∙ ap (λ (v : ℕ). bounded v (encode n D k (extend x s))) bound
       where
-        rest : ℕ
-        rest = ahead k (legs t) s (stopsIn (2 ^ n - 1 - mask (setOf n x) - 2 ^ (s - 1)))
+        -- what the bound adds behind s, flown to from a place
+        rest : ℕ → ℕ
+        rest q = R .ahead k (R .after q s) (stopsIn (2 ^ n - 1 - mask (setOf n x) - 2 ^ (s - 1)))
 
-        place : lastStop (encode n (legs t) k x) ≡ last x
-        place = encode-last n few (legs t) k x p
+        place : lastStop (encode n D k x) ≡ R .place x
+        place = encode-last n (rows .few) D k x p ∙ sym (place-last t x)
 
-        bound : path (legs t) x + rowLeg t (last x) s + rest ≡ boundBy k n (legs t) (extend x s)
-        bound = ap (λ (v : ℕ). v + rest) (sym (path-extend (legs t) x s)) ∙ sym (encode-child n few (legs t) k number x s m)
+        bound : D .path x + R .further (R .place x) s + rest (R .place x) ≡ D .bound k (extend x s)
+        bound =
+            ap (λ (v : ℕ). v + rest (R .place x)) (sym (walk .path-extend x s m)) ∙ sym (encode-child walk (rows .few) k (rows .bound) x s m)
 
-    encode-rest : stopsIn (2 ^ n - 1 - encode n (legs t) k x .set) ≡ left n x
-    unfolding encode
-    encode-rest = stops-left n few x
+    encode-rest : stopsIn (restOf d (encodeOf d t x)) ≡ left n x
+    unfolding restOf encodeOf encode
+    encode-rest = stops-left n (rows .few) x
 
-    encode-children : childrenOf n t k (encode n (legs t) k x) ≡ map (encode n (legs t) k) (children n x)
-    unfolding childrenOf children restOf
+    encode-children : childrenOf d t (encodeOf d t x) ≡ map (encodeOf d t) (children n x)
+    unfolding childrenOf children
     encode-children =
-        ap (map (childOf n t k (encode n (legs t) k x))) encode-rest
-        ∙ map-same (childOf n t k (encode n (legs t) k x)) (λ s. encode n (legs t) k (extend x s)) (left n x) encode-kid
-        ∙ sym (map-map (encode n (legs t) k) (extend x) (left n x))
+        ap (map (childOf d t (encodeOf d t x))) encode-rest
+        ∙ map-same (childOf d t (encodeOf d t x)) (λ s. encodeOf d t (extend x s)) (left n x) encode-kid
+        ∙ sym (map-map (encodeOf d t) (extend x) (left n x))
 
-  pub record-maps :
-      (selection rules : ℕ)
-      → Maps (encode n (legs t) k) (Partial n) (problem n (legs t)) (recProblem n t k) (choices n (legs t) selection rules k)
-      (recChoices selection rules)
-  unfolding problem recProblem choices recChoices complete encode
-  record-maps selection rules = record {
+  pub record-maps : Maps (encodeOf d t) (Partial (d .n)) (problemOf d t) (recProblem d t) (choicesOf d t) (recChoices d)
+  unfolding problemOf problem recProblem choicesOf choices recChoices complete encodeOf encode
+  record-maps = record {
     root = encode-root;
     root-valid = partial-root n;
     children = encode-children;
     children-valid = partial-child n;
     complete = λ x p. refl;
-    cost = λ x p whole. bound-exact k number n (legs t) x whole;
-    dominates = λ w x p q. encode-dominates n few (legs t) k w x p q;
+    cost = λ x p whole. bound-exact walk k (rows .bound) x whole;
+    dominates = λ w x p q. encode-dominates walk (place-last t) (rows .few) k w x p q;
     above = refl;
     selection = refl;
     rules = refl;

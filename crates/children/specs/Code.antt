@@ -1,81 +1,129 @@
--- The stops of a table as a problem on records, and what the functions of this crate compute. `proofs/` shows that it is the problem of
--- crate `stops`, node by node. These definitions are the code's own: a reader of the promise needs none of them.
---   Rows             the table's rows, as a run has them
---   childrenOf       the children of a record, in ascending stop order
---   recProblem       the problem of a table on records; recChoices: a caller's choices on them
---   Encoded          a record is that of a node
---   IsBest           the numbers that stand for U's order
---   survivorsOf      what rules 1, 2 and 4 leave of the children
--- Assumes nothing.
+-- A setting and a table's rows as a problem on records, and what the functions of this crate compute. `proofs/` shows that it is the
+-- problem of their day, node by node. These definitions are the code's own: a reader of the promise needs none of them.
+--   Rows                              what a run asks of both
+--   settingOf, jobOf                  the setting of a job, and the job of a setting
+--   problemOf, choicesOf, encodeOf    the problem and the caller's choices on nodes, and the record of a node
+--   childrenOf, rootOf                the children of a record, in ascending stop order, and the record of e
+--   recProblem, recChoices            the same problem and choices on records
+--   Encoded, Kid                      a record is that of a node; and a stop is one that it leaves
+--   IsBest                            the numbers that stand for U's order
+--   othersIn, farIn, Spotted          where the active records stand, the one that is branched and those branched before
+--   survivorsOf, Surviving            what rules 1, 2 and 4 leave of the children
 use mathlib.Core.Path.{_≡_}
 use mathlib.Core.Bool.{Bool, true, false}
 use mathlib.Core.List.{List, map}
 use mathlib.Core.Option.{Option, none, some}
-use Prim.Native.Nat.{ℕ, _+_, _-_, _^_, _≤_}
+use Prim.Native.Nat.{ℕ, _+_, _-_, _^_, _≤_, _<_}
 use lib.Dec.{eqb}
-use Rattle.lists.specs.Lists.{keep}
+use lib.ListN.{length, take, drop}
+use Rattle.sizes.specs.Sizes.{mostStops, aboveEveryCost, noLimit}
+use Rattle.lists.specs.Lists.{In, keep}
 use Rattle.search.specs.Problem.{Problem, Choices}
 use Rattle.search.specs.Step.{on}
 use Rattle.orders.specs.Orders.{Node, Partial}
-use Rattle.stops.specs.Legs.{rowLeg, legs}
-use Rattle.stops.specs.Code.{emptyRecord, extended, lastStop, recDominates, stopsIn, ahead, Within}
-use Rattle.stops.specs.Stops.{aboveEveryCost}
+use Rattle.days.specs.Days.{problem, choices}
+use Rattle.stops.specs.Stops.{dayOn}
+use Rattle.stops.specs.Code.{emptyRecord, extended, lastStop, recDominates, stopsIn, reckonOn, Cheap}
 use Rattle.stops.specs.declared.node_record.Record.{Record}
-use Rattle.records.specs.Code.{encode}
+use Rattle.records.specs.Code.{encode, dropAt}
 use Rattle.passes.specs.Code.{isWithin}
-use Rattle.rivals.specs.Code.{isFree}
+use Rattle.rivals.specs.Code.{isFree, AllNear}
+use Rattle.answer.specs.declared.Job.{Job}
 use Rattle.children.specs.declared.best.Best.{Best}
+use Rattle.children.specs.declared.setting.Setting.{Setting}
+use Rattle.children.specs.declared.spot.Spot.{Spot}
 
 abbrev pub Table : Type 0
 Table = List (List ℕ)
 
--- the table's rows: no leg above 1,000,000, and one to sixteen stops
-pub record Rows (n : ℕ) (t : List (List ℕ)) (k : ℕ) : Type 0 where
-  pub some : 1 ≤ n
-  pub few : n ≤ 16
-  pub cheap : Within 1_000_000 (legs t)
-  pub number : k ≤ 1
+abbrev pub settingOf : Job → Setting
+settingOf job = record { n = job .n; selection = job .selection; rules = job .rules; bound = job .bound }
+
+abbrev pub jobOf : Setting → Job
+jobOf d = record { n = d .n; selection = d .selection; rules = d .rules; bound = d .bound }
+
+-- one stop to as many as there may be, no leg too dear, and a bound that there is
+pub record Rows (d : Setting) (t : Table) : Type 0 where
+  pub some : 1 ≤ d .n
+  pub few : d .n ≤ mostStops
+  pub cheap : Cheap t
+  pub bound : d .bound ≤ 1
+
+unfoldable pub problemOf : Setting → Table → Problem Node
+problemOf d t = problem (d .n) (dayOn (d .n) t)
+
+unfoldable pub choicesOf : Setting → Table → Choices Node
+choicesOf d t = choices (dayOn (d .n) t) (d .selection) (d .rules) (d .bound)
+
+unfoldable pub encodeOf : Setting → Table → Node → Record
+encodeOf d t x = encode (d .n) (dayOn (d .n) t) (d .bound) x
 
 -- the stops that a record leaves, as a set
-unfoldable pub restOf : ℕ → Record → ℕ
-restOf n b = 2 ^ n - 1 - b .set
+unfoldable pub restOf : Setting → Record → ℕ
+restOf d b = 2 ^ d .n - 1 - b .set
 
 unfoldable pub bounded : ℕ → Record → Record
 bounded v x = record { size = x .size; set = x .set; path = x .path; bound = v; first = x .first; second = x .second }
 
-unfoldable pub childOf : ℕ → List (List ℕ) → ℕ → Record → ℕ → Record
-childOf n t k b s =
+-- b is at the place of its last stop
+unfoldable pub childOf : Setting → Table → Record → ℕ → Record
+childOf d t b s =
     bounded
-    (b .path + rowLeg t (lastStop b) s + ahead k (legs t) s (stopsIn (restOf n b - 2 ^ (s - 1))))
-    (extended b s (rowLeg t (lastStop b) s))
+    (b .path + reckonOn t .further (lastStop b) s
+    + reckonOn t .ahead (d .bound) (reckonOn t .after (lastStop b) s) (stopsIn (restOf d b - 2 ^ (s - 1))))
+    (extended b s (reckonOn t .further (lastStop b) s))
 
-unfoldable pub childrenOf : ℕ → List (List ℕ) → ℕ → Record → List Record
-childrenOf n t k b = map (childOf n t k b) (stopsIn (restOf n b))
+unfoldable pub childrenOf : Setting → Table → Record → List Record
+childrenOf d t b = map (childOf d t b) (stopsIn (restOf d b))
 
-unfoldable pub rootOf : ℕ → List (List ℕ) → ℕ → Record
-rootOf n t k = bounded (ahead k (legs t) 0 (stopsIn (2 ^ n - 1))) emptyRecord
+unfoldable pub rootOf : Setting → Table → Record
+rootOf d t = bounded (reckonOn t .ahead (d .bound) 0 (stopsIn (2 ^ d .n - 1))) emptyRecord
 
-unfoldable pub recProblem : ℕ → List (List ℕ) → ℕ → Problem Record
-recProblem n t k = record {
-  root = rootOf n t k;
-  children = childrenOf n t k;
-  complete = λ x. eqb (x .size) n;
+unfoldable pub recProblem : Setting → Table → Problem Record
+recProblem d t = record {
+  root = rootOf d t;
+  children = childrenOf d t;
+  complete = λ x. eqb (x .size) (d .n);
   cost = λ x. x .bound;
   dominates = recDominates;
   above = aboveEveryCost;
 }
 
-unfoldable pub recChoices : ℕ → ℕ → Choices Record
-recChoices selection rules = record { selection = selection; rules = rules; bound = λ x. x .bound }
+unfoldable pub recChoices : Setting → Choices Record
+recChoices d = record { selection = d .selection; rules = d .rules; bound = λ x. x .bound }
 
-pub record Encoded (n : ℕ) (t : List (List ℕ)) (k : ℕ) (b : Record) : Type 0 where
+pub record Encoded (d : Setting) (t : Table) (b : Record) : Type 0 where
   pub node : Node
-  pub partial : Partial n node
-  pub same : b ≡ encode n (legs t) k node
+  pub partial : Partial (d .n) node
+  pub same : b ≡ encodeOf d t node
+
+-- place is b's last stop, rest the stops that it leaves, and s one of them
+pub record Kid (d : Setting) (t : Table) (b : Record) (place rest s : ℕ) : Type 0 where
+  pub rows : Rows d t
+  pub encoded : Encoded d t b
+  pub at : place ≡ lastStop b
+  pub leaves : rest ≡ restOf d b
+  pub stop : In s (stopsIn rest)
 
 abbrev pub IsBest : Best → Option Record → Type 0
 IsBest b none = (b .upper ≡ aboveEveryCost) × (b .first ≡ 0) × (b .second ≡ 0)
 IsBest b (some x) = (b .upper ≡ x .bound) × (b .first ≡ x .first) × (b .second ≡ x .second)
+
+-- of the pool's records the first are active, and the last were branched before; the one at i is branched now
+abbrev pub othersIn : List Record → ℕ → ℕ → List Record
+othersIn recs active i = dropAt i (take active recs)
+
+abbrev pub farIn : List Record → ℕ → List Record
+farIn recs far = drop (length recs - far) recs
+
+-- a spot in the pool's records; the first m kids are near its node's set
+pub record Spotted (recs : List Record) (p : Spot) (kids : List Record) (m : ℕ) : Type 0 where
+  pub whole : p .capacity ≡ length recs
+  pub inside : p .at < p .active
+  pub front : p .active ≤ length recs
+  pub back : p .far ≤ length recs
+  pub few : m ≤ length kids
+  pub near : AllNear (p .size) (p .base) (take m kids)
 
 -- a rule's pass, if the rule is on
 abbrev pub passing : Bool → (Record → Bool) → List Record → List Record
@@ -83,6 +131,12 @@ passing true test xs = keep test xs
 passing false test xs = xs
 
 unfoldable pub survivorsOf : ℕ → ℕ → List Record → List Record → List Record → List Record
-survivorsOf rules limit rest far kids =
-    passing (on 4 rules) (isFree aboveEveryCost far)
-    (passing (on 2 rules) (isFree limit rest) (passing (on 1 rules) (isWithin limit) kids))
+survivorsOf rules limit others far kids =
+    passing (on 4 rules) (isFree noLimit far)
+    (passing (on 2 rules) (isFree limit others) (passing (on 1 rules) (isWithin limit) kids))
+
+-- the first r of kids are the survivors of m children
+pub record Surviving (rules limit : ℕ) (others far born : List Record) (m : ℕ) (kids : List Record) (r : ℕ) : Type 0 where
+  pub front : take r kids ≡ survivorsOf rules limit others far born
+  pub fewer : r ≤ m
+  pub count : r ≡ length (survivorsOf rules limit others far born)

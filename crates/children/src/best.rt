@@ -3,19 +3,22 @@ ghost use mathlib.Core.Path.{_≡_};
 ghost use mathlib.Core.List.{[], _∷_};
 ghost use mathlib.Core.Logic.{_⊎_};
 ghost use mathlib.Core.Option.{Option, Option·map};
-ghost use Prim.Native.Nat.{ℕ, _≤_};
+ghost use Prim.Native.Nat.{_≤_};
 ghost use lib.ListN.{length, take};
 ghost use Rattle.lists.specs.Lists.{In};
 ghost use Rattle.search.specs.Step.{learn};
 ghost use Rattle.stops.specs.declared.node_record.Record.{Record};
 ghost use Rattle.orders.specs.Orders.{Order};
-ghost use Rattle.stops.specs.Legs.{legs};
-ghost use Rattle.records.specs.Code.{records, encode};
+ghost use Rattle.records.specs.Code.{records};
 ghost use Rattle.answer.specs.Answer.{given};
-ghost use Rattle.children.specs.Code.{Table, IsBest, recProblem, Rows};
+ghost use Rattle.children.specs.Code.{Table, IsBest, recProblem, encodeOf, Rows};
+use crate::setting::Setting;
 use records::load;
+use sizes::ABOVE_EVERY_COST;
+use sizes::PLACES;
+use stops::bound::ahead;
 use stops::node_record::Record;
-use stops::table::leg;
+use stops::table::further;
 
 // The cost of the best order known, and its two words; the largest number and zeros if none is known.
 pub struct Best {
@@ -25,10 +28,10 @@ pub struct Best {
 }
 
 // A complete node cheaper than U replaces U and its order; an equal one does not.
-fn better(best: Best, x: Record, n: u32) -> Best
-    ensures { λ r. ⌜ ((t : Table) (k : ℕ) (o : Option Record) → IsBest best o → IsBest r (learn (recProblem n t k) o (x ∷ []))) ⌝ }
+fn better(setting: Setting, best: Best, x: Record) -> Best
+    ensures { λ r. ⌜ ((t : Table) (o : Option Record) → IsBest best o → IsBest r (learn (recProblem setting t) o (x ∷ []))) ⌝ }
 {
-    if x.size != n {
+    if x.size != setting.n {
         return best;
     }
     if best.upper <= x.bound {
@@ -42,31 +45,31 @@ fn better(best: Best, x: Record, n: u32) -> Best
 }
 
 // Part 2 of a step, over the first m children, which are all of one size.
-pub fn learn(kids: &[u32], m: usize, n: u32, size: u32, best: Best) -> Best
+pub fn learn(setting: Setting, kids: &[u32], m: usize, size: u32, best: Best) -> Best
     requires { ⌜ (m ≤ length (records (now kids))) × ((x : Record) → In x (take m (records (now kids))) → x .size ≡ size) ⌝ }
-    ensures { λ r. ⌜ ((t : Table) (k : ℕ) (o : Option Record) → IsBest best o → IsBest r (learn (recProblem n t k) o (take m (records (now (kids .entry)))))) ⌝ }
+    ensures { λ r. ⌜ ((t : Table) (o : Option Record) → IsBest best o → IsBest r (learn (recProblem setting t) o (take m (records (now (kids .entry)))))) ⌝ }
 {
-    if size != n {
+    if size != setting.n {
         return best;
     }
     let mut known = best;
     let mut k = 0;
     while k < m {
         let x = load(kids, k);
-        known = better(known, x, n);
+        known = better(setting, known, x);
         k += 1;
     }
     known
 }
 
 // The starting order as the best known: its cost and words, or none if it is empty.
-pub fn started(t: [[u32; 17]; 17], n: u32, start: &[u8]) -> Best
-    requires { ⌜ Rows n t 0 × ((now start ≡ []) ⊎ Order n (now start)) ⌝ }
-    ensures { λ r. ⌜ ((k : ℕ) → k ≤ 1 → IsBest r (Option·map (encode n (legs t) k) (given (now (start .entry))))) ⌝ }
+pub fn started(setting: Setting, t: [[u32; PLACES]; PLACES], start: &[u8]) -> Best
+    requires { ⌜ Rows setting t × ((now start ≡ []) ⊎ Order (setting .n) (now start)) ⌝ }
+    ensures { λ r. ⌜ IsBest r (Option·map (encodeOf setting t) (given (now (start .entry)))) ⌝ }
 {
     if start.len() == 0 {
         return Best {
-            upper: 4_294_967_295,
+            upper: ABOVE_EVERY_COST,
             first: 0,
             second: 0,
         };
@@ -76,12 +79,12 @@ pub fn started(t: [[u32; 17]; 17], n: u32, start: &[u8]) -> Best
     let mut k = 0;
     while k < start.len() {
         let s = start[k] as u32;
-        x = x.extended(s, leg(&t, place, s));
+        x = x.extended(s, further(&t, place, s));
         place = s;
         k += 1;
     }
     Best {
-        upper: x.path + leg(&t, place, 0),
+        upper: x.path + ahead(&t, 0, place, 0),
         first: x.first,
         second: x.second,
     }

@@ -3,4 +3,7 @@
 // crates meet.
 pub mod best;
 pub mod family;
+pub mod rules;
+pub mod setting;
+pub mod spot;
 pub mod survivors;

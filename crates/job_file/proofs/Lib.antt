@@ -1,3 +1,4 @@
 pub mod AcceptLaws
 pub mod WriterLaws
 pub mod Returns
+pub mod RewriteLaws

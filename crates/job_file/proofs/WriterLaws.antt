@@ -1,9 +1,8 @@
 -- Laws behind the functions of the writer.
 --   trailer-written    the trailer, byte by byte
---   table-small        the starting order's place fits 32 bits
+--   table-small        the starting order's place is a word
 --   lent-written       a part of the buffer, behind what is written, is lent and comes back written
 --   parts-written      the three parts of a file
--- Assumes nothing.
 use mathlib.Core.Path.{_≡_, refl, ap, _∙_}
 use mathlib.Core.List.{List, [], _++_, append-nil}
 use Prim.Native.Nat.{ℕ, _+_, _*_, _-_, _≤_}
@@ -12,25 +11,25 @@ use lib.ListN.{length, set, length-append}
 use lib.Seq.{sets, drop-length}
 use borrow.Rule.Slice.PartMut.{midOf, putMid, post-is}
 use Rattle.stops.proofs.RowLaws.{part-from}
+use Rattle.sizes.specs.Sizes.{mostStops, tableNumbers}
 use Rattle.lists.specs.Lists.{each}
-use Rattle.job_format.specs.Bytes.{number, overwrite}
-use Rattle.job_format.specs.Job.{area, trailerOf, trailerBytes, bytesOf}
-use Rattle.job_file.specs.Promise.{jobOf}
+use Rattle.answer.specs.declared.Job.{Job}
+use Rattle.job_format.specs.Bytes.{word, overwrite}
+use Rattle.job_format.specs.Contents.{contentsOf, trailerLength, area, trailerOf, trailerBytes, bytesOf}
 use Rattle.job_file.specs.Code.{trailerBy, Fits}
-use Rattle.job_format.proofs.ByteLaws.{overwrite-next, overwrite-behind, length-overwrite, length-each-number}
+use Rattle.job_format.proofs.ByteLaws.{overwrite-next, overwrite-behind, length-overwrite, length-each-word}
 use Rattle.job_format.proofs.LayoutLaws.{area-small}
 
 pub trailer-written :
-    (buffer : List ℕ) (place n len selection rules bound : ℕ) → 13 ≤ length buffer
-    → set (set (set (set (set (sets (sets buffer 0 (number 0)) 4 (number place)) 8 n) 9 len) 10 selection) 11 rules) 12 bound
-    ≡ overwrite (trailerBytes (trailerBy place n len selection rules bound)) buffer
-unfolding number trailerBytes trailerBy overwrite
-trailer-written buffer place n len selection rules bound h =
-    let bytes : List ℕ = trailerBytes (trailerBy place n len selection rules bound) in
+    (buffer : List ℕ) (place : ℕ) (job : Job) (stops : ℕ) → trailerLength ≤ length buffer
+    → set (set (set (set (set (sets (sets buffer 0 (word 0)) 4 (word place)) 8 (job .n)) 9 stops) 10 (job .selection)) 11 (job .rules)) 12 (job .bound)
+    ≡ overwrite (trailerBytes (trailerBy place job stops)) buffer
+unfolding word trailerBytes trailerBy overwrite
+trailer-written buffer place job stops h =
+    let bytes : List ℕ = trailerBytes (trailerBy place job stops) in
     overwrite-next [] bytes bytes buffer 0 refl refl (omega arith)
 
--- the starting order's place fits 32 bits
-pub table-small : (n : ℕ) (table : List ℕ) → n ≤ 16 → length table ≡ area n → length table ≤ 289
+pub table-small : (n : ℕ) (table : List ℕ) → n ≤ mostStops → length table ≡ area n → length table ≤ tableNumbers
 table-small n table h e = omega (arith, area-small n h)
 
 lent-written :
@@ -40,7 +39,7 @@ lent-written xs ys buffer w v place e h f g =
     let within : place ≤ length w = omega (arith, ap length f, length-overwrite xs buffer (omega arith)) in
     rw (post-is place (length w) w within, drop-length w, append-nil, g, part-from place w, f, ← e) (overwrite-behind xs ys buffer)
 
-module _ (n : ℕ) (table : List ℕ) (selection rules bound : ℕ) (start buffer : List ℕ) where
+module _ (job : Job) (table start buffer : List ℕ) where
   -- where the starting order begins, and where it ends
   abbrev place : ℕ
   place = 4 * length table
@@ -48,21 +47,19 @@ module _ (n : ℕ) (table : List ℕ) (selection rules bound : ℕ) (start buffe
   abbrev end : ℕ
   end = place + length start
 
-  trailer-is :
-      length table ≡ area n
-      → trailerBy place n (length start) selection rules bound ≡ trailerOf (jobOf n table selection rules bound start)
-  unfolding trailerBy trailerOf jobOf
+  trailer-is : length table ≡ area (job .n) → trailerBy place job (length start) ≡ trailerOf (contentsOf job table start)
+  unfolding trailerBy trailerOf contentsOf
   trailer-is square = rw square
 
   pub parts-written :
-      Fits n table selection rules bound start buffer → (w v w′ v′ : List ℕ) → w ≡ overwrite (each number table) buffer
+      Fits job table start buffer → (w v w′ v′ : List ℕ) → w ≡ overwrite (each word table) buffer
       → v ≡ overwrite start (midOf place (length w - place) w) → w′ ≡ putMid place (length w - place) w v
-      → v′ ≡ overwrite (trailerBytes (trailerBy place n (length start) selection rules bound)) (midOf end (length w′ - end) w′)
-      → putMid end (length w′ - end) w′ v′ ≡ overwrite (bytesOf (jobOf n table selection rules bound start)) buffer
-  unfolding bytesOf jobOf
+      → v′ ≡ overwrite (trailerBytes (trailerBy place job (length start))) (midOf end (length w′ - end) w′)
+      → putMid end (length w′ - end) w′ v′ ≡ overwrite (bytesOf (contentsOf job table start)) buffer
+  unfolding bytesOf contentsOf
   parts-written fits w v w′ v′ e f g h =
-      let t : List ℕ = each number table in
-      let long : length t ≡ place = length-each-number table in
+      let t : List ℕ = each word table in
+      let long : length t ≡ place = length-each-word table in
       let room : end ≤ length buffer = omega (arith, fits .room, fits .square) in
       let both : length (t ++ start) ≡ end = omega (arith, length-append t start) in
       let written : w′ ≡ overwrite (t ++ start) buffer = g ∙ lent-written t start buffer w v place long (omega arith) e f in

@@ -1,37 +1,34 @@
-// The reader: from the bytes of a file to a job, or to the number of the first cause against it.
+// The reader: from the bytes of a file to what it holds, or to the number of the first cause against it.
 ghost use mathlib.Core.Path.{_≡_};
-ghost use mathlib.Core.List.{[]};
 ghost use Prim.Native.Nat.{_*_, _≤_};
-ghost use lib.ListN.{length, getD};
+ghost use lib.ListN.{length};
+ghost use Rattle.sizes.specs.Sizes.{mostStops, tableNumbers, orderPlaces};
 ghost use Rattle.records.specs.Records.{padded};
-ghost use Rattle.sizes.specs.Sizes.{orderPlaces};
-ghost use Rattle.answer.specs.Call.{callOf};
-ghost use Rattle.answer.specs.Checks.{cause₁};
-ghost use Rattle.job_format.specs.Reader.{numbersIn, trailerFrom, jobBy, misplaced, refusal, read};
-ghost use Rattle.job_format.specs.Bytes.{numberBytes};
-ghost use Rattle.job_format.specs.Job.{trailerLength, area};
-ghost use Rattle.job_file.specs.Promise.{tablePlaces, returned};
+ghost use Rattle.job_format.specs.Bytes.{wordBytes};
+ghost use Rattle.job_format.specs.Contents.{trailerLength};
+ghost use Rattle.job_format.specs.Reader.{wordsIn, trailerFrom, contentsBy, misplaced, refusal, read};
+ghost use Rattle.job_file.specs.Promise.{returned};
 ghost use Rattle.job_file.specs.Code.{checked, Laid};
-use crate::LONGEST;
-use crate::NUMBER;
-use crate::ORDER;
-use crate::TABLE;
-use crate::TRAILER;
-use bytes::number_at;
-use bytes::put_bytes;
-use bytes::wide;
+use crate::bytes::put_bytes;
+use crate::bytes::wide;
+use crate::bytes::word_at;
+use crate::layout::TRAILER_BYTES;
+use crate::layout::WORD_BYTES;
+use crate::layout::area;
+use answer::Job;
 use checks::job_cause;
+use checks::wrong_n;
+use sizes::LONGEST;
+use sizes::ORDER_PLACES;
+use sizes::TABLE_NUMBERS;
 
-// What the reader hands back: a number and a job, with zeros in unused places.
+// What the reader hands back: a number, and what the file holds, with zeros in unused places.
 #[repr(C)]
 pub struct Reading {
     pub number: u32,
-    pub n: u32,
-    pub table: [u32; TABLE],
-    pub selection: u32,
-    pub rules: u32,
-    pub bound: u32,
-    pub start: [u8; ORDER],
+    pub job: Job,
+    pub table: [u32; TABLE_NUMBERS],
+    pub start: [u8; ORDER_PLACES],
     // of the starting order: 0 or n
     pub stops: u32,
 }
@@ -40,104 +37,100 @@ pub struct Reading {
 fn refused(number: u32) -> Reading
     ensures { λ r. ⌜ r ≡ returned (refusal number) ⌝ }
 {
-    Reading {
-        number,
+    let job = Job {
         n: 0,
-        table: [0u32; TABLE],
         selection: 0,
         rules: 0,
         bound: 0,
-        start: [0u8; ORDER],
+    };
+    Reading {
+        number,
+        job,
+        table: [0u32; TABLE_NUMBERS],
+        start: [0u8; ORDER_PLACES],
         stops: 0,
     }
 }
 
-// The first numbers of a file, with zeros behind.
-fn table_of(file: &[u8], count: usize) -> [u32; TABLE]
-    requires { ⌜ (count ≤ tablePlaces) × (numberBytes * count ≤ length (now file)) ⌝ }
-    ensures { λ r. ⌜ r ≡ padded tablePlaces (numbersIn count (now (file .entry))) ⌝ }
+// The first words of a file, with zeros behind.
+fn table_of(file: &[u8], count: usize) -> [u32; TABLE_NUMBERS]
+    requires { ⌜ (count ≤ tableNumbers) × (wordBytes * count ≤ length (now file)) ⌝ }
+    ensures { λ r. ⌜ r ≡ padded tableNumbers (wordsIn count (now (file .entry))) ⌝ }
 {
-    let mut table = [0u32; TABLE];
+    let mut table = [0u32; TABLE_NUMBERS];
     let mut k = 0;
     while k < count {
-        table[k] = number_at(file, NUMBER * k);
+        table[k] = word_at(file, WORD_BYTES * k);
         k += 1;
     }
     table
 }
 
 // A starting order, with zeros behind.
-fn start_of(order: &[u8]) -> [u8; ORDER]
+fn start_of(order: &[u8]) -> [u8; ORDER_PLACES]
     requires { ⌜ length (now order) ≤ orderPlaces ⌝ }
     ensures { λ r. ⌜ r ≡ padded orderPlaces (now (order .entry)) ⌝ }
 {
-    let mut start = [0u8; ORDER];
+    let mut start = [0u8; ORDER_PLACES];
     put_bytes(order, &mut start);
     start
 }
 
-// (n+1) squared: how many numbers the table has.
-fn area(n: u32) -> usize
-    requires { ⌜ n ≤ 16 ⌝ }
-    ensures { λ r. ⌜ (r ≡ area n) × (r ≤ tablePlaces) ⌝ }
+// The job of a trailer.
+fn job_of(trailer: &[u8]) -> Job
+    requires { ⌜ length (now trailer) ≡ trailerLength ⌝ }
+    ensures { λ r. ⌜ r ≡ trailerFrom (now (trailer .entry)) .job ⌝ }
 {
-    let side = (n + 1) as usize;
-    side * side
+    let n = wide(trailer[8]);
+    let selection = wide(trailer[10]);
+    let rules = wide(trailer[11]);
+    let bound = wide(trailer[12]);
+    Job {
+        n,
+        selection,
+        rules,
+        bound,
+    }
 }
 
 // Whether the length of a file or the places in its trailer are not those of the layout for n stops.
 fn misplaced(trailer: &[u8], n: u32, len: usize) -> bool
-    requires { ⌜ (length (now trailer) ≡ trailerLength) × ((n ≡ getD (now trailer) 8 0) × (n ≤ 16)) ⌝ }
+    requires { ⌜ (length (now trailer) ≡ trailerLength) × ((n ≡ trailerFrom (now trailer) .job .n) × (n ≤ mostStops)) ⌝ }
     ensures { λ r. ⌜ r ≡ misplaced (trailerFrom (now (trailer .entry))) len ⌝ }
 {
-    let place = NUMBER * area(n);
-    if number_at(trailer, 0) != 0 {
+    let place = WORD_BYTES * area(n);
+    if word_at(trailer, 0) != 0 {
         return true;
     }
-    if number_at(trailer, NUMBER) as usize != place {
+    if word_at(trailer, WORD_BYTES) as usize != place {
         return true;
     }
-    if len != place + wide(trailer[9]) as usize + TRAILER {
+    if len != place + wide(trailer[9]) as usize + TRAILER_BYTES {
         return true;
     }
     LONGEST < len
 }
 
-// Whether cause 1 applies, by the planner's own check: of a job without a table it answers 1 or 2.
-fn wrong_n(n: u32) -> bool
-    ensures { λ r. ⌜ r ≡ cause₁ (callOf n [] 0 0 0 [] []) ⌝ }
-{
-    let table = [0u32; 0];
-    let start = [0u8; 0];
-    job_cause(n, &table, 0, 0, 0, &start) == 1
-}
-
-// The job of a file whose length and places are those of the layout, or the number of the first of causes 3 to 5.
-fn accept(file: &[u8], trailer: &[u8], n: u32) -> Reading
-    requires { ⌜ Laid (now file) (now trailer) n ⌝ }
-    ensures { λ r. ⌜ r ≡ returned (checked (jobBy (trailerFrom (now (trailer .entry))) (now (file .entry)))) ⌝ }
+// What a file holds whose length and places are those of the layout, or the number of the first of causes 3 to 5.
+fn accept(file: &[u8], trailer: &[u8], job: Job) -> Reading
+    requires { ⌜ Laid (now file) (now trailer) job ⌝ }
+    ensures { λ r. ⌜ r ≡ returned (checked (contentsBy (trailerFrom (now (trailer .entry))) (now (file .entry)))) ⌝ }
 {
     let stops = wide(trailer[9]);
-    let selection = wide(trailer[10]);
-    let rules = wide(trailer[11]);
-    let bound = wide(trailer[12]);
-    let count = area(n);
+    let count = area(job.n);
     let table = table_of(file, count);
-    let from = NUMBER * count;
+    let from = WORD_BYTES * count;
     let to = from + stops as usize;
     let order = &file[from..to];
-    let number = job_cause(n, &table[..count], selection, rules, bound, order);
+    let number = job_cause(job, &table[..count], order);
     if number != 0 {
         return refused(number);
     }
     let start = start_of(order);
     Reading {
         number: 0,
-        n,
+        job,
         table,
-        selection,
-        rules,
-        bound,
         start,
         stops,
     }
@@ -147,17 +140,17 @@ fn accept(file: &[u8], trailer: &[u8], n: u32) -> Reading
 pub fn read(file: &[u8]) -> Reading
     ensures { λ r. ⌜ r ≡ returned (read (now (file .entry))) ⌝ }
 {
-    if file.len() < TRAILER {
+    if file.len() < TRAILER_BYTES {
         return refused(8);
     }
-    let end = file.len() - TRAILER;
+    let end = file.len() - TRAILER_BYTES;
     let trailer = &file[end..];
-    let n = wide(trailer[8]);
-    if wrong_n(n) {
+    let job = job_of(trailer);
+    if wrong_n(job.n) {
         return refused(1);
     }
-    if misplaced(trailer, n, file.len()) {
+    if misplaced(trailer, job.n, file.len()) {
         return refused(9);
     }
-    accept(file, trailer, n)
+    accept(file, trailer, job)
 }

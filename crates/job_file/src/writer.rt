@@ -1,16 +1,18 @@
-// The writer: from a job to the bytes of its file at the front of a buffer, or to the number of the first cause against it.
+// The writer: from a job, a table and a starting order to the bytes of their file at the front of a buffer, or to the number of the first cause
+// against them.
 ghost use mathlib.Core.Path.{_≡_};
 ghost use Prim.Native.Nat.{_*_, _≤_};
 ghost use lib.ListN.{length};
 ghost use Rattle.lists.specs.Lists.{each};
-ghost use Rattle.job_format.specs.Bytes.{numberBytes, number, overwrite};
-ghost use Rattle.job_format.specs.Job.{trailerLength, trailerBytes, bytesOf};
-ghost use Rattle.job_file.specs.Promise.{jobOf, Promised};
-ghost use Rattle.job_file.specs.Code.{trailerBy, Fits};
-use crate::NUMBER;
-use crate::TRAILER;
-use bytes::put_bytes;
-use bytes::put_number;
+ghost use Rattle.job_format.specs.Bytes.{wordBytes, word, overwrite};
+ghost use Rattle.job_format.specs.Contents.{contentsOf, trailerLength, trailerBytes, bytesOf};
+ghost use Rattle.job_file.specs.Promise.{Promised};
+ghost use Rattle.job_file.specs.Code.{trailerBy, Small, Fits};
+use crate::bytes::put_bytes;
+use crate::bytes::put_word;
+use crate::layout::TRAILER_BYTES;
+use crate::layout::WORD_BYTES;
+use answer::Job;
 use checks::job_cause;
 
 // What the writer hands back: a number, and the length of the file.
@@ -22,81 +24,58 @@ pub struct Written {
 
 // Writes the table at the front of a buffer.
 fn put_table(table: &[u32], buffer: &mut [u8])
-    requires { ⌜ numberBytes * length (now table) ≤ length (now buffer) ⌝ }
-    ensures { λ u. ⌜ now (buffer .exit) ≡ overwrite (each number (now (table .entry))) (now (buffer .entry)) ⌝ }
+    requires { ⌜ wordBytes * length (now table) ≤ length (now buffer) ⌝ }
+    ensures { λ u. ⌜ now (buffer .exit) ≡ overwrite (each word (now (table .entry))) (now (buffer .entry)) ⌝ }
 {
     let mut k = 0;
     while k < table.len() {
-        put_number(buffer, NUMBER * k, table[k]);
+        put_word(buffer, WORD_BYTES * k, table[k]);
         k += 1;
     }
 }
 
-// Writes a trailer at the front of a buffer.
-fn put_trailer(buffer: &mut [u8], place: u32, n: u8, len: u8, selection: u8, rules: u8, bound: u8)
-    requires { ⌜ trailerLength ≤ length (now buffer) ⌝ }
-    ensures { λ u. ⌜ now (buffer .exit) ≡ overwrite (trailerBytes (trailerBy place n len selection rules bound)) (now (buffer .entry)) ⌝ }
+// Writes a trailer at the front of a buffer: the place of the starting order, the job, and how many stops the starting order has.
+fn put_trailer(place: u32, job: Job, stops: u8, buffer: &mut [u8])
+    requires { ⌜ Small job × (trailerLength ≤ length (now buffer)) ⌝ }
+    ensures { λ u. ⌜ now (buffer .exit) ≡ overwrite (trailerBytes (trailerBy place job stops)) (now (buffer .entry)) ⌝ }
 {
-    put_number(buffer, 0, 0);
-    put_number(buffer, NUMBER, place);
-    buffer[8] = n;
-    buffer[9] = len;
-    buffer[10] = selection;
-    buffer[11] = rules;
-    buffer[12] = bound;
+    put_word(buffer, 0, 0);
+    put_word(buffer, WORD_BYTES, place);
+    buffer[8] = job.n as u8;
+    buffer[9] = stops;
+    buffer[10] = job.selection as u8;
+    buffer[11] = job.rules as u8;
+    buffer[12] = job.bound as u8;
 }
 
-// Writes the file of a job at the front of a buffer.
-fn put_file(
-    n: u32,
-    table: &[u32],
-    selection: u32,
-    rules: u32,
-    bound: u32,
-    start: &[u8],
-    buffer: &mut [u8],
-)
-    requires { ⌜ Fits n (now table) selection rules bound (now start) (now buffer) ⌝ }
-    ensures { λ u. ⌜ now (buffer .exit) ≡ overwrite (bytesOf (jobOf n (now (table .entry)) selection rules bound (now (start .entry)))) (now (buffer .entry)) ⌝ }
+// Writes a file at the front of a buffer.
+fn put_file(job: Job, table: &[u32], start: &[u8], buffer: &mut [u8])
+    requires { ⌜ Fits job (now table) (now start) (now buffer) ⌝ }
+    ensures { λ u. ⌜ now (buffer .exit) ≡ overwrite (bytesOf (contentsOf job (now (table .entry)) (now (start .entry)))) (now (buffer .entry)) ⌝ }
 {
-    let place = NUMBER * table.len();
+    let place = WORD_BYTES * table.len();
     let end = place + start.len();
     put_table(table, buffer);
     put_bytes(start, &mut buffer[place..]);
-    put_trailer(
-        &mut buffer[end..],
-        place as u32,
-        n as u8,
-        start.len() as u8,
-        selection as u8,
-        rules as u8,
-        bound as u8,
-    );
+    put_trailer(place as u32, job, start.len() as u8, &mut buffer[end..]);
 }
 
-// Writes a job file. What it answers and leaves in the buffer is what document 01's layout and causes give, for every job and buffer.
-pub fn write(
-    n: u32,
-    table: &[u32],
-    selection: u32,
-    rules: u32,
-    bound: u32,
-    start: &[u8],
-    buffer: &mut [u8],
-) -> Written
-    ensures { λ r. ⌜ Promised (jobOf n (now (table .entry)) selection rules bound (now (start .entry))) (now (buffer .entry)) r (now (buffer .exit)) ⌝ }
+// Writes a job file. What it answers and leaves in the buffer is what document 01's layout and causes give, for every job, table, starting
+// order and buffer.
+pub fn write(job: Job, table: &[u32], start: &[u8], buffer: &mut [u8]) -> Written
+    ensures { λ r. ⌜ Promised (contentsOf job (now (table .entry)) (now (start .entry))) (now (buffer .entry)) r (now (buffer .exit)) ⌝ }
 {
-    let number = job_cause(n, table, selection, rules, bound, start);
+    let number = job_cause(job, table, start);
     if number != 0 {
         return Written { number, length: 0 };
     }
-    let length = NUMBER * table.len() + start.len() + TRAILER;
+    let length = WORD_BYTES * table.len() + start.len() + TRAILER_BYTES;
     if buffer.len() < length {
         return Written {
             number: 10,
             length: 0,
         };
     }
-    put_file(n, table, selection, rules, bound, start, buffer);
+    put_file(job, table, start, buffer);
     Written { number: 0, length }
 }

@@ -2,11 +2,10 @@
 --   overwrite-none, overwrite-next, overwrite-one, length-overwrite, take-overwrite    a buffer whose front is written, a few bytes at a time
 --   overwrite-behind    a part of a buffer, behind what is written, is lent and written in its turn
 --   padded-overwrite, take-padded    an array of zeros whose front is written
---   take-next, numbers-next, table-next    the lists that the loops write, one element more
---   each-append, length-numbers, length-each-number    these lists in parts, and their lengths
---   four-bytes    the number at a place, byte by byte
+--   take-next, words-next, table-next    the lists that the loops write, one element more
+--   each-append, length-words, length-each-word    these lists in parts, and their lengths
+--   four-bytes    the word at a place, byte by byte
 --   value-bytes, bytes-value    a number and its bytes, least byte first: each way and back
--- Assumes nothing.
 use mathlib.Core.Path.{_≡_, refl, ap, sym, _∙_}
 use mathlib.Core.List.{List, [], _∷_, _++_, append-assoc, append-nil, List·Memᴰ·tail}
 use Prim.Native.Nat.{ℕ, zero, suc, _+_, _*_, _-_, _^_, _/_, _%_, _≤_, _<_}
@@ -18,8 +17,8 @@ use Rattle.lists.specs.Lists.{from, each}
 use Rattle.lists.proofs.Map.{map-from}
 use Rattle.lists.proofs.Members.{in-head, length-from}
 use Rattle.records.specs.Records.{padded}
-use Rattle.job_format.specs.Bytes.{leastFirst, valueOf, number, numberAt, overwrite, AllBytes}
-use Rattle.job_format.specs.Reader.{numbersIn}
+use Rattle.job_format.specs.Bytes.{leastFirst, valueOf, word, wordAt, overwrite, AllBytes}
+use Rattle.job_format.specs.Reader.{wordsIn}
 use Rattle.job_format.specs.Cases
 
 pub overwrite-none : (buffer : List ℕ) → buffer ≡ overwrite [] buffer
@@ -79,45 +78,45 @@ take-padded n xs = take-append-seam xs (zeros (n - length xs))
 pub take-next : (xs : List ℕ) (k : ℕ) → k < length xs → take (k + 1) xs ≡ take k xs ++ (getD xs k 0 ∷ [])
 take-next xs k h = rw add-one (take-suc xs k 0 h)
 
-pub numbers-next : (k : ℕ) (file : List ℕ) → numbersIn (k + 1) file ≡ numbersIn k file ++ (numberAt file (4 * k) ∷ [])
-unfolding numbersIn
-numbers-next k file = rw add-one (map-from (λ i. numberAt file (4 * i)) 0 k k (omega arith))
+pub words-next : (k : ℕ) (file : List ℕ) → wordsIn (k + 1) file ≡ wordsIn k file ++ (wordAt file (4 * k) ∷ [])
+unfolding wordsIn
+words-next k file = rw add-one (map-from (λ i. wordAt file (4 * i)) 0 k k (omega arith))
 
-pub length-numbers : (k : ℕ) (file : List ℕ) → length (numbersIn k file) ≡ k
-unfolding numbersIn
-length-numbers k file = length-map (from 0 k) (λ i. numberAt file (4 * i)) ∙ length-from 0 k
+pub length-words : (k : ℕ) (file : List ℕ) → length (wordsIn k file) ≡ k
+unfolding wordsIn
+length-words k file = length-map (from 0 k) (λ i. wordAt file (4 * i)) ∙ length-from 0 k
 
-pub length-each-number : (xs : List ℕ) → length (each number xs) ≡ 4 * length xs
-unfolding number
-length-each-number [] = omega arith
-length-each-number (x ∷ xs) = omega (arith, length-each-number xs)
+pub length-each-word : (xs : List ℕ) → length (each word xs) ≡ 4 * length xs
+unfolding word
+length-each-word [] = omega arith
+length-each-word (x ∷ xs) = omega (arith, length-each-word xs)
 
 pub each-append : (k : ℕ → List ℕ) (xs ys : List ℕ) → each k (xs ++ ys) ≡ each k xs ++ each k ys
 each-append k [] ys = refl
 each-append k (x ∷ xs) ys = rw (each-append k xs ys, append-assoc)
 
-each-next : (xs : List ℕ) (k : ℕ) → k < length xs → each number (take (k + 1) xs) ≡ each number (take k xs) ++ number (getD xs k 0)
+each-next : (xs : List ℕ) (k : ℕ) → k < length xs → each word (take (k + 1) xs) ≡ each word (take k xs) ++ word (getD xs k 0)
 each-next xs k h = rw (take-next xs k, each-append, append-nil)
 
-length-number : (x : ℕ) → length (number x) ≡ 4
-unfolding number
-length-number x = refl
+length-word : (x : ℕ) → length (word x) ≡ 4
+unfolding word
+length-word x = refl
 
 -- one turn of the loop that writes the table
 pub table-next :
     (table buffer : List ℕ) (k : ℕ) → k < length table → 4 * length table ≤ length buffer
-    → sets (overwrite (each number (take k table)) buffer) (4 * k) (number (getD table k 0)) ≡ overwrite (each number (take (k + 1) table)) buffer
+    → sets (overwrite (each word (take k table)) buffer) (4 * k) (word (getD table k 0)) ≡ overwrite (each word (take (k + 1) table)) buffer
 table-next table buffer k h fits =
-    let front : List ℕ = each number (take k table) in
-    let place : length front ≡ 4 * k = omega (arith, length-each-number (take k table), length-take-le k table (omega arith)) in
-    overwrite-next front _ _ buffer (4 * k) place (each-next table k h) (omega (arith, length-number (getD table k 0)))
+    let front : List ℕ = each word (take k table) in
+    let place : length front ≡ 4 * k = omega (arith, length-each-word (take k table), length-take-le k table (omega arith)) in
+    overwrite-next front _ _ buffer (4 * k) place (each-next table k h) (omega (arith, length-word (getD table k 0)))
 
 four-from :
     (bytes : List ℕ) (place : ℕ) → place + 4 ≤ length bytes
-    → numberAt bytes place
+    → wordAt bytes place
     ≡ getD bytes place 0
     + 256 * (getD bytes (suc place) 0 + 256 * (getD bytes (suc (suc place)) 0 + 256 * getD bytes (suc (suc (suc place))) 0))
-unfolding numberAt
+unfolding wordAt
 four-from [] place h = absurd (omega arith)
 four-from (a ∷ []) zero h = absurd (omega arith)
 four-from (a ∷ b ∷ []) zero h = absurd (omega arith)
@@ -127,7 +126,7 @@ four-from (a ∷ bytes) (suc place) h = four-from bytes place (omega arith)
 
 pub four-bytes :
     (bytes : List ℕ) (place : ℕ) → place + 4 ≤ length bytes
-    → numberAt bytes place
+    → wordAt bytes place
     ≡ getD bytes place 0 + 256 * (getD bytes (place + 1) 0 + 256 * (getD bytes (place + 2) 0 + 256 * getD bytes (place + 3) 0))
 four-bytes bytes place h = simp towards-suc (four-from bytes place h)
 

@@ -1,55 +1,43 @@
--- What holds of a job that checks 1 to 5 let pass, and of its bytes.
---   Passed, passed    its numbers are within their bounds
---   length-trailer, length-file, file-short    how long its file is
--- Assumes nothing.
-use mathlib.Core.Path.{_≡_, refl, ap, sym}
+-- What holds of contents that checks 1 to 5 let pass, and of their bytes.
+--   Passed, passed    each number is within its bounds
+--   length-trailer, length-file, file-short    how long the file is
+use mathlib.Core.Path.{_≡_, refl, ap}
 use mathlib.Core.List.{List, [], _++_, List·Memᴰ·not-nil}
 use mathlib.Core.Logic.{_⊎_, inl, inr}
-use Prim.Native.Nat.{ℕ, suc, _*_, _≤_}
-use native.Mathlib.Nat.{mul-le-mul}
+use Prim.Native.Nat.{ℕ, _*_, _≤_}
 use native.Mathlib.Omega.{arith}
-use lib.ListN.{length, replicate, length-append}
+use lib.ListN.{length, length-append}
+use Rattle.sizes.specs.Sizes.{mostStops, orderPlaces, dearest, longest}
 use Rattle.lists.specs.Lists.{In, each}
 use Rattle.orders.specs.Orders.{Order}
 use Rattle.orders.proofs.Order.{order-length}
-use Rattle.records.specs.Records.{recordsIn}
-use Rattle.answer.specs.Call.{Call, callOf}
-use Rattle.answer.specs.Checks.{cause₆, jobCause, cause}
-use Rattle.answer.proofs.Passes.{Passes, passes}
-use Rattle.answer.proofs.JobCause.{job-passes}
-use Rattle.job_format.specs.Bytes.{number, AllBytes}
-use Rattle.job_format.specs.Job.{Job, callFor, Trailer, trailerLength, area, trailerOf, trailerBytes, bytesOf, fileLength, longest}
-use Rattle.job_format.proofs.ByteLaws.{length-each-number}
+use Rattle.answer.proofs.Passes.{job-passed}
+use Rattle.job_format.specs.Bytes.{word, AllBytes}
+use Rattle.job_format.specs.Contents.{Contents, Trailer, trailerLength, area, trailerOf, trailerBytes, bytesOf, fileLength}
+use Rattle.job_format.specs.Demands.{Passes}
+use Rattle.job_format.proofs.ByteLaws.{length-each-word}
+use Rattle.job_format.proofs.LayoutLaws.{area-small}
 
-pub record Passed (j : Job) : Type 0 where
-  pub some : 1 ≤ j .n
-  pub few : j .n ≤ 16
-  pub square : length (j .table) ≡ area (j .n)
-  pub cheap : (w : ℕ) → In w (j .table) → w ≤ 1_000_000
-  pub selection : j .selection ≤ 3
-  pub rules : j .rules ≤ 15
-  pub bound : j .bound ≤ 1
-  pub short : length (j .start) ≤ 16
-  pub bytes : AllBytes (j .start)
+pub record Passed (c : Contents) : Type 0 where
+  pub some : 1 ≤ c .job .n
+  pub few : c .job .n ≤ mostStops
+  pub square : length (c .table) ≡ area (c .job .n)
+  pub cheap : (w : ℕ) → In w (c .table) → w ≤ dearest
+  pub selection : c .job .selection ≤ 3
+  pub rules : c .job .rules ≤ 15
+  pub bound : c .job .bound ≤ 1
+  pub short : length (c .start) ≤ orderPlaces
+  pub bytes : AllBytes (c .start)
 
--- an order of up to sixteen stops is as long as n says, and of bytes
-order-short : (n : ℕ) (x : List ℕ) → n ≤ 16 → (x ≡ []) ⊎ Order n x → (length x ≤ 16) × AllBytes x
+-- an order is as long as n says, and of bytes
+order-short : (n : ℕ) (x : List ℕ) → n ≤ mostStops → (x ≡ []) ⊎ Order n x → (length x ≤ orderPlaces) × AllBytes x
 order-short n x h (inl e) = rw e (omega arith, λ b m. absurd (List·Memᴰ·not-nil m))
 order-short n x h (inr o) = (omega (arith, order-length n x o), λ b m. omega (arith, o .only b m))
 
--- the job with a pool of one record: the call that the planner's own theorem speaks of
-withPool : Job → Call
-withPool j = callOf (j .n) (j .table) (j .selection) (j .rules) (j .bound) (j .start) (replicate 6 0)
-
-no-cause : (j : Job) → jobCause (callFor j) 0 ≡ 0 → cause (withPool j) ≡ 0
-unfolding callFor withPool callOf cause₆ recordsIn
-no-cause j e = job-passes (j .n) (j .table) (j .selection) (j .rules) (j .bound) (j .start) (replicate 6 0) 0 (sym e) refl
-
-pub passed : (j : Job) → jobCause (callFor j) 0 ≡ 0 → Passed j
-unfolding withPool callOf
-passed j e =
-    let p : Passes (withPool j) = passes (withPool j) (no-cause j e) in
-    let order = order-short (j .n) (j .start) (p .few) (p .start) in
+pub passed : (c : Contents) → Passes c → Passed c
+passed c e =
+    let p = job-passed (c .job) (c .table) (c .start) 0 e .0 in
+    let order = order-short (c .job .n) (c .start) (p .few) (p .start) in
     record {
       some = p .some;
       few = p .few;
@@ -63,19 +51,16 @@ passed j e =
     }
 
 pub length-trailer : (t : Trailer) → length (trailerBytes t) ≡ trailerLength
-unfolding trailerBytes number
+unfolding trailerBytes word
 length-trailer t = refl
 
-pub length-file : (j : Job) → length (j .table) ≡ area (j .n) → length (bytesOf j) ≡ fileLength (j .n) (length (j .start))
+pub length-file : (c : Contents) → length (c .table) ≡ area (c .job .n) → length (bytesOf c) ≡ fileLength (c .job .n) (length (c .start))
 unfolding bytesOf
-length-file j square =
-    let table : List ℕ = each number (j .table) in
-    let t : List ℕ = trailerBytes (trailerOf j) in
+length-file c square =
+    let table : List ℕ = each word (c .table) in
+    let t : List ℕ = trailerBytes (trailerOf c) in
     omega
-    (arith, length-append (table ++ j .start) t, length-append table (j .start), length-each-number (j .table), length-trailer (trailerOf j), ap (λ (k : ℕ). 4 * k) square)
+    (arith, length-append (table ++ c .start) t, length-append table (c .start), length-each-word (c .table), length-trailer (trailerOf c), ap (λ (k : ℕ). 4 * k) square)
 
--- "at most 1,185"
-pub file-short : (j : Job) → Passed j → length (bytesOf j) ≤ longest
-file-short j p =
-    let few : suc (j .n) ≤ 17 = omega (arith, p .few) in
-    omega (arith, length-file j (p .square), mul-le-mul few few, p .short)
+pub file-short : (c : Contents) → Passed c → length (bytesOf c) ≤ longest
+file-short c p = omega (arith, length-file c (p .square), area-small (c .job .n) (p .few), p .short)

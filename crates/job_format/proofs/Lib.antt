@@ -1,6 +1,6 @@
 pub mod ByteLaws
-pub mod JobLaws
 pub mod LayoutLaws
+pub mod JobLaws
 pub mod ReadLaws
 pub mod WriteLaws
 pub mod FileLaws

@@ -1,31 +1,32 @@
--- Numbers as bytes, and bytes behind which a buffer stays as it was: document 01, "Job file and program". Assumes nothing.
+-- Words as bytes, and bytes behind which a buffer stays as it was: document 01, "Job file and program". A word is a number of 32 bits.
 use mathlib.Core.List.{List, [], _∷_, _++_}
 use Prim.Native.Nat.{ℕ, zero, suc, _+_, _*_, _/_, _%_, _<_}
 use lib.ListN.{length, take, drop}
 use Rattle.lists.specs.Lists.{In}
 
--- "Numbers are least byte first": the lowest k bytes of a number ..
+-- the lowest k bytes of a number, the least of them first ..
 abbrev pub leastFirst : ℕ → ℕ → List ℕ
 leastFirst zero x = []
 leastFirst (suc k) x = x % 256 ∷ leastFirst k (x / 256)
 
--- .. and the number that some bytes make up.
+-- .. and the number that some bytes make up
 abbrev pub valueOf : List ℕ → ℕ
 valueOf [] = 0
 valueOf (b ∷ bs) = b + 256 * valueOf bs
 
--- a number of 32 bits has four bytes
-abbrev pub numberBytes : ℕ
-numberBytes = 4
+-- how many bytes a word has
+abbrev pub wordBytes : ℕ
+wordBytes = 4
 
-unfoldable pub number : ℕ → List ℕ
-number x = leastFirst numberBytes x
+-- the bytes of a word
+unfoldable pub word : ℕ → List ℕ
+word x = leastFirst wordBytes x
 
--- the number of 32 bits that begins at a place
-unfoldable pub numberAt : List ℕ → ℕ → ℕ
-numberAt bytes place = valueOf (take numberBytes (drop place bytes))
+-- the word that begins at a place
+unfoldable pub wordAt : List ℕ → ℕ → ℕ
+wordAt bytes place = valueOf (take wordBytes (drop place bytes))
 
--- some bytes at the front of a buffer; what is behind them stays: "The writer leaves bytes behind the file untouched."
+-- some bytes at the front of a buffer; what is behind them stays
 unfoldable pub overwrite : List ℕ → List ℕ → List ℕ
 overwrite bytes buffer = bytes ++ drop (length bytes) buffer
 

@@ -1,31 +1,34 @@
 -- Document 01's case l, and small cases of our own for each number that a file or a buffer can bring. The laws name this module, so that it
--- is checked before them: a wrong definition is met here first. Assumes nothing.
+-- is checked before them: a wrong definition is met here first.
 use mathlib.Core.Path.{_≡_, refl}
 use mathlib.Core.List.{List, [], _∷_, _++_, map}
 use Prim.Native.Nat.{ℕ}
 use lib.ListN.{length, replicate, take, drop}
+use Rattle.sizes.specs.Sizes.{mostStops, longest}
 use Rattle.lists.specs.Lists.{each}
 use Rattle.orders.specs.Orders.{flown, count, isOrder}
 use Rattle.stops.specs.Legs.{entry}
-use Rattle.answer.specs.Call.{callOf}
+use Rattle.answer.specs.declared.Job.{Job}
 use Rattle.answer.specs.Checks.{cause₁, cause₂, cause₃, cause₄, cause₅, jobCause}
 use Rattle.answer.specs.Cases.{tableT}
-use Rattle.job_format.specs.Bytes.{number, numberAt, overwrite}
-use Rattle.job_format.specs.Job.{Job, callFor, Trailer, trailerOf, trailerBytes, bytesOf, fileLength, longest}
-use Rattle.job_format.specs.Reader.{trailerFrom, trailerIn, numbersIn, jobBy, jobIn, misplaced, fileCause, refusal, readingBy, read}
+use Rattle.job_format.specs.Bytes.{word, wordAt, overwrite}
+use Rattle.job_format.specs.Contents.{Contents, Trailer, trailerOf, trailerBytes, bytesOf, fileLength}
+use Rattle.job_format.specs.Reader.{trailerFrom, trailerIn, wordsIn, contentsBy, contentsIn, misplaced, fileCause, refusal, readingBy, read}
 use Rattle.job_format.specs.Writer.{writeCause, writingBy, write}
 
--- a job by its parts
-abbrev job : ℕ → List ℕ → ℕ → ℕ → ℕ → List ℕ → Job
-job n table selection rules bound start =
-    record { n = n; table = table; selection = selection; rules = rules; bound = bound; start = start }
+abbrev job : ℕ → ℕ → ℕ → ℕ → Job
+job n selection rules bound = record { n = n; selection = selection; rules = rules; bound = bound }
 
--- the job of case a, with every definition that the cases rest on open
-a : Job
-unfolding flown count isOrder entry tableT cause₁ cause₂ cause₃ cause₄ cause₅ callOf jobCause number numberAt overwrite callFor trailerOf trailerBytes bytesOf trailerFrom trailerIn numbersIn jobBy jobIn misplaced fileCause refusal readingBy read writeCause writingBy write
-a = job 3 tableT 0 1 1 []
+-- contents by their parts
+abbrev contents : ℕ → List ℕ → ℕ → ℕ → ℕ → List ℕ → Contents
+contents n table selection rules bound start = record { job = job n selection rules bound; table = table; start = start }
 
--- l. "job a is 77 bytes; its trailer in hexadecimal is 00 00 00 00 40 00 00 00 03 00 00 01 01"
+-- what case a's file holds, with every definition that the cases rest on open
+a : Contents
+unfolding flown count isOrder entry tableT cause₁ cause₂ cause₃ cause₄ cause₅ jobCause word wordAt overwrite trailerOf trailerBytes bytesOf trailerFrom trailerIn wordsIn contentsBy contentsIn misplaced fileCause refusal readingBy read writeCause writingBy write
+a = contents 3 tableT 0 1 1 []
+
+-- l. Its length and its trailer.
 job-a-77-bytes : length (bytesOf a) ≡ 77
 unfolding a
 job-a-77-bytes = refl
@@ -36,16 +39,16 @@ job-a-trailer :
 unfolding a
 job-a-trailer = refl
 
-job-a-read : read (bytesOf a) ≡ record { number = 0; job = a }
+job-a-read : read (bytesOf a) ≡ record { number = 0; contents = a }
 unfolding a
 job-a-read = refl
 
--- "Numbers are least byte first": 1,000,000 is 0f 42 40 in hexadecimal.
-million-least-first : number 1_000_000 ≡ 0x40 ∷ 0x42 ∷ 0x0f ∷ 0x00 ∷ []
+-- The least byte of a word comes first: 1,000,000 is 0f 42 40 in hexadecimal.
+million-least-first : word 1_000_000 ≡ 0x40 ∷ 0x42 ∷ 0x0f ∷ 0x00 ∷ []
 unfolding a
 million-least-first = refl
 
-million-read : numberAt (9 ∷ 0x40 ∷ 0x42 ∷ 0x0f ∷ 0x00 ∷ 9 ∷ []) 1 ≡ 1_000_000
+million-read : wordAt (9 ∷ 0x40 ∷ 0x42 ∷ 0x0f ∷ 0x00 ∷ 9 ∷ []) 1 ≡ 1_000_000
 unfolding a
 million-read = refl
 
@@ -54,35 +57,32 @@ job-a-table : take 8 (bytesOf a) ≡ 0 ∷ 0 ∷ 0 ∷ 0 ∷ 4 ∷ 0 ∷ 0 ∷ 0
 unfolding a
 job-a-table = refl
 
--- The job of case e: the starting order stands behind the table, a byte a stop, and its length in the trailer.
-e : Job
-e = job 3 tableT 3 1 1 (1 ∷ 2 ∷ 3 ∷ [])
+-- Case e's file: the starting order stands behind the table, a byte a stop, and its length in the trailer.
+e : Contents
+e = contents 3 tableT 3 1 1 (1 ∷ 2 ∷ 3 ∷ [])
 
 job-e-start : drop 64 (bytesOf e) ≡ 1 ∷ 2 ∷ 3 ∷ 0 ∷ 0 ∷ 0 ∷ 0 ∷ 0x40 ∷ 0 ∷ 0 ∷ 0 ∷ 3 ∷ 3 ∷ 3 ∷ 1 ∷ 1 ∷ []
 unfolding a e
 job-e-start = refl
 
-job-e-read : read (bytesOf e) ≡ record { number = 0; job = e }
+job-e-read : read (bytesOf e) ≡ record { number = 0; contents = e }
 unfolding a e
 job-e-read = refl
 
--- "at most 1,185": sixteen stops and an order of them
-longest-job : fileLength 16 16 ≡ longest
+-- the longest file has the most stops and an order of them
+longest-job : fileLength mostStops mostStops ≡ longest
 longest-job = refl
 
 -- Case h's table in a file with some starting order and some trailer.
 abbrev file : List ℕ → Trailer → List ℕ
-file start t = each number (0 ∷ 3 ∷ 5 ∷ 0 ∷ []) ++ start ++ trailerBytes t
+file start t = each word (0 ∷ 3 ∷ 5 ∷ 0 ∷ []) ++ start ++ trailerBytes t
 
 abbrev trailer : ℕ → ℕ → ℕ → ℕ → ℕ → ℕ → ℕ → Trailer
 trailer tablePlace startPlace n startLength selection rules bound = record {
   tablePlace = tablePlace;
   startPlace = startPlace;
-  n = n;
+  job = job n selection rules bound;
   startLength = startLength;
-  selection = selection;
-  rules = rules;
-  bound = bound;
 }
 
 files-accepted :
@@ -129,8 +129,8 @@ too-long = refl
 -- 3, 4 and 5, the lowest first. A starting order neither empty nor of length n is 5 where the file's length fits it.
 later-causes :
     map fileCause
-    (bytesOf (job 1 (0 ∷ 1_000_001 ∷ 5 ∷ 0 ∷ []) 4 0 0 (2 ∷ []))
-    ∷ bytesOf (job 1 (0 ∷ 3 ∷ 5 ∷ 1 ∷ []) 4 0 0 (2 ∷ []))
+    (bytesOf (contents 1 (0 ∷ 1_000_001 ∷ 5 ∷ 0 ∷ []) 4 0 0 (2 ∷ []))
+    ∷ bytesOf (contents 1 (0 ∷ 3 ∷ 5 ∷ 1 ∷ []) 4 0 0 (2 ∷ []))
     ∷ file (2 ∷ []) (trailer 0 16 1 1 4 0 0)
     ∷ file [] (trailer 0 16 1 0 0 16 0)
     ∷ file [] (trailer 0 16 1 0 0 0 2)
@@ -141,16 +141,16 @@ later-causes :
 unfolding a
 later-causes = refl
 
--- "number, zeros"
-refusal-is-zeros : read (file (2 ∷ []) (trailer 0 16 1 1 3 15 1)) ≡ record { number = 5; job = job 0 [] 0 0 0 [] }
+-- A refusal is its number and zeros.
+refusal-is-zeros : read (file (2 ∷ []) (trailer 0 16 1 1 3 15 1)) ≡ record { number = 5; contents = contents 0 [] 0 0 0 [] }
 unfolding a
 refusal-is-zeros = refl
 
--- The job of case h with an order: 30 bytes.
-h : Job
-h = job 1 (0 ∷ 3 ∷ 5 ∷ 0 ∷ []) 2 1 0 (1 ∷ [])
+-- Case h with an order: 30 bytes.
+h : Contents
+h = contents 1 (0 ∷ 3 ∷ 5 ∷ 0 ∷ []) 2 1 0 (1 ∷ [])
 
--- "The writer leaves bytes behind the file untouched."
+-- The bytes behind the file stay.
 bytes-behind-stay : write h (replicate 33 7) ≡ record { number = 0; length = 30; buffer = bytesOf h ++ (7 ∷ 7 ∷ 7 ∷ []) }
 unfolding a h
 bytes-behind-stay = refl
@@ -166,18 +166,18 @@ one-byte-short = refl
 
 -- 1 to 5 come before 10, the lowest first.
 one-to-five-before-ten :
-    map (λ j. writeCause j [])
-    (job 0 [] 4 0 0 (2 ∷ [])
-    ∷ job 1 [] 4 0 0 (2 ∷ [])
-    ∷ job 1 (1 ∷ 3 ∷ 5 ∷ 0 ∷ []) 4 0 0 (2 ∷ [])
-    ∷ job 1 (0 ∷ 3 ∷ 5 ∷ 0 ∷ []) 4 0 0 (2 ∷ [])
-    ∷ job 1 (0 ∷ 3 ∷ 5 ∷ 0 ∷ []) 0 0 0 (2 ∷ [])
+    map (λ c. writeCause c [])
+    (contents 0 [] 4 0 0 (2 ∷ [])
+    ∷ contents 1 [] 4 0 0 (2 ∷ [])
+    ∷ contents 1 (1 ∷ 3 ∷ 5 ∷ 0 ∷ []) 4 0 0 (2 ∷ [])
+    ∷ contents 1 (0 ∷ 3 ∷ 5 ∷ 0 ∷ []) 4 0 0 (2 ∷ [])
+    ∷ contents 1 (0 ∷ 3 ∷ 5 ∷ 0 ∷ []) 0 0 0 (2 ∷ [])
     ∷ h
     ∷ [])
     ≡ 1 ∷ 2 ∷ 3 ∷ 4 ∷ 5 ∷ 10 ∷ []
 unfolding a h
 one-to-five-before-ten = refl
 
-refused-job-leaves-buffer : write (job 17 [] 0 0 0 []) (replicate 3 7) ≡ record { number = 1; length = 0; buffer = replicate 3 7 }
+refused-job-leaves-buffer : write (contents 17 [] 0 0 0 []) (replicate 3 7) ≡ record { number = 1; length = 0; buffer = replicate 3 7 }
 unfolding a
 refused-job-leaves-buffer = refl

@@ -1,5 +1,6 @@
 pub mod Bytes
-pub mod Job
+pub mod Contents
 pub mod Reader
 pub mod Writer
 pub mod Cases
+pub mod Demands

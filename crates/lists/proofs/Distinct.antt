@@ -1,14 +1,13 @@
 -- Laws of lists in which no element stands twice: when joined, mapped and `each` lists are distinct, and what taking one number out
--- does to a sum and a length. Assumes nothing.
+-- does to a sum and a length.
 use mathlib.Core.Path.{_≡_, refl, ap, sym, subst}
-use mathlib.Core.Bool.{not}
 use mathlib.Core.List.{List, [], _∷_, _++_, map, List·Memᴰ·head, List·Memᴰ·tail, List·Memᴰ·cases-cons, List·Memᴰ·not-nil, Memᴰ·append-right, List·Memᴰ·append-cases}
 use mathlib.Core.Logic.{_⊎_, inl, inr}
 use Prim.Native.Nat.{ℕ, suc, _+_}
 use native.Mathlib.Omega.{arith}
 use lib.Dec.{eqb, eqb-refl}
 use lib.ListN.{length}
-use Rattle.lists.specs.Lists.{In, keep, sum, each, Distinct, none, more}
+use Rattle.lists.specs.Lists.{In, sum, each, without, Distinct, none, more}
 use Rattle.lists.proofs.Tests.{to-true, to-false, ne-neqb}
 use Rattle.lists.proofs.Members.{in-head, in-map, in-each}
 use Rattle.lists.proofs.Numbers.{sum-const}
@@ -50,7 +49,7 @@ module _ {A B : Type 0} where
       go b i j = let (a, m, h) = in-each k xs b j in new (subst (λ (c : A). In c xs) (sym (shows x a b i h)) m)
 
 -- a number that does not stand in a list leaves nothing out
-pub without-absent : (s : ℕ) (xs : List ℕ) → (In s xs → ⊥) → keep (λ r. not (eqb s r)) xs ≡ xs
+pub without-absent : (s : ℕ) (xs : List ℕ) → (In s xs → ⊥) → without s xs ≡ xs
 without-absent s [] h = refl
 without-absent s (x ∷ xs) h =
     rw (to-false (eqb s x) (ne-neqb s x (λ e. h (List·Memᴰ·head e))))
@@ -58,16 +57,16 @@ without-absent s (x ∷ xs) h =
 
 -- a number that stands in it leaves out just its own share
 pub sum-without :
-    (f : ℕ → ℕ) (s : ℕ) {xs : List ℕ} → Distinct xs → In s xs → sum f xs ≡ f s + sum f (keep (λ r. not (eqb s r)) xs)
+    (f : ℕ → ℕ) (s : ℕ) {xs : List ℕ} → Distinct xs → In s xs → sum f xs ≡ f s + sum f (without s xs)
 sum-without f s none m = absurd (List·Memᴰ·not-nil m)
 sum-without f s (more {x} {xs} new d) m = go (List·Memᴰ·cases-cons m) (λ k. sum-without f s d k)
   where
     go :
-        (s ≡ x) ⊎ In s xs → (In s xs → sum f xs ≡ f s + sum f (keep (λ r. not (eqb s r)) xs))
-        → f x + sum f xs ≡ f s + sum f (keep (λ r. not (eqb s r)) (x ∷ xs))
+        (s ≡ x) ⊎ In s xs → (In s xs → sum f xs ≡ f s + sum f (without s xs))
+        → f x + sum f xs ≡ f s + sum f (without s (x ∷ xs))
     go (inl e) again = rw (e, to-true (eqb x x) (eqb-refl x), without-absent x xs new)
     go (inr k) again =
         rw (to-false (eqb s x) (ne-neqb s x (λ e. new (subst (λ (r : ℕ). In r xs) e k)))) (omega (arith, again k))
 
-pub length-without : (s : ℕ) {xs : List ℕ} → Distinct xs → In s xs → length xs ≡ suc (length (keep (λ r. not (eqb s r)) xs))
-length-without s {xs} d m = omega (arith, sum-without (λ r. 1) s d m, sum-const 1 xs, sum-const 1 (keep (λ r. not (eqb s r)) xs))
+pub length-without : (s : ℕ) {xs : List ℕ} → Distinct xs → In s xs → length xs ≡ suc (length (without s xs))
+length-without s {xs} d m = omega (arith, sum-without (λ r. 1) s d m, sum-const 1 xs, sum-const 1 (without s xs))

@@ -1,4 +1,4 @@
--- Laws of the empty list: a list with a member is not empty, and a list with none is. Assumes nothing.
+-- Laws of the empty list: a list with a member is not empty, and a list with none is.
 use mathlib.Core.Path.{_≡_, refl}
 use mathlib.Core.List.{List, [], _∷_, List·Memᴰ·head, List·Memᴰ·tail}
 use Prim.Native.Nat.{_≤_}

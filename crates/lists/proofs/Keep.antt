@@ -1,5 +1,5 @@
 -- Laws of `keep` and `any` as equations: equal tests keep the same elements, a test that all pass keeps all, two tests one after the
--- other are both at once, and `any` of joined lists. Assumes nothing.
+-- other are both at once, and `keep` and `any` of joined lists.
 use mathlib.Core.Path.{_≡_, refl, ap}
 use mathlib.Core.Bool.{Bool, true, false, _&&_, _||_}
 use mathlib.Core.List.{List, [], _∷_, _++_, List·Memᴰ·tail}
@@ -30,6 +30,16 @@ module _ {A : Type 0} where
           (b : Bool) → keep f (keep g xs) ≡ keep (λ y. g y && f y) xs
           → keep f (put b x (keep g xs)) ≡ put (b && f x) x (keep (λ y. g y && f y) xs)
       go true e = ap (put (f x) x) e
+      go false e = e
+
+  pub keep-append : (test : A → Bool) (xs ys : List A) → keep test (xs ++ ys) ≡ keep test xs ++ keep test ys
+  keep-append test [] ys = refl
+  keep-append test (x ∷ xs) ys = go (test x) (keep-append test xs ys)
+    where
+      go :
+          (b : Bool) → keep test (xs ++ ys) ≡ keep test xs ++ keep test ys
+          → put b x (keep test (xs ++ ys)) ≡ put b x (keep test xs) ++ keep test ys
+      go true e = ap (λ (l : List A). x ∷ l) e
       go false e = e
 
   pub any-append : (test : A → Bool) (xs ys : List A) → any test (xs ++ ys) ≡ (any test xs || any test ys)

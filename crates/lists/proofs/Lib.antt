@@ -3,5 +3,9 @@ pub mod Members
 pub mod Numbers
 pub mod Empty
 pub mod Keep
+pub mod Same
 pub mod Distinct
 pub mod Map
+pub mod Elements
+pub mod Slices
+pub mod Padded

@@ -1,5 +1,5 @@
 -- Laws of mapped lists: where a test q says of f x what the test p says of x, `keep` and `any` of the mapped list are those of the
--- list, mapped; likewise `least` of numbers. Assumes nothing.
+-- list, mapped; likewise `least` of numbers.
 use mathlib.Core.Path.{_≡_, refl, ap}
 use mathlib.Core.Bool.{Bool, true, false}
 use mathlib.Core.List.{List, [], _∷_, _++_, map, List·Memᴰ·tail}

@@ -1,5 +1,5 @@
--- Laws of lengths, sums and least values: `keep` parts a list in two, `sum` of a part and of joined lists, `least` is attained and
--- is below each, and is the same of lists with the same elements. Assumes nothing.
+-- Laws of lengths, sums and least values: `keep` parts a list and its sum in two, `sum` of joined lists, `least` is attained and is
+-- below each, at most the least of a part, and the same of lists with the same elements.
 use mathlib.Core.Path.{_≡_, refl, ap, _∙_}
 use mathlib.Core.Bool.{Bool, true, false, not}
 use mathlib.Core.List.{List, [], _∷_, _++_, map, List·Memᴰ·tail, List·Memᴰ·cases-cons, List·Memᴰ·not-nil}
@@ -36,6 +36,16 @@ module _ {A : Type 0} where
       go true h = omega arith
       go false h = omega arith
 
+  pub sum-parts : (f : A → ℕ) (test : A → Bool) (xs : List A) → sum f (keep test xs) + sum f (keep (λ x. not (test x)) xs) ≡ sum f xs
+  sum-parts f test [] = refl
+  sum-parts f test (x ∷ xs) = go (test x) (sum-parts f test xs)
+    where
+      go :
+          (b : Bool) → sum f (keep test xs) + sum f (keep (λ y. not (test y)) xs) ≡ sum f xs
+          → sum f (put b x (keep test xs)) + sum f (put (not b) x (keep (λ y. not (test y)) xs)) ≡ f x + sum f xs
+      go true e = omega arith
+      go false e = omega arith
+
   pub sum-mono : (f g : A → ℕ) (xs : List A) → ((x : A) → In x xs → f x ≤ g x) → sum f xs ≤ sum g xs
   sum-mono f g [] h = omega arith
   sum-mono f g (x ∷ xs) h = omega (arith, h x in-head, sum-mono f g xs (λ y m. h y (List·Memᴰ·tail m)))
@@ -71,6 +81,14 @@ module _ {A : Type 0} where
           → (x : A) × In x (y ∷ z ∷ zs) × (f x ≡ min (f y) (least f (z ∷ zs)))
       go (inl h) w = (y, in-head, omega arith)
       go (inr h) (x, m, e) = (x, List·Memᴰ·tail m, omega arith)
+
+  -- the least of all candidates is at most the least of some of them
+  pub least-of-some :
+      (f : A → ℕ) (xs : List A) (y : A) (ys : List A) → ((z : A) → In z (y ∷ ys) → In z xs) → least f xs ≤ least f (y ∷ ys)
+  least-of-some f xs y ys some =
+      let (z, m, e) = least-in f y ys in
+      let k : least f xs ≤ f z = least-le f xs z (some z m) in
+      omega arith
 
   pub least-same :
       (f : A → ℕ) (x y : A) (xs ys : List A) → ((z : A) → In z (x ∷ xs) → In z (y ∷ ys)) → ((z : A) → In z (y ∷ ys) → In z (x ∷ xs))

@@ -1,5 +1,4 @@
 -- Laws of Boolean tests: what `_&&_`, `_||_` and `not` say as types, and the rules by which `omega` reads tests of numbers.
--- Assumes nothing.
 use mathlib.Core.Path.{_≡_, refl, subst}
 use mathlib.Core.Bool.{Bool, true, false, not, _&&_, _||_}
 use mathlib.Core.Logic.{_⊎_, inl, inr, _≢_}
@@ -20,6 +19,16 @@ and-right false b h = absurd h
 pub and-both : (a b : Bool) → T a → T b → T (a && b)
 and-both true b h k = k
 and-both false b h k = h
+
+-- a test of four parts
+pub and-parts : (a b c d : Bool) → T (a && b && c && d) → T a × T b × T c × T d
+and-parts a b c d h =
+    let abc : T (a && b && c) = and-left (a && b && c) d h in
+    let ab : T (a && b) = and-left (a && b) c abc in
+    (and-left a b ab, and-right a b ab, and-right (a && b) c abc, and-right (a && b && c) d h)
+
+pub parts-and : (a b c d : Bool) → T a → T b → T c → T d → T (a && b && c && d)
+parts-and a b c d p q r s = and-both (a && b && c) d (and-both (a && b) c (and-both a b p q) r) s
 
 pub or-cases : (a b : Bool) → T (a || b) → T a ⊎ T b
 or-cases true b h = inl tt

@@ -6,11 +6,16 @@
 --   least f xs       the least f over xs (0 of the empty list)
 --   from a k         the k numbers a, a + 1, ..
 --   each k xs        one list after another, each made of an element of xs by k
+--   without s xs     the numbers of xs but for s
+--   same xs ys       two lists of numbers are the same, as a test
+--   padded len xs    the numbers of xs, and zeros behind, up to a length
 --   Distinct xs      no element stands twice
--- Laws are in proofs/. Assumes nothing.
-use mathlib.Core.Bool.{Bool, true, false, _&&_, _||_}
+-- Laws are in proofs/.
+use mathlib.Core.Bool.{Bool, true, false, not, _&&_, _||_}
 use mathlib.Core.List.{List, [], _∷_, _++_, List·Memᴰ}
-use Prim.Native.Nat.{ℕ, zero, suc, _+_, min}
+use Prim.Native.Nat.{ℕ, zero, suc, _+_, _-_, min}
+use lib.Dec.{eqb}
+use lib.ListN.{length, replicate}
 
 abbrev pub In : {A : Type 0} → A → List A → Type 0
 In a xs = List·Memᴰ a xs
@@ -48,6 +53,18 @@ from a (suc k) = a ∷ from (suc a) k
 abbrev pub each : {A B : Type 0} → (A → List B) → List A → List B
 each k [] = []
 each k (x ∷ xs) = k x ++ each k xs
+
+abbrev pub without : ℕ → List ℕ → List ℕ
+without s xs = keep (λ r. not (eqb s r)) xs
+
+abbrev pub same : List ℕ → List ℕ → Bool
+same [] [] = true
+same [] (y ∷ ys) = false
+same (x ∷ xs) [] = false
+same (x ∷ xs) (y ∷ ys) = eqb x y && same xs ys
+
+unfoldable pub padded : ℕ → List ℕ → List ℕ
+padded len xs = xs ++ replicate (len - length xs) 0
 
 pub data Distinct {A : Type 0} : List A → Type 0 where
   none : Distinct []

@@ -1,5 +1,5 @@
 -- Orders: an order is a complete partial order, so the orders are just the complete nodes reached from e, and have length n; and the
--- test `isOrder` passes just for orders. Assumes nothing.
+-- test `isOrder` passes just for orders.
 use mathlib.Core.Path.{_≡_, sym, _∙_, subst}
 use mathlib.Core.Bool.{Bool, true, false, not}
 use mathlib.Core.List.{List, [], _∷_, List·Memᴰ·tail, List·Memᴰ·not-nil}

@@ -1,5 +1,5 @@
 -- The list `orders n`: it holds every order of 1 to n, nothing else, none twice, and n! of them. Level k holds the partial orders of
--- length k; the orders are those of level n. Assumes nothing.
+-- length k; the orders are those of level n.
 use mathlib.Core.Path.{_≡_, refl, ap, sym, _∙_, subst}
 use mathlib.Core.List.{[], _∷_, List·Memᴰ·not-nil, List·Memᴰ·eq-of-singleton}
 use Prim.Native.Nat.{ℕ, zero, suc, _+_, _*_}

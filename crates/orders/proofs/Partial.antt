@@ -1,5 +1,5 @@
 -- Partial orders: nodes in which no stop stands twice and that hold nothing but 1 to n. They are just the nodes reached from e, they
--- are made from e by one stop after another (`partial-made`), and their size is their length. Assumes nothing.
+-- are made from e by one stop after another (`partial-made`), and their size is their length.
 use mathlib.Core.Path.{_≡_, ap, sym, subst}
 use mathlib.Core.List.{List, [], _∷_, _++_, append-nil, append-assoc, List·Memᴰ·not-nil, List·Memᴰ·eq-of-singleton, Memᴰ·append-right, List·Memᴰ·append-cases}
 use mathlib.Core.Logic.{_⊎_, inl, inr}

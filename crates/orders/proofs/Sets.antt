@@ -1,6 +1,7 @@
--- Laws of a node's set: which stops it flies and which it leaves, what one more stop does to both, and the nodes of one set.
+-- Laws of a node's set: which stops it flies and which it leaves, what one more stop does to both and to
+-- the last stop, and the nodes of one set.
 --   in-X    what membership in X says;  X-in  what is enough for it
--- They hold for every list of numbers, with repeats and with numbers above n too. Assumes nothing.
+-- They hold for every list of numbers, with repeats and with numbers above n too.
 use mathlib.Core.Path.{_≡_, refl, ap, sym, _∙_, subst}
 use mathlib.Core.Bool.{Bool, true, false, not, _&&_, _||_}
 use mathlib.Core.List.{List, [], _∷_, _++_}
@@ -8,14 +9,15 @@ use Prim.Native.Nat.{ℕ, suc, _+_, _≤_, _<_}
 use native.Mathlib.Omega.{arith}
 use lib.Dec.{T, eqb, eqb→eq, eqb-refl}
 use lib.ListN.{length}
-use Rattle.lists.specs.Lists.{In, keep, Distinct}
+use Rattle.lists.specs.Lists.{In, without, Distinct}
 use Rattle.lists.proofs.Tests.{same-tests}
 use Rattle.lists.proofs.Members.{in-keep, keep-in, any-in, in-any, in-map, map-in, in-from, from-in, distinct-keep, distinct-from, length-from}
 use Rattle.lists.proofs.Empty.{no-members}
 use Rattle.lists.proofs.Numbers.{keep-parts}
 use Rattle.lists.proofs.Keep.{keep-same, keep-keep, any-append}
 use Rattle.lists.proofs.Distinct.{length-without}
-use Rattle.orders.specs.Orders.{Node, stops, flown, setOf, left, size, extend, children}
+use Rattle.orders.specs.Examples
+use Rattle.orders.specs.Orders.{Node, stops, flown, setOf, left, lastFrom, last, size, extend, children}
 
 -- the stops 1 to n
 pub in-stops : (n s : ℕ) → In s (stops n) → (1 ≤ s) × (s ≤ n)
@@ -67,6 +69,14 @@ unfolding size setOf left
 size-left n x = keep-parts (flown x) (stops n) ∙ length-from 1 n
 
 -- one more stop
+lastFrom-append : (place : ℕ) (x y : Node) → lastFrom place (x ++ y) ≡ lastFrom (lastFrom place x) y
+lastFrom-append place [] y = refl
+lastFrom-append place (s ∷ x) y = lastFrom-append s x y
+
+pub last-extend : (x : Node) (s : ℕ) → last (extend x s) ≡ s
+unfolding last
+last-extend x s = lastFrom-append 0 x (s ∷ [])
+
 eqb-sym : (r s : ℕ) → eqb r s ≡ eqb s r
 eqb-sym r s = same-tests (eqb r s) (eqb s r) (go r s) (go s r)
   where
@@ -82,7 +92,7 @@ flown-extend x s r = ap not (flown-append x (s ∷ []) r) ∙ go (flown x r) (eq
     go false true c e = ap not e
     go false false c e = ap not e
 
-pub left-extend : (n : ℕ) (x : Node) (s : ℕ) → left n (extend x s) ≡ keep (λ r. not (eqb s r)) (left n x)
+pub left-extend : (n : ℕ) (x : Node) (s : ℕ) → left n (extend x s) ≡ without s (left n x)
 unfolding left
 left-extend n x s =
     keep-same (λ r. not (flown (extend x s) r)) (λ r. not (flown x r) && not (eqb s r)) (stops n) (λ r m. flown-extend x s r)
@@ -90,7 +100,7 @@ left-extend n x s =
 
 pub size-extend : (n : ℕ) (x : Node) (s : ℕ) → In s (left n x) → size n (extend x s) ≡ suc (size n x)
 size-extend n x s m =
-    let e : length (left n x) ≡ suc (length (keep (λ r. not (eqb s r)) (left n x))) = length-without s (distinct-left n x) m in
+    let e : length (left n x) ≡ suc (length (without s (left n x))) = length-without s (distinct-left n x) m in
     omega (arith, size-left n x, size-left n (extend x s), ap length (left-extend n x s))
 
 -- children

@@ -1,16 +1,18 @@
 -- The tree of partial orders, for any problem whose children and completeness are those of this crate, whatever its costs and its
 -- dominance: sizes rise by one up to n, where just the complete nodes stand; a complete node leaves no stop; and a node weighs more
--- than its children together. Assumes nothing.
+-- than its children together.
 use mathlib.Core.Path.{_≡_, ap, sym, _∙_, subst}
-use mathlib.Core.List.{List, []}
-use Prim.Native.Nat.{ℕ, zero, suc, _*_, _-_, _<_}
+use mathlib.Core.List.{List, [], _∷_}
+use Prim.Native.Nat.{ℕ, zero, suc, _+_, _*_, _-_, _<_}
 use native.Mathlib.Omega.{arith}
-use lib.Dec.{T, eqb→eq, eqb-refl}
+use lib.Dec.{T, eqb, eqb→eq, eqb-refl}
 use lib.ListN.{length}
 use Rattle.lists.specs.Lists.{In, sum}
+use Rattle.lists.proofs.Tests.{to-true, to-false, ne-neqb}
 use Rattle.lists.proofs.Empty.{in-nonempty, no-members}
 use Rattle.lists.proofs.Numbers.{sum-same, sum-const, sum-map}
 use Rattle.search.specs.Problem.{Problem}
+use Rattle.search.specs.Selection.{empty}
 use Rattle.search.proofs.Laws.{Sized, Weighs}
 use Rattle.orders.specs.Orders.{Node, left, size, complete, extend, children, nodes}
 use Rattle.orders.proofs.Sets.{size-left, size-extend, child-extends}
@@ -29,6 +31,15 @@ complete-left n x h = no-members (left n x) (λ s m. omega (arith, in-nonempty m
 
 pub left-complete : (n : ℕ) (x : Node) → left n x ≡ [] → T (complete n x)
 left-complete n x e = size-complete n x (omega (arith, size-left n x, ap length e))
+
+-- the same as a test
+pub complete-empty : (n : ℕ) (x : Node) → complete n x ≡ empty (left n x)
+unfolding complete
+complete-empty n x = go (left n x) (size-left n x)
+  where
+    go : (rest : List ℕ) → size n x + length rest ≡ n → eqb (size n x) n ≡ empty rest
+    go [] e = to-true (eqb (size n x) n) (let h : size n x ≡ n = omega arith in rw h (eqb-refl n))
+    go (r ∷ rs) e = to-false (eqb (size n x) n) (ne-neqb (size n x) n (omega arith))
 
 -- sizes and weights
 child-size : (n : ℕ) (x c : Node) → In c (children n x) → size n c ≡ suc (size n x)

@@ -1,12 +1,11 @@
 -- Orders and nodes: document 01, "Legs and orders" and "Nodes", as far as they need no leg.
 -- A node is a partial order: the list of its stops as they are flown. The empty one, e, is [].
--- Assumes nothing.
 use mathlib.Core.Bool.{Bool, not, _&&_}
 use mathlib.Core.List.{List, [], _∷_, _++_, map}
-use Prim.Native.Nat.{ℕ, zero, suc, _+_, _*_, _≤_}
+use Prim.Native.Nat.{ℕ, zero, suc, _+_, _*_, _-_, _^_, _≤_}
 use lib.Dec.{eqb}
 use lib.ListN.{length}
-use Rattle.lists.specs.Lists.{In, keep, any, all, from, each, Distinct}
+use Rattle.lists.specs.Lists.{In, keep, any, all, sum, from, each, Distinct}
 
 abbrev pub Node : Type 0
 Node = List ℕ
@@ -26,26 +25,38 @@ setOf n x = keep (flown x) (stops n)
 unfoldable pub left : ℕ → Node → List ℕ
 left n x = keep (λ s. not (flown x s)) (stops n)
 
--- "A node's size is the number of stops in its set." "A node of size n is complete."
+-- a set of stops as a number: stop s adds 2 to the power s-1
+unfoldable pub mask : List ℕ → ℕ
+mask stops = sum (λ s. 2 ^ (s - 1)) stops
+
+-- where a node ends: its last stop, and home, place 0, for e
+abbrev pub lastFrom : ℕ → Node → ℕ
+lastFrom place [] = place
+lastFrom place (s ∷ x) = lastFrom s x
+
+unfoldable pub last : Node → ℕ
+last x = lastFrom 0 x
+
+-- how many stops of 1 to n it flies, and whether it flies all
 unfoldable pub size : ℕ → Node → ℕ
 size n x = length (setOf n x)
 
 unfoldable pub complete : ℕ → Node → Bool
 complete n x = eqb (size n x) n
 
--- "b extended by each stop not flown .. in ascending stop order"
+-- a node with one more stop behind; the children of a node are its extensions by each stop that it leaves, ascending
 abbrev pub extend : Node → ℕ → Node
 extend x s = x ++ (s ∷ [])
 
 unfoldable pub children : ℕ → Node → List Node
 children n x = map (extend x) (left n x)
 
--- "A node is a partial order ..: distinct stops flown first."
+-- a partial order of 1 to n
 pub record Partial (n : ℕ) (x : Node) : Type 0 where
   pub once : Distinct x
   pub only : (s : ℕ) → In s x → (1 ≤ s) × (s ≤ n)
 
--- "An order is a permutation of 1 to n."
+-- an order of 1 to n
 pub record Order (n : ℕ) (x : Node) : Type 0 where
   -- no stop stands twice
   pub once : Distinct x

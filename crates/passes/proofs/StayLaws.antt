@@ -14,11 +14,12 @@ use borrow.Author.Tests.{le-leb, lt-leb, ltb-false}
 use Rattle.lists.specs.Lists.{put, keep, any}
 use Rattle.lists.proofs.Tests.{both-false}
 use Rattle.lists.proofs.Numbers.{keep-parts}
+use Rattle.lists.proofs.Keep.{keep-append}
+use Rattle.lists.proofs.Slices.{keep-slice-more, any-slice-more, slice-join, AllSo}
 use Rattle.stops.specs.Code.{emptyRecord, recDominates}
 use Rattle.stops.specs.declared.node_record.Record.{Record}
 use Rattle.rivals.specs.Code.{near, AllNear}
 use Rattle.passes.specs.Code.{isStaying, isSuspect}
-use Rattle.records.proofs.SliceLaws.{keep-append, keep-slice-more, any-slice-more, slice-join, AllSo}
 use Rattle.rivals.proofs.RivalLaws.{apart}
 
 or-right-true : (b c : Bool) → c ≡ true → (b || c) ≡ true

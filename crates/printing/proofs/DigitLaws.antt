@@ -2,7 +2,6 @@
 --   fewest-digits    the fewest digits that hold a number, which `io` writes, are those of the definition
 --   fewest-few       .. and at most twenty for a number of 64 bits
 --   space-digits     behind a space they are a number as it is printed
--- Assumes nothing.
 use mathlib.Core.Path.{_≡_, refl, ap, sym, _∙_}
 use mathlib.Core.Bool.{Bool, true, false}
 use mathlib.Core.List.{List, [], _∷_, _++_, append-nil}
@@ -13,7 +12,8 @@ use lib.ListN.{take}
 use lib.Dec.{ltb}
 use borrow.Author.Tests.{lt-ltb, ltb-true, ltb-false}
 use Rattle.io.specs.Digits.{glyph, digits, Fewest}
-use Rattle.report_format.specs.Text.{digit, digitsOf, decimal, numbered}
+use Rattle.report_format.specs.Text.{digit, digitsOf, decimal, spaced}
+use Rattle.printing.specs.Code.{mostDigits}
 
 glyph-digit : (x : ℕ) → glyph (x % 10) ≡ digit (x % 10)
 glyph-digit x = rw (lt-ltb (x % 10) 10 (omega arith))
@@ -45,17 +45,17 @@ fewest-digits (suc k) x h = rw (glyph-digit x, front k x (x / 10) (shorter k x (
         let same : suc k - 1 ≡ k = omega arith in
         no-shorter k x j (rw same at (h .2 (omega arith))) e
 
-pub fewest-few : (k x : ℕ) → Fewest 10 1 x k → x < 2 ^ 64 → k ≤ 20
-fewest-few k x h fits = go (ltb 20 k) refl
+pub fewest-few : (k x : ℕ) → Fewest 10 1 x k → x < 2 ^ 64 → k ≤ mostDigits
+fewest-few k x h fits = go (ltb mostDigits k) refl
   where
-    go : (b : Bool) → ltb 20 k ≡ b → k ≤ 20
+    go : (b : Bool) → ltb mostDigits k ≡ b → k ≤ mostDigits
     go true e =
-        let more : 20 < k = ltb-true 20 k e in
-        let enough : 20 ≤ k - 1 = omega arith in
-        let grows : 10 ^ 20 ≤ 10 ^ (k - 1) = pow-le-pow-right (omega arith) enough in
+        let more : mostDigits < k = ltb-true mostDigits k e in
+        let enough : mostDigits ≤ k - 1 = omega arith in
+        let grows : 10 ^ mostDigits ≤ 10 ^ (k - 1) = pow-le-pow-right (omega arith) enough in
         absurd (omega (arith, h .2 (omega arith)))
-    go false e = ltb-false 20 k e
+    go false e = ltb-false mostDigits k e
 
-pub space-digits : (k x : ℕ) (out : List ℕ) → Fewest 10 1 x k → take k out ≡ digits 10 k x → (32 ∷ []) ++ take k out ≡ numbered (x ∷ [])
-unfolding numbered
+pub space-digits : (k x : ℕ) (out : List ℕ) → Fewest 10 1 x k → take k out ≡ digits 10 k x → (32 ∷ []) ++ take k out ≡ spaced (x ∷ [])
+unfolding spaced
 space-digits k x out h e = ap (λ (l : List ℕ). 32 ∷ l) (e ∙ fewest-digits k x h ∙ sym (append-nil (decimal x)))

@@ -2,7 +2,6 @@
 --   seven-lines        the seven lines as the code writes them: the first two, and the other five
 --   printed-refused    a report with a number
 --   printed-seven      a report without one, of whose order no more than its places are looked at
--- Assumes nothing.
 use mathlib.Core.Path.{_≡_, refl, ap, _∙_}
 use mathlib.Core.List.{List, [], _∷_, _++_, append-assoc}
 use mathlib.Core.Logic.{_≢_}

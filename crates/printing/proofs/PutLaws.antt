@@ -1,21 +1,18 @@
 -- Laws of what is written into a buffer.
---   put-none, put-one, put-then, put-last, put-length    nothing, a byte, one write behind another, a last byte, the buffer's length
---   put-lent       bytes written into the part of a buffer that is lent
+--   put-none, put-one, put-then, put-last, put-next, put-length    nothing, a byte, one write behind another, a last byte, one byte more of
+--                  some, the buffer's length
 --   put-text       a text written into an array of zeros
---   numbered-next  the stops that the loop writes, one more
--- Assumes nothing.
+--   spaced-next  the stops that the loop writes, one more
 use mathlib.Core.Path.{_≡_, refl, ap, sym, _∙_}
 use mathlib.Core.List.{List, [], _∷_, _++_, append-nil, append-assoc}
-use Prim.Native.Nat.{ℕ, suc, _+_, _-_, _≤_, _<_}
+use Prim.Native.Nat.{ℕ, zero, suc, _+_, _≤_, _<_}
+use native.Mathlib.Numerals.{add-one}
 use native.Mathlib.Omega.{arith}
-use lib.ListN.{length, getD, set, take, drop, replicate, length-append, length-replicate}
-use lib.Seq.{sets, sets-eq, length-sets, drop-length, drop-drop}
-use borrow.Rule.Slice.PartMut.{midOf, putMid, post-is}
-use Rattle.stops.proofs.RowLaws.{part-from}
-use Rattle.records.specs.Records.{padded}
-use Rattle.job_format.specs.Bytes.{overwrite}
-use Rattle.job_format.proofs.ByteLaws.{padded-overwrite, take-next, each-append}
-use Rattle.report_format.specs.Text.{ascii, decimal, numbered}
+use lib.ListN.{length, getD, set, take, replicate, length-append}
+use lib.Seq.{sets, length-sets, take-suc}
+use Rattle.lists.specs.Lists.{padded}
+use Rattle.lists.proofs.Padded.{padded-one}
+use Rattle.report_format.specs.Text.{ascii, decimal, spaced}
 use Rattle.printing.specs.Promise.{textPlaces, textOf}
 use Rattle.printing.specs.Code.{Put}
 use Rattle.printing.specs.declared.Text.{Text}
@@ -43,31 +40,38 @@ put-length {l} {m} {xs} {a} p = ap length (p .written) ∙ length-sets l a xs
 pub put-last : {l m xs : List ℕ} {a b : ℕ} → Put l a xs m b → (y : ℕ) → Put l a (xs ++ (y ∷ [])) (set m b y) (b + 1)
 put-last {m = m} {b = b} p y = put-then p (put-one m b y)
 
--- bytes written at the front of the part of a buffer that is lent
-pub put-lent :
-    (l xs v : List ℕ) (a : ℕ) → a + length xs ≤ length l → v ≡ overwrite xs (midOf a (length l - a) l)
-    → Put l a xs (putMid a (length l - a) l v) (a + length xs)
-unfolding overwrite
-put-lent l xs v a h e = record {
-  written =
-      rw (post-is a (length l) l (omega arith), drop-length l, append-nil, e, part-from a l, drop-drop (length xs) a l)
-      (sym (sets-eq xs l a h ∙ append-assoc (take a l) xs (drop (a + length xs) l)));
-  behind = refl;
-}
+-- one turn of a loop that writes some bytes one after another
+pub put-next :
+    {l m : List ℕ} {a b : ℕ} (xs : List ℕ) (k : ℕ) → k < length xs → Put l a (take k xs) m b
+    → Put l a (take (k + 1) xs) (set m b (getD xs k 0)) (b + 1)
+put-next xs k h p =
+    let next : take (k + 1) xs ≡ take k xs ++ (getD xs k 0 ∷ []) = rw add-one (take-suc xs k 0 h) in
+    rw next (put-last p (getD xs k 0))
+
+padded-more :
+    (n : ℕ) (xs ys : List ℕ) (k : ℕ) → length xs ≡ k → k + length ys ≤ n → sets (padded n xs) k ys ≡ padded n (xs ++ ys)
+padded-more n xs [] k e h = rw append-nil
+padded-more n xs (y ∷ ys) k e h =
+    let one : set (padded n xs) k y ≡ padded n (xs ++ (y ∷ [])) = padded-one n xs (xs ++ (y ∷ [])) k y e refl (omega arith) in
+    let long : length (xs ++ (y ∷ [])) ≡ suc k = omega (arith, length-append xs (y ∷ [])) in
+    rw one (padded-more n (xs ++ (y ∷ [])) ys (suc k) long (omega arith)) ∙ ap (padded n) (append-assoc xs (y ∷ []) ys)
 
 -- a text written into an array of zeros
 pub put-text :
     {m xs : List ℕ} {b : ℕ} → b ≤ textPlaces → Put (replicate textPlaces 0) 0 xs m b
     → _≡_ {A = Text} (record { bytes = m; length = b }) (textOf xs)
-unfolding textOf overwrite
+unfolding textOf padded
 put-text {m} {xs} {b} h p =
     let long : b ≡ length xs = omega (arith, p .behind) in
-    let room : 0 + length xs ≤ length {A = ℕ} (replicate textPlaces 0) = omega (arith, length-replicate {A = ℕ} textPlaces 0) in
-    let places : 0 + length xs ≡ length xs = omega arith in
-    let same : m ≡ padded textPlaces xs = p .written ∙ sets-eq xs (replicate textPlaces 0) 0 room ∙ rw (places, padded-overwrite textPlaces xs) in
+    let same : m ≡ padded textPlaces xs = p .written ∙ padded-more textPlaces [] xs 0 refl (omega arith) in
     rw (long, same)
 
-pub numbered-next :
-    (xs : List ℕ) (k : ℕ) → k < length xs → numbered (take (k + 1) xs) ≡ numbered (take k xs) ++ numbered (getD xs k 0 ∷ [])
-unfolding numbered
-numbered-next xs k h = rw (take-next xs k h, each-append (λ x. ascii " " ++ decimal x))
+spaced-suc : (xs : List ℕ) (k : ℕ) → k < length xs → spaced (take (suc k) xs) ≡ spaced (take k xs) ++ spaced (getD xs k 0 ∷ [])
+unfolding spaced
+spaced-suc [] k h = absurd (omega arith)
+spaced-suc (x ∷ xs) zero h = refl
+spaced-suc (x ∷ xs) (suc k) h = rw (spaced-suc xs k (omega arith)) (sym (append-assoc (ascii " " ++ decimal x) _ _))
+
+pub spaced-next :
+    (xs : List ℕ) (k : ℕ) → k < length xs → spaced (take (k + 1) xs) ≡ spaced (take k xs) ++ spaced (getD xs k 0 ∷ [])
+spaced-next xs k h = rw add-one (spaced-suc xs k h)

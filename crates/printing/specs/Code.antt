@@ -1,11 +1,11 @@
 -- What the functions of this crate compute between one another. These definitions are the code's own: a reader of the promises needs none of
 -- them.
 --   Put        some bytes written into a buffer from a place on, the others as they were, and the place behind them
---   numberRoom how many bytes a number takes at most: a space, and the twenty digits of 64 bits
+--   mostDigits how many digits a number of 64 bits has at most
+--   decimalRoom how many bytes one takes at most, printed: a space and its digits
 --   lineRoom   .. and a line of numbers: its name, the numbers and the line's end
 --   answerLines, countLines    the first two of the seven lines, and the other five
 --   answerRoom, countsRoom     how many bytes these take at most
--- Assumes nothing.
 use mathlib.Core.Path.{_≡_}
 use mathlib.Core.List.{List, [], _∷_, _++_}
 use Prim.Native.Nat.{ℕ, _+_, _*_}
@@ -17,11 +17,14 @@ pub record Put (before : List ℕ) (place : ℕ) (bytes after : List ℕ) (end :
   pub written : after ≡ sets before place bytes
   pub behind : end ≡ place + length bytes
 
-abbrev pub numberRoom : ℕ
-numberRoom = 21
+abbrev pub mostDigits : ℕ
+mostDigits = 20
+
+abbrev pub decimalRoom : ℕ
+decimalRoom = mostDigits + 1
 
 abbrev pub lineRoom : List ℕ → ℕ → ℕ
-lineRoom name count = length name + numberRoom * count + 1
+lineRoom name count = length name + decimalRoom * count + 1
 
 unfoldable pub answerLines : ℕ → List ℕ → List ℕ
 answerLines cost stops = line "cost" (cost ∷ []) ++ line "order" stops

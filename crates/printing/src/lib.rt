@@ -1,19 +1,18 @@
-// What is printed: `report_text` and `refusal_text` are open to a caller; every other function is public for this crate alone, and what it
-// requires its callers meet. What is printed for every report, crate `report_format` says (specs/Printed).
+// What is printed, as text in an array: `report_text` and `refusal_text`. Crate `report_format` says what it is for every report
+// (specs/Printed).
 ghost use mathlib.Core.Path.{_≡_};
-ghost use Rattle.planner.specs.Promise.{reportOf};
 ghost use Rattle.report_format.specs.Printed.{refusedLine, printed};
 ghost use Rattle.printing.specs.Promise.{textOf};
 
-pub mod lines;
-pub mod put;
+mod lines;
+mod put;
 
 use crate::lines::put_lines;
 use crate::put::put_line;
-use planner::run::Report;
+use answer::Report;
 use records::order::places;
 
-// Places for a text.
+// Places for a text: the longest has seven lines, with sixteen stops and numbers of twenty digits.
 pub const TEXT: usize = 515;
 
 // A text: its bytes, with zeros behind them, and how many they are.
@@ -33,7 +32,7 @@ pub fn refusal_text(number: u32) -> Text
 
 // The text of a report of n stops.
 pub fn report_text(n: u32, report: Report) -> Text
-    ensures { λ r. ⌜ r ≡ textOf (printed n (reportOf report)) ⌝ }
+    ensures { λ r. ⌜ r ≡ textOf (printed n report) ⌝ }
 {
     let number = report.number;
     if number != 0 {

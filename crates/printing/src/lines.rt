@@ -3,15 +3,14 @@ ghost use mathlib.Core.Path.{_≡_};
 ghost use Prim.Native.Nat.{_+_, _*_, _≤_};
 ghost use lib.ListN.{length};
 ghost use Rattle.sizes.specs.Sizes.{orderPlaces};
-ghost use Rattle.planner.specs.Promise.{reportOf};
-ghost use Rattle.report_format.specs.Text.{ascii, numbered, line};
+ghost use Rattle.report_format.specs.Text.{ascii, spaced, line};
 ghost use Rattle.report_format.specs.Printed.{sevenLines};
 ghost use Rattle.printing.specs.Promise.{textPlaces};
-ghost use Rattle.printing.specs.Code.{Put, numberRoom, lineRoom, answerLines, answerRoom, countLines, countsRoom};
+ghost use Rattle.printing.specs.Code.{Put, decimalRoom, lineRoom, answerLines, answerRoom, countLines, countsRoom};
 use crate::put::put_bytes;
+use crate::put::put_decimal;
 use crate::put::put_line;
-use crate::put::put_number;
-use planner::run::Report;
+use answer::Report;
 
 // A stop as a number to be printed.
 fn wide(x: u8) -> u64
@@ -22,13 +21,13 @@ fn wide(x: u8) -> u64
 
 // Writes stops, each behind a space.
 fn put_stops(buffer: &mut [u8], at: usize, stops: &[u8]) -> usize
-    requires { ⌜ at + numberRoom * length (now stops) ≤ length (now buffer) ⌝ }
-    ensures { λ r. ⌜ Put (now (buffer .entry)) at (numbered (now (stops .entry))) (now (buffer .exit)) r × (r ≤ at + numberRoom * length (now (stops .entry))) ⌝ }
+    requires { ⌜ at + decimalRoom * length (now stops) ≤ length (now buffer) ⌝ }
+    ensures { λ r. ⌜ Put (now (buffer .entry)) at (spaced (now (stops .entry))) (now (buffer .exit)) r × (r ≤ at + decimalRoom * length (now (stops .entry))) ⌝ }
 {
     let mut end = at;
     let mut k = 0;
     while k < stops.len() {
-        end = put_number(buffer, end, wide(stops[k]));
+        end = put_decimal(buffer, end, wide(stops[k]));
         k += 1;
     }
     end
@@ -77,7 +76,7 @@ fn put_counts(
 // Writes the seven lines of a report, with so many stops of its order.
 pub fn put_lines(buffer: &mut [u8], count: usize, r: Report) -> usize
     requires { ⌜ (count ≤ orderPlaces) × (textPlaces ≤ length (now buffer)) ⌝ }
-    ensures { λ q. ⌜ Put (now (buffer .entry)) 0 (sevenLines count (reportOf r)) (now (buffer .exit)) q × (q ≤ textPlaces) ⌝ }
+    ensures { λ q. ⌜ Put (now (buffer .entry)) 0 (sevenLines count r) (now (buffer .exit)) q × (q ≤ textPlaces) ⌝ }
 {
     let order = r.order;
     let at = put_answer(buffer, r.cost, &order[..count]);

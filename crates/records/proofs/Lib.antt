@@ -1,5 +1,4 @@
 pub mod ViewLaws
-pub mod SliceLaws
 pub mod SiftLaws
 pub mod OrderWords
 pub mod Mask

@@ -1,23 +1,22 @@
 -- The sets of a node as numbers (`mask`: stop s adds 2 to the power s-1): the stops that it flies and those that it leaves.
 --   mask-stops, set-small      together the two numbers are 2 to the power n, less 1
 --   stops-set, stops-left      the stops can be read back
---   rest-small, rest-left      what a number leaves of n stops fits 16 bits, and is what the node leaves where the number is its set's
+--   rest-small, rest-left      what a number leaves of n stops has a bit for no more stops than a day has, and is what the node leaves where the number is its set's
 --   ones-set                   and those flown counted
 --   mask-extend, stops-child   what one more stop does to both
--- Assumes nothing.
 use mathlib.Core.Path.{_≡_, ap, _∙_}
 use Prim.Native.Nat.{ℕ, _+_, _-_, _^_, _≤_, _<_}
 use native.Mathlib.Omega.{arith}
 use lib.Count.{ones}
 use lib.ListN.{length}
 use lib.Pow.{pow-pos, pow-mono}
+use Rattle.sizes.specs.Sizes.{mostStops}
 use Rattle.lists.specs.Lists.{In}
 use Rattle.lists.proofs.Distinct.{sum-without}
-use Rattle.orders.specs.Orders.{Node, flown, setOf, left, size, extend}
+use Rattle.orders.specs.Orders.{Node, flown, setOf, left, mask, size, extend}
 use Rattle.orders.proofs.Sets.{distinct-left, left-extend}
 use Rattle.stops.specs.Code.{stopsIn}
 use Rattle.stops.proofs.SetBits.{stopsIn-ones, stopsIn-mask, stopsIn-others, mask-small, mask-others}
-use Rattle.records.specs.Records.{mask}
 use Rattle.records.specs.Examples
 
 pub mask-stops : (n : ℕ) (x : Node) → mask (setOf n x) + mask (left n x) ≡ 2 ^ n - 1
@@ -31,13 +30,13 @@ mask-leave n x s m = rw (left-extend n x s) (sum-without (λ r. 2 ^ (r - 1)) s (
 pub mask-extend : (n : ℕ) (x : Node) (s : ℕ) → In s (left n x) → mask (setOf n (extend x s)) ≡ mask (setOf n x) + 2 ^ (s - 1)
 mask-extend n x s m = omega (arith, mask-stops n x, mask-stops n (extend x s), mask-leave n x s m)
 
--- the stops that any set leaves fit 16 bits
-pub rest-small : (n : ℕ) → n ≤ 16 → (m : ℕ) → 2 ^ n - 1 - m < 2 ^ 16
-rest-small n few m = omega (arith, pow-pos n, pow-mono {i = n} {j = 16} few)
+-- the stops that any set leaves are stops of a day
+pub rest-small : (n : ℕ) → n ≤ mostStops → (m : ℕ) → 2 ^ n - 1 - m < 2 ^ mostStops
+rest-small n few m = omega (arith, pow-pos n, pow-mono {i = n} {j = mostStops} few)
 
-module _ (n : ℕ) (few : n ≤ 16) (x : Node) where
-  pub set-small : mask (setOf n x) < 2 ^ 16
-  set-small = omega (arith, mask-stops n x, pow-pos n, pow-mono {i = n} {j = 16} few)
+module _ (n : ℕ) (few : n ≤ mostStops) (x : Node) where
+  pub set-small : mask (setOf n x) < 2 ^ mostStops
+  set-small = omega (arith, mask-stops n x, pow-pos n, pow-mono {i = n} {j = mostStops} few)
 
   pub stops-set : stopsIn (mask (setOf n x)) ≡ setOf n x
   unfolding mask setOf
@@ -55,6 +54,6 @@ module _ (n : ℕ) (few : n ≤ 16) (x : Node) where
   ones-set = stopsIn-ones (mask (setOf n x)) set-small ∙ ap length stops-set
 
 pub stops-child :
-    (n : ℕ) → n ≤ 16 → (x : Node) (s : ℕ) → In s (left n x)
+    (n : ℕ) → n ≤ mostStops → (x : Node) (s : ℕ) → In s (left n x)
     → stopsIn (2 ^ n - 1 - mask (setOf n x) - 2 ^ (s - 1)) ≡ left n (extend x s)
 stops-child n few x s m = ap stopsIn (omega (arith, mask-extend n x s m)) ∙ stops-left n few (extend x s)

@@ -1,10 +1,11 @@
--- The order of a node as two words, of its first eight stops and of the others: stop s is the digit s-1 of four bits, the first lowest.
---   first-below, second-below      a word of k digits is below 16 to the power k
+-- The order of a node as two words, of its first stops and of those that the first word has no room for: stop s is the
+-- digit s-1, the first lowest.
+--   first-below, second-below      how large a word of k digits can be
 --   first-digit, second-digit      the stops can be read back
---   stop-range, stop-read          the stop at a place is 1 to 16, and a node's own
+--   stop-range, stop-read          the stop at a place is one that a digit can hold, and a node's own
 --   first-extend, second-extend    one stop more is one digit more, in the second word once the first is full
 --   orders-equal                   nodes of one length with the same words are one node
--- Each is shown of one word (`word-..`) and then of both. Assumes nothing.
+-- Each is shown of one word (`word-..`) and then of both.
 use mathlib.Core.Path.{_≡_, refl, ap, ap₂, sym, _∙_, subst}
 use mathlib.Core.Bool.{Bool, true, false, cond}
 use mathlib.Core.List.{[], _∷_, _++_, List·Memᴰ·tail, Memᴰ·append-left, Memᴰ·append-right}
@@ -16,6 +17,7 @@ use borrow.Author.Tests.{lt-ltb, le-ltb}
 use lib.Dec.{ltb}
 use lib.ListN.{length, getD, take, drop, length-append, length-take, length-drop, take-append-drop, drop-of-length-le}
 use lib.Seq.{ext-getD, getD-take, getD-drop, take-all, take-append-le, drop-append-le}
+use Rattle.sizes.specs.Sizes.{stopBase, wordStops}
 use Rattle.lists.specs.Lists.{In}
 use Rattle.lists.proofs.Members.{in-head}
 use Rattle.lists.proofs.Tests.{ordered}
@@ -23,42 +25,42 @@ use Rattle.orders.specs.Orders.{Node, extend}
 use Rattle.records.specs.Records.{orderWord, stopAt}
 use Rattle.records.specs.Examples
 
--- each stop fits a digit of four bits
+-- each stop fits a digit
 abbrev pub Digits : Node → Type 0
-Digits x = (s : ℕ) → In s x → (1 ≤ s) × (s ≤ 16)
+Digits x = (s : ℕ) → In s x → (1 ≤ s) × (s ≤ stopBase)
 
 -- one word
-word-small : (x : Node) → Digits x → orderWord x < 16 ^ length x
+word-small : (x : Node) → Digits x → orderWord x < stopBase ^ length x
 word-small [] d = omega arith
 word-small (s ∷ x) d =
-    let h : (1 ≤ s) × (s ≤ 16) = d s in-head in
-    omega (arith, word-small x (λ r i. d r (List·Memᴰ·tail i)), pow-suc 16 (length x))
+    let h : (1 ≤ s) × (s ≤ stopBase) = d s in-head in
+    omega (arith, word-small x (λ r i. d r (List·Memᴰ·tail i)), pow-suc stopBase (length x))
 
-word-below : (x : Node) → Digits x → (k : ℕ) → length x ≤ k → orderWord x < 16 ^ k
-word-below x d k h = omega (arith, word-small x d, pow-le-pow-right {n = 16} (omega arith) {i = length x} {j = k} h)
+word-below : (x : Node) → Digits x → (k : ℕ) → length x ≤ k → orderWord x < stopBase ^ k
+word-below x d k h = omega (arith, word-small x d, pow-le-pow-right {n = stopBase} (omega arith) {i = length x} {j = k} h)
 
-word-digit : (x : Node) → Digits x → (i : ℕ) → i < length x → orderWord x / 16 ^ i % 16 + 1 ≡ getD x i 0
+word-digit : (x : Node) → Digits x → (i : ℕ) → i < length x → orderWord x / stopBase ^ i % stopBase + 1 ≡ getD x i 0
 word-digit [] d i h = absurd (omega arith)
-word-digit (s ∷ x) d zero h = let b : (1 ≤ s) × (s ≤ 16) = d s in-head in omega arith
+word-digit (s ∷ x) d zero h = let b : (1 ≤ s) × (s ≤ stopBase) = d s in-head in omega arith
 word-digit (s ∷ x) d (suc i) h =
-    let b : (1 ≤ s) × (s ≤ 16) = d s in-head in
-    let w : ℕ = s - 1 + 16 * orderWord x in
-    let e : w / 16 ≡ orderWord x = omega arith in
-    let f : w / 16 ^ suc i ≡ orderWord x / 16 ^ i =
-    ap (λ (m : ℕ). w / m) (pow-succ' 16 i) ∙ sym (div-div-eq-div-mul w 16 (16 ^ i)) ∙ ap (λ (m : ℕ). m / 16 ^ i) e in
-    ap (λ (m : ℕ). m % 16 + 1) f ∙ word-digit x (λ r j. d r (List·Memᴰ·tail j)) i (omega arith)
+    let b : (1 ≤ s) × (s ≤ stopBase) = d s in-head in
+    let w : ℕ = s - 1 + stopBase * orderWord x in
+    let e : w / stopBase ≡ orderWord x = omega arith in
+    let f : w / stopBase ^ suc i ≡ orderWord x / stopBase ^ i =
+    ap (λ (m : ℕ). w / m) (pow-succ' stopBase i) ∙ sym (div-div-eq-div-mul w stopBase (stopBase ^ i)) ∙ ap (λ (m : ℕ). m / stopBase ^ i) e in
+    ap (λ (m : ℕ). m % stopBase + 1) f ∙ word-digit x (λ r j. d r (List·Memᴰ·tail j)) i (omega arith)
 
 word-equal : (w x : Node) → Digits w → Digits x → length w ≡ length x → orderWord w ≡ orderWord x → w ≡ x
 word-equal w x d e l h =
     ext-getD 0 w x l
-    (λ i k. sym (word-digit w d i k) ∙ ap (λ (m : ℕ). m / 16 ^ i % 16 + 1) h ∙ word-digit x e i (omega arith))
+    (λ i k. sym (word-digit w d i k) ∙ ap (λ (m : ℕ). m / stopBase ^ i % stopBase + 1) h ∙ word-digit x e i (omega arith))
 
-word-extend : (x : Node) (s : ℕ) → orderWord (extend x s) ≡ orderWord x + (s - 1) * 16 ^ length x
+word-extend : (x : Node) (s : ℕ) → orderWord (extend x s) ≡ orderWord x + (s - 1) * stopBase ^ length x
 word-extend [] s = omega arith
 word-extend (r ∷ x) s =
-    let e : (s - 1) * 16 ^ suc (length x) ≡ 16 * ((s - 1) * 16 ^ length x) =
-    ap (λ (m : ℕ). (s - 1) * m) (pow-suc 16 (length x)) ∙ sym (mul-assoc (s - 1) (16 ^ length x) 16)
-    ∙ mul-comm ((s - 1) * 16 ^ length x) 16 in
+    let e : (s - 1) * stopBase ^ suc (length x) ≡ stopBase * ((s - 1) * stopBase ^ length x) =
+    ap (λ (m : ℕ). (s - 1) * m) (pow-suc stopBase (length x)) ∙ sym (mul-assoc (s - 1) (stopBase ^ length x) stopBase)
+    ∙ mul-comm ((s - 1) * stopBase ^ length x) stopBase in
     omega (arith, word-extend x s)
 
 -- the two words of a node
@@ -69,75 +71,75 @@ digits-drop : (k : ℕ) (x : Node) → Digits x → Digits (drop k x)
 digits-drop k x d s i = d s (subst (λ (l : Node). In s l) (take-append-drop k x) (Memᴰ·append-right (take k x) i))
 
 module _ (x : Node) (d : Digits x) where
-  pub first-below : (k : ℕ) → min 8 (length x) ≤ k → orderWord (take 8 x) < 16 ^ k
-  first-below k h = word-below (take 8 x) (digits-take 8 x d) k (omega (arith, length-take 8 x))
+  pub first-below : (k : ℕ) → min wordStops (length x) ≤ k → orderWord (take wordStops x) < stopBase ^ k
+  first-below k h = word-below (take wordStops x) (digits-take wordStops x d) k (omega (arith, length-take wordStops x))
 
-  pub second-below : (k : ℕ) → length x - 8 ≤ k → orderWord (drop 8 x) < 16 ^ k
-  second-below k h = word-below (drop 8 x) (digits-drop 8 x d) k (omega (arith, length-drop 8 x))
+  pub second-below : (k : ℕ) → length x - wordStops ≤ k → orderWord (drop wordStops x) < stopBase ^ k
+  second-below k h = word-below (drop wordStops x) (digits-drop wordStops x d) k (omega (arith, length-drop wordStops x))
 
-  pub first-digit : (i : ℕ) → i < length x → i < 8 → orderWord (take 8 x) / 16 ^ i % 16 + 1 ≡ getD x i 0
-  first-digit i h k = word-digit (take 8 x) (digits-take 8 x d) i (omega (arith, length-take 8 x)) ∙ getD-take 8 x i 0 k
+  pub first-digit : (i : ℕ) → i < length x → i < wordStops → orderWord (take wordStops x) / stopBase ^ i % stopBase + 1 ≡ getD x i 0
+  first-digit i h k = word-digit (take wordStops x) (digits-take wordStops x d) i (omega (arith, length-take wordStops x)) ∙ getD-take wordStops x i 0 k
 
-  pub second-digit : (i : ℕ) → i < length x → 8 ≤ i → orderWord (drop 8 x) / 16 ^ (i - 8) % 16 + 1 ≡ getD x i 0
+  pub second-digit : (i : ℕ) → i < length x → wordStops ≤ i → orderWord (drop wordStops x) / stopBase ^ (i - wordStops) % stopBase + 1 ≡ getD x i 0
   second-digit i h k =
-      word-digit (drop 8 x) (digits-drop 8 x d) (i - 8) (omega (arith, length-drop 8 x)) ∙ getD-drop 8 x (i - 8) 0
+      word-digit (drop wordStops x) (digits-drop wordStops x d) (i - wordStops) (omega (arith, length-drop wordStops x)) ∙ getD-drop wordStops x (i - wordStops) 0
       ∙ ap (λ (j : ℕ). getD x j 0) (omega arith)
 
-  pub stop-read : (i : ℕ) → i < length x → stopAt (orderWord (take 8 x)) (orderWord (drop 8 x)) i ≡ getD x i 0
+  pub stop-read : (i : ℕ) → i < length x → stopAt (orderWord (take wordStops x)) (orderWord (drop wordStops x)) i ≡ getD x i 0
   unfolding stopAt
-  stop-read i h = go (ordered 8 i)
+  stop-read i h = go (ordered wordStops i)
     where
-      go : (8 ≤ i) ⊎ (i < 8) → stopAt (orderWord (take 8 x)) (orderWord (drop 8 x)) i ≡ getD x i 0
-      go (inl k) = rw (le-ltb i 8 k) (second-digit i h k)
-      go (inr k) = rw (lt-ltb i 8 k) (first-digit i h k)
+      go : (wordStops ≤ i) ⊎ (i < wordStops) → stopAt (orderWord (take wordStops x)) (orderWord (drop wordStops x)) i ≡ getD x i 0
+      go (inl k) = rw (le-ltb i wordStops k) (second-digit i h k)
+      go (inr k) = rw (lt-ltb i wordStops k) (first-digit i h k)
 
 -- whatever the two numbers are
-pub stop-range : (first second k : ℕ) → (1 ≤ stopAt first second k) × (stopAt first second k ≤ 16)
+pub stop-range : (first second k : ℕ) → (1 ≤ stopAt first second k) × (stopAt first second k ≤ stopBase)
 unfolding stopAt
-stop-range first second k = go (ltb k 8)
+stop-range first second k = go (ltb k wordStops)
   where
     go :
         (b : Bool)
-        → (1 ≤ cond b (first / 16 ^ k % 16) (second / 16 ^ (k - 8) % 16) + 1)
-        × (cond b (first / 16 ^ k % 16) (second / 16 ^ (k - 8) % 16) + 1 ≤ 16)
+        → (1 ≤ cond b (first / stopBase ^ k % stopBase) (second / stopBase ^ (k - wordStops) % stopBase) + 1)
+        × (cond b (first / stopBase ^ k % stopBase) (second / stopBase ^ (k - wordStops) % stopBase) + 1 ≤ stopBase)
     go true = (omega arith, omega arith)
     go false = (omega arith, omega arith)
 
--- a stop more goes into the first word while there are fewer than eight, and then into the second
+-- a stop more goes into the first word while that has room, and then into the second
 pub first-extend :
-    (x : Node) (s : ℕ) → orderWord (take 8 (extend x s)) ≡ orderWord (take 8 x) + cond (ltb (length x) 8) ((s - 1) * 16 ^ length x) 0
-first-extend x s = go (ordered 8 (length x))
+    (x : Node) (s : ℕ) → orderWord (take wordStops (extend x s)) ≡ orderWord (take wordStops x) + cond (ltb (length x) wordStops) ((s - 1) * stopBase ^ length x) 0
+first-extend x s = go (ordered wordStops (length x))
   where
     go :
-        (8 ≤ length x) ⊎ (length x < 8)
-        → orderWord (take 8 (extend x s)) ≡ orderWord (take 8 x) + cond (ltb (length x) 8) ((s - 1) * 16 ^ length x) 0
-    go (inl h) = rw (le-ltb (length x) 8 h, take-append-le 8 x (s ∷ []) h) (omega arith)
+        (wordStops ≤ length x) ⊎ (length x < wordStops)
+        → orderWord (take wordStops (extend x s)) ≡ orderWord (take wordStops x) + cond (ltb (length x) wordStops) ((s - 1) * stopBase ^ length x) 0
+    go (inl h) = rw (le-ltb (length x) wordStops h, take-append-le wordStops x (s ∷ []) h) (omega arith)
     go (inr h) =
-        rw (lt-ltb (length x) 8 h, take-all 8 (extend x s) (omega (arith, length-append x (s ∷ []))), take-all 8 x (omega arith))
+        rw (lt-ltb (length x) wordStops h, take-all wordStops (extend x s) (omega (arith, length-append x (s ∷ []))), take-all wordStops x (omega arith))
         (word-extend x s)
 
 pub second-extend :
     (x : Node) (s : ℕ)
-    → orderWord (drop 8 (extend x s)) ≡ orderWord (drop 8 x) + cond (ltb (length x) 8) 0 ((s - 1) * 16 ^ (length x - 8))
-second-extend x s = go (ordered 8 (length x))
+    → orderWord (drop wordStops (extend x s)) ≡ orderWord (drop wordStops x) + cond (ltb (length x) wordStops) 0 ((s - 1) * stopBase ^ (length x - wordStops))
+second-extend x s = go (ordered wordStops (length x))
   where
     go :
-        (8 ≤ length x) ⊎ (length x < 8)
-        → orderWord (drop 8 (extend x s)) ≡ orderWord (drop 8 x) + cond (ltb (length x) 8) 0 ((s - 1) * 16 ^ (length x - 8))
-    go (inl h) = rw (le-ltb (length x) 8 h, drop-append-le 8 x (s ∷ []) h, ← length-drop 8 x) (word-extend (drop 8 x) s)
+        (wordStops ≤ length x) ⊎ (length x < wordStops)
+        → orderWord (drop wordStops (extend x s)) ≡ orderWord (drop wordStops x) + cond (ltb (length x) wordStops) 0 ((s - 1) * stopBase ^ (length x - wordStops))
+    go (inl h) = rw (le-ltb (length x) wordStops h, drop-append-le wordStops x (s ∷ []) h, ← length-drop wordStops x) (word-extend (drop wordStops x) s)
     go (inr h) =
         rw (
-          lt-ltb (length x) 8 h,
-          drop-of-length-le (extend x s) {i = 8} (omega (arith, length-append x (s ∷ []))),
-          drop-of-length-le x {i = 8} (omega arith),
+          lt-ltb (length x) wordStops h,
+          drop-of-length-le (extend x s) {i = wordStops} (omega (arith, length-append x (s ∷ []))),
+          drop-of-length-le x {i = wordStops} (omega arith),
         ) refl
 
 pub orders-equal :
     (w x : Node) → Digits w → Digits x → length w ≡ length x
-    → orderWord (take 8 w) ≡ orderWord (take 8 x) → orderWord (drop 8 w) ≡ orderWord (drop 8 x) → w ≡ x
+    → orderWord (take wordStops w) ≡ orderWord (take wordStops x) → orderWord (drop wordStops w) ≡ orderWord (drop wordStops x) → w ≡ x
 orders-equal w x d e l h k =
-    sym (take-append-drop 8 w)
+    sym (take-append-drop wordStops w)
     ∙ ap₂ (λ (a b : Node). a ++ b)
-    (word-equal (take 8 w) (take 8 x) (digits-take 8 w d) (digits-take 8 x e) (omega (arith, length-take 8 w, length-take 8 x)) h)
-    (word-equal (drop 8 w) (drop 8 x) (digits-drop 8 w d) (digits-drop 8 x e) (omega (arith, length-drop 8 w, length-drop 8 x)) k)
-    ∙ take-append-drop 8 x
+    (word-equal (take wordStops w) (take wordStops x) (digits-take wordStops w d) (digits-take wordStops x e) (omega (arith, length-take wordStops w, length-take wordStops x)) h)
+    (word-equal (drop wordStops w) (drop wordStops x) (digits-drop wordStops w d) (digits-drop wordStops x e) (omega (arith, length-drop wordStops w, length-drop wordStops x)) k)
+    ∙ take-append-drop wordStops x

@@ -1,7 +1,7 @@
 -- Laws of `Sifted` at a partial index, for a loop that reads the record at `to`, goes one on, and stores the record at e if it passes
 -- the test: at the start nothing is moved (`sifted-none`); a record that passes is stored at e (`sifted-passes`); one that fails is left
 -- out (`sifted-fails`). A run that passes is moved as one (`sifted-run`), and the records behind one that is taken out move up
--- (`taken-out`). Then laws of passes over the first records, one over what the other left (`sifted-twice`). Assumes nothing.
+-- (`taken-out`). Then laws of passes over the first records, one over what the other left (`sifted-twice`).
 use mathlib.Core.Path.{_≡_, refl, ap, sym, _∙_}
 use mathlib.Core.Bool.{Bool, true, false, cond, _&&_}
 use mathlib.Core.List.{List, [], _∷_, _++_, append-assoc, append-nil}
@@ -15,12 +15,12 @@ use lib.Dec.{T, ltb}
 use lib.ListN.{length, getD, take, drop, set, length-append, length-take, length-drop, length-set}
 use lib.Seq.{slice, slice-empty, length-slice, length-take-le, take-suc-set, take-add, take-at, drop-at, drop-set-lt, drop-drop, getD-drop}
 use Rattle.lists.specs.Lists.{In, put, keep}
-use Rattle.lists.proofs.Keep.{keep-same, keep-all, keep-keep}
+use Rattle.lists.proofs.Keep.{keep-same, keep-all, keep-keep, keep-append}
 use Rattle.lists.proofs.Numbers.{keep-parts}
+use Rattle.lists.proofs.Slices.{keep-slice-more, slice-join, drop-further, slice-further, AllSo}
 use Rattle.lists.proofs.Tests.{ordered}
 use Rattle.stops.specs.Code.{emptyRecord}
 use Rattle.stops.specs.declared.node_record.Record.{Record}
-use Rattle.records.proofs.SliceLaws.{keep-append, keep-slice-more, slice-join, drop-further, slice-further, AllSo}
 use Rattle.records.specs.Code.{Sifted, always}
 
 -- At most as many records are stored as are read, and the first is stored at or before the first read, so e is at most `to`
@@ -118,11 +118,6 @@ module _ (l : List Record) (a i : ℕ) (inside : i < a) (fits : a ≤ length l) 
 pub sifted-fewer : {test : Record → Bool} {l l′ : List Record} {m r : ℕ} → Sifted test l 0 m 0 l′ r → r ≤ m
 sifted-fewer {test} {l} {m = m} sifted = omega (arith, sifted .count, keep-parts test (take m l), length-take m l)
 
-drop-past : (e m : ℕ) (xs ys : List Record) → e ≤ m → drop e xs ≡ drop e ys → drop m xs ≡ drop m ys
-drop-past e m xs ys h same =
-    let past : e + (m - e) ≡ m = omega arith in
-    rw (← past, ← drop-drop (m - e) e xs, same, drop-drop)
-
 pub sifted-twice :
     {f g : Record → Bool} {l l′ l″ : List Record} {m e r : ℕ} → Sifted f l 0 m 0 l′ e → Sifted g l′ 0 e 0 l″ r
     → Sifted (λ x. f x && g x) l 0 m 0 l″ r
@@ -132,7 +127,7 @@ sifted-twice {f} {g} {l} {l′} {l″} {m} {e} first second =
       same-length = second .same-length ∙ first .same-length;
       front = second .front ∙ kept;
       count = rw (← kept) (second .count);
-      behind = drop-past e m l″ l′ (sifted-fewer first) (second .behind) ∙ first .behind;
+      behind = drop-further e l″ l′ (second .behind) m (sifted-fewer first) ∙ first .behind;
     }
 
 -- a test that every record passes moves none

@@ -10,13 +10,13 @@ use mathlib.Core.List.{List, [], _∷_, _++_}
 use Prim.Native.Nat.{ℕ, suc, _+_, _≤_, _<_}
 use lib.ListN.{length, getD, take, drop}
 use lib.Seq.{slice}
+use Rattle.sizes.specs.Sizes.{wordStops}
 use Rattle.lists.specs.Lists.{keep, each}
-use Rattle.orders.specs.Orders.{Node, setOf, size}
-use Rattle.stops.specs.Legs.{Legs, path}
-use Rattle.stops.specs.Bounds.{boundBy}
+use Rattle.orders.specs.Orders.{Node, setOf, mask, size}
+use Rattle.days.specs.Days.{Day}
 use Rattle.stops.specs.Code.{emptyRecord}
 use Rattle.stops.specs.declared.node_record.Record.{Record}
-use Rattle.records.specs.Records.{mask, orderWord}
+use Rattle.records.specs.Records.{orderWord}
 
 unfoldable pub records : List ℕ → List Record
 records [] = []
@@ -35,14 +35,14 @@ unfoldable pub words : List Record → List ℕ
 words xs = each six xs
 
 -- the record of a node: `Records.record-of`, as six named numbers
-unfoldable pub encode : ℕ → Legs → ℕ → Node → Record
-encode n L bound x = record {
+unfoldable pub encode : ℕ → Day → ℕ → Node → Record
+encode n D bound x = record {
   size = size n x;
   set = mask (setOf n x);
-  path = path L x;
-  bound = boundBy bound n L x;
-  first = orderWord (take 8 x);
-  second = orderWord (drop 8 x);
+  path = D .path x;
+  bound = D .bound bound x;
+  first = orderWord (take wordStops x);
+  second = orderWord (drop wordStops x);
 }
 
 -- the list without its element at i

@@ -1,22 +1,19 @@
--- Node records and the pool's words: document 01, "The pool". Assumes nothing.
+-- Node records and the pool's words: document 01, "The pool".
 use mathlib.Core.Bool.{cond}
-use mathlib.Core.List.{List, [], _∷_, _++_}
+use mathlib.Core.List.{List, [], _∷_}
 use Prim.Native.Nat.{ℕ, _+_, _*_, _-_, _^_, _/_, _%_}
 use lib.Dec.{ltb}
-use lib.ListN.{length, take, drop, replicate}
+use lib.ListN.{length, take, drop}
 use Rattle.sizes.specs.Sizes.{recordWords, stopBase, wordStops}
-use Rattle.lists.specs.Lists.{sum, each}
+use Rattle.lists.specs.Lists.{each}
+unfoldable pub use Rattle.lists.specs.Lists.{padded}
 use Rattle.search.specs.Problem.{State}
 use Rattle.search.specs.Run.{held}
-use Rattle.orders.specs.Orders.{Node, setOf, size}
-use Rattle.stops.specs.Legs.{Legs, path}
-use Rattle.stops.specs.Bounds.{boundBy}
+use Rattle.orders.specs.Orders.{Node, setOf, mask, size}
+use Rattle.days.specs.Days.{Day}
 
--- "stop s adds 2 to the power s-1"
-unfoldable pub mask : List ℕ → ℕ
-mask stops = sum (λ s. 2 ^ (s - 1)) stops
-
--- "s-1 in four bits each, eight stops a number, first stop lowest, unused bits 0"
+-- The order stands in two numbers, the second for what the first has no room for. In each, stop s is the digit s-1; the first stop is the
+-- lowest digit, and digits that are not used are 0.
 abbrev pub orderWord : Node → ℕ
 orderWord [] = 0
 orderWord (s ∷ x) = (s - 1) + stopBase * orderWord x
@@ -25,18 +22,14 @@ orderWord (s ∷ x) = (s - 1) + stopBase * orderWord x
 unfoldable pub stopAt : ℕ → ℕ → ℕ → ℕ
 stopAt first second k = cond (ltb k wordStops) (first / stopBase ^ k % stopBase) (second / stopBase ^ (k - wordStops) % stopBase) + 1
 
--- "size, set .., path cost, bound, and two for the order"
-unfoldable pub record-of : ℕ → Legs → ℕ → Node → List ℕ
-record-of n L bound x =
-    size n x ∷ mask (setOf n x) ∷ path L x ∷ boundBy bound n L x ∷ orderWord (take wordStops x) ∷ orderWord (drop wordStops x) ∷ []
+-- a node's record on a day: its size, its set, its path cost, its bound, and the two numbers of its order
+unfoldable pub record-of : ℕ → Day → ℕ → Node → List ℕ
+record-of n D bound x =
+    size n x ∷ mask (setOf n x) ∷ D .path x ∷ D .bound bound x ∷ orderWord (take wordStops x) ∷ orderWord (drop wordStops x) ∷ []
 
--- some words, and zeros behind, up to a length
-unfoldable pub padded : ℕ → List ℕ → List ℕ
-padded len words = words ++ replicate (len - length words) 0
-
--- "the active nodes, earliest first; then, with rule 4, the branched nodes, earliest branched first; zeros behind", in a pool of some length
-unfoldable pub poolWords : ℕ → Legs → ℕ → ℕ → ℕ → State Node → List ℕ
-poolWords n L bound rules len s = padded len (each (record-of n L bound) (held rules s))
+-- the words of a pool of some length: the records of the nodes that it holds, and zeros behind
+unfoldable pub poolWords : ℕ → Day → ℕ → ℕ → ℕ → State Node → List ℕ
+poolWords n D bound rules len s = padded len (each (record-of n D bound) (held rules s))
 
 -- how many whole records a pool of some words has
 unfoldable pub recordsIn : List ℕ → ℕ

@@ -9,13 +9,14 @@ ghost use Rattle.records.specs.Code.{records};
 
 pub mod order;
 
+use sizes::RECORD_WORDS;
 use stops::node_record::Record;
 
 pub fn load(w: &[u32], i: usize) -> Record
     requires { ⌜ i < length (records (now w)) ⌝ }
     ensures { λ r. ⌜ r ≡ getD (records (now (w .entry))) i emptyRecord ⌝ }
 {
-    let at = 6 * i;
+    let at = RECORD_WORDS * i;
     Record {
         size: w[at],
         set: w[at + 1],
@@ -30,7 +31,7 @@ pub fn store(w: &mut [u32], i: usize, x: Record)
     requires { ⌜ i < length (records (now w)) ⌝ }
     ensures { λ r. ⌜ records (now (w .exit)) ≡ set (records (now (w .entry))) i x ⌝ }
 {
-    let at = 6 * i;
+    let at = RECORD_WORDS * i;
     w[at] = x.size;
     w[at + 1] = x.set;
     w[at + 2] = x.path;

@@ -1,34 +1,44 @@
-// The order of a node in its two numbers: four bits for each stop, eight stops a number.
+// The order of a node in its two numbers: a digit for each stop, in the second number once the first is full.
 ghost use mathlib.Core.Path.{_≡_};
 ghost use mathlib.Core.List.{map};
 ghost use Prim.Native.Nat.{_≤_, _<_, min};
-ghost use Rattle.lists.specs.Lists.{from};
-ghost use Rattle.records.specs.Records.{stopAt, padded};
+ghost use Rattle.sizes.specs.Sizes.{mostStops, orderPlaces, stopBase};
+ghost use Rattle.lists.specs.Lists.{from, padded};
+ghost use Rattle.records.specs.Records.{stopAt};
+use sizes::MOST_STOPS;
+use sizes::ORDER_PLACES;
+use sizes::STOP_BASE;
+use sizes::STOP_BITS;
+use sizes::WORD_STOPS;
 
 // The stop at place k.
 pub fn stop_at(first: u32, second: u32, k: u32) -> u32
-    requires { ⌜ k < 16 ⌝ }
-    ensures { λ r. ⌜ (r ≡ stopAt first second k) × (r ≤ 16) ⌝ }
+    requires { ⌜ k < mostStops ⌝ }
+    ensures { λ r. ⌜ (r ≡ stopAt first second k) × (r ≤ stopBase) ⌝ }
 {
-    if k < 8 {
-        return (first >> (4 * k)) % 16 + 1;
+    if k < WORD_STOPS {
+        return (first >> (STOP_BITS * k)) % STOP_BASE + 1;
     }
-    (second >> (4 * (k - 8))) % 16 + 1
+    (second >> (STOP_BITS * (k - WORD_STOPS))) % STOP_BASE + 1
 }
 
-// How many of the sixteen places a number of stops takes.
+// How many places of an order so many stops take, if these are too many for it.
 pub fn places(count: u32) -> u32
-    ensures { λ r. ⌜ r ≡ min count 16 ⌝ }
+    ensures { λ r. ⌜ r ≡ min count mostStops ⌝ }
 {
-    if count < 16 { count } else { 16 }
+    if count < MOST_STOPS {
+        count
+    } else {
+        MOST_STOPS
+    }
 }
 
 // The stops at the first places, so many as `count` says, and zeros behind.
-pub fn stops_of(count: u32, first: u32, second: u32) -> [u8; 16]
-    requires { ⌜ count ≤ 16 ⌝ }
-    ensures { λ r. ⌜ r ≡ padded 16 (map (stopAt first second) (from 0 count)) ⌝ }
+pub fn stops_of(count: u32, first: u32, second: u32) -> [u8; ORDER_PLACES]
+    requires { ⌜ count ≤ mostStops ⌝ }
+    ensures { λ r. ⌜ r ≡ padded orderPlaces (map (stopAt first second) (from 0 count)) ⌝ }
 {
-    let mut stops = [0u8; 16];
+    let mut stops = [0u8; ORDER_PLACES];
     let mut k = 0;
     while k < count {
         stops[k as usize] = stop_at(first, second, k) as u8;

@@ -1,31 +1,36 @@
 -- What parts 6 and 7 of a step do to the pool's records. These definitions are the code's own: a reader of the promise needs none of them.
---   Active       where the active records and the branched one stand, and which children take part in rule 8
 --   stayingOf    what rules 1 and 8 leave of the active records
---   heldWith     the branched node at the far end
--- Assumes nothing.
+--   Changing     what the functions ask of the numbers that they go by
+--   Replaced     what the pool's records are afterwards
+--   farWith      the branched node at the far end
+use mathlib.Core.Path.{_≡_}
 use mathlib.Core.Bool.{cond}
-use mathlib.Core.List.{List}
-use Prim.Native.Nat.{ℕ, _-_, _≤_, _<_}
-use lib.Dec.{eqb}
-use lib.ListN.{length, take, set}
+use mathlib.Core.List.{List, _++_}
+use Prim.Native.Nat.{ℕ, _+_, _-_, _≤_}
+use lib.Dec.{T, eqb}
+use lib.ListN.{length, take, drop, set}
 use Rattle.lists.specs.Lists.{keep}
 use Rattle.stops.specs.declared.node_record.Record.{Record}
-use Rattle.records.specs.Code.{dropAt}
-use Rattle.rivals.specs.Code.{AllNear}
 use Rattle.passes.specs.Code.{isStaying}
+use Rattle.children.specs.Code.{othersIn, Spotted}
+use Rattle.children.specs.declared.spot.Spot.{Spot}
+use Rattle.replacement.specs.declared.Change.{Change}
 
--- the active records are the first a of some, b stands at i among them, and the first `taking` kids, which are near b's set, take part
--- in rule 8
-pub record Active (recs : List Record) (a i size base : ℕ) (kids : List Record) (taking : ℕ) : Type 0 where
-  pub inside : i < a
-  pub whole : a ≤ length recs
-  pub kids-few : taking ≤ length kids
-  pub kids-near : AllNear size base (take taking kids)
+unfoldable pub stayingOf : List Record → Spot → Change → List Record → List Record
+stayingOf recs p c kids = keep (isStaying (c .limit) (take (c .taking) kids)) (othersIn recs (p .active) (p .at))
 
--- what rules 1 and 8 leave of them, without b
-unfoldable pub stayingOf : List Record → ℕ → ℕ → ℕ → List Record → ℕ → List Record
-stayingOf recs a i limit kids taking = keep (isStaying limit (take taking kids)) (dropAt i (take a recs))
+-- the kids that take part in rule 8 are near the set of the node that is branched; where `all` says so, every active record stays but it
+pub record Changing (recs : List Record) (p : Spot) (c : Change) (kids : List Record) : Type 0 where
+  pub spotted : Spotted recs p kids (c .taking)
+  pub right : T (c .all) → stayingOf recs p c kids ≡ othersIn recs (p .active) (p .at)
+  pub some : c .left ≤ length kids
 
--- b in front of the records that are held at the far end, if any are held
-unfoldable pub heldWith : List Record → ℕ → ℕ → Record → List Record
-heldWith recs count held b = cond (eqb held 0) recs (set recs (count - held) b)
+-- those that stay, then the kids that survive, r in all; behind these, and behind what was active, the records are as before
+pub record Replaced (recs : List Record) (p : Spot) (c : Change) (kids recs′ : List Record) (r : ℕ) : Type 0 where
+  pub front : take r recs′ ≡ stayingOf recs p c kids ++ take (c .left) kids
+  pub count : r ≡ length (stayingOf recs p c kids) + c .left
+  pub behind : (j : ℕ) → p .active ≤ j → r ≤ j → drop j recs′ ≡ drop j recs
+
+-- b in front of the records at the far end, if these are held
+unfoldable pub farWith : List Record → ℕ → ℕ → Record → List Record
+farWith recs capacity far b = cond (eqb far 0) recs (set recs (capacity - far) b)

@@ -2,13 +2,16 @@
 // what the functions compute. They are public for the crate above and not for hosts; what they require, that crate meets.
 ghost use mathlib.Core.Path.{_≡_};
 ghost use mathlib.Core.Bool.{not, cond, _&&_};
-ghost use mathlib.Core.List.{_++_};
-ghost use Prim.Native.Nat.{ℕ, _+_, _-_, _^_, _≤_, _<_};
-ghost use lib.Dec.{T, leb, ltb, eqb};
-ghost use lib.ListN.{length, take, drop};
+ghost use Prim.Native.Nat.{_+_, _^_, _≤_, _<_};
+ghost use lib.Dec.{leb, ltb, eqb};
+ghost use lib.ListN.{length};
+ghost use Rattle.sizes.specs.Sizes.{mostStops};
 ghost use Rattle.search.specs.Step.{on};
-ghost use Rattle.records.specs.Code.{records, dropAt};
-ghost use Rattle.replacement.specs.Code.{Active, stayingOf, heldWith};
+ghost use Rattle.records.specs.Code.{records};
+ghost use Rattle.children.specs.Code.{Spotted};
+ghost use Rattle.replacement.specs.Code.{Changing, Replaced, stayingOf, farWith};
+use children::rules::on;
+use children::spot::Spot;
 use passes::sift;
 use passes::staying;
 use pool::part::take_out;
@@ -16,19 +19,34 @@ use pool::part::write_at;
 use records::store;
 use stops::node_record::Record;
 
+// What parts 6 and 7 go by: the limit of rule 1, how many children survive, how many of these take part in rule 8, and whether every
+// active record stays.
+pub struct Change {
+    pub limit: u32,
+    pub left: usize,
+    pub taking: usize,
+    pub all: bool,
+}
+
 // How many children take part in rule 8.
 pub fn taking_of(rules: u32, left: usize) -> usize
     ensures { λ r. ⌜ r ≡ cond (on 8 rules) left 0 ⌝ }
 {
-    if rules / 8 % 2 == 1 { left } else { 0 }
+    if on(8, rules) {
+        return left;
+    }
+    0
 }
 
-// How many branched nodes the pool holds after the step.
-pub fn holding(rules: u32, held: usize) -> usize
-    requires { ⌜ held < 2 ^ 62 ⌝ }
-    ensures { λ r. ⌜ r ≡ cond (on 4 rules) (held + 1) 0 ⌝ }
+// How many branched records stand at the pool's far end after the step.
+pub fn holding(rules: u32, far: usize) -> usize
+    requires { ⌜ far < 2 ^ 62 ⌝ }
+    ensures { λ r. ⌜ r ≡ cond (on 4 rules) (far + 1) 0 ⌝ }
 {
-    if rules / 4 % 2 == 1 { held + 1 } else { 0 }
+    if on(4, rules) {
+        return far + 1;
+    }
+    0
 }
 
 // Whether every active record stays: no child takes part in rule 8, and U did not fall under rule 1.
@@ -38,113 +56,109 @@ pub fn all_stay(rules: u32, known: u32, upper: u32, taking: usize) -> bool
     if taking != 0 {
         return false;
     }
-    if rules % 2 != 1 {
+    if !on(1, rules) {
         return true;
     }
     known <= upper
 }
 
-// How many of the first a records but that at i stay active.
-fn remaining(
-    w: &[u32],
-    a: usize,
-    i: usize,
-    limit: u32,
-    size: u32,
-    base: u32,
-    kids: &[u32],
-    taking: usize,
-) -> usize
-    requires { ⌜ Active (records (now w)) a i size base (records (now kids)) taking ⌝ }
-    ensures { λ r. ⌜ r ≡ length (stayingOf (records (now (w .entry))) a i limit (records (now (kids .entry))) taking) ⌝ }
+// How many of the active records stay, but the one that is branched.
+fn remaining(w: &[u32], spot: Spot, change: Change, kids: &[u32]) -> usize
+    requires { ⌜ Spotted (records (now w)) spot (records (now kids)) (change .taking) ⌝ }
+    ensures { λ r. ⌜ r ≡ length (stayingOf (records (now (w .entry))) spot change (records (now (kids .entry)))) ⌝ }
 {
-    let before = staying(w, 0, i, limit, size, base, kids, taking);
-    let behind = staying(w, i + 1, a, limit, size, base, kids, taking);
+    let before = staying(
+        w,
+        0,
+        spot.at,
+        change.limit,
+        spot.size,
+        spot.base,
+        kids,
+        change.taking,
+    );
+    let behind = staying(
+        w,
+        spot.at + 1,
+        spot.active,
+        change.limit,
+        spot.size,
+        spot.base,
+        kids,
+        change.taking,
+    );
     before + behind
 }
 
-// Whether the nodes to keep are at most count. They are counted only where some may go and it matters; all says that none goes.
-pub fn fits(
-    w: &[u32],
-    count: usize,
-    a: usize,
-    i: usize,
-    limit: u32,
-    size: u32,
-    base: u32,
-    kids: &[u32],
-    left: usize,
-    taking: usize,
-    held: usize,
-    all: bool,
-) -> bool
-    requires { ⌜ Active (records (now w)) a i size base (records (now kids)) taking × ((T all → length (stayingOf (records (now w)) a i limit (records (now kids)) taking) ≡ a - 1) × ((left ≤ 16) × (held ≤ a + length (records (now w))))) ⌝ }
-    ensures { λ r. ⌜ r ≡ leb (length (stayingOf (records (now (w .entry))) a i limit (records (now (kids .entry))) taking) + left + held) count ⌝ }
+// Whether the nodes to keep are at most the pool's capacity; far is how many of them are branched ones. They are counted only where some
+// may go and it matters.
+pub fn fits(w: &[u32], spot: Spot, change: Change, far: usize, kids: &[u32]) -> bool
+    requires { ⌜ Changing (records (now w)) spot change (records (now kids)) × ((change .left ≤ mostStops) × (far ≤ spot .active + length (records (now w)))) ⌝ }
+    ensures { λ r. ⌜ r ≡ leb (length (stayingOf (records (now (w .entry))) spot change (records (now (kids .entry)))) + change .left + far) (spot .capacity) ⌝ }
 {
-    let most = a - 1 + left + held;
-    if most <= count {
+    let most = spot.active - 1 + change.left + far;
+    if most <= spot.capacity {
         return true;
     }
-    if all {
+    if change.all {
         return false;
     }
-    let stay = remaining(w, a, i, limit, size, base, kids, taking);
-    stay + left + held <= count
+    let stay = remaining(w, spot, change, kids);
+    stay + change.left + far <= spot.capacity
 }
 
-// Parts 6 and 7 where some active records may go: what stays of the first a without that at i, then the first left kids.
-fn sifted(
-    w: &mut [u32],
-    a: usize,
-    i: usize,
-    limit: u32,
-    size: u32,
-    base: u32,
-    kids: &[u32],
-    left: usize,
-    taking: usize,
-) -> usize
-    requires { ⌜ Active (records (now w)) a i size base (records (now kids)) taking × ((left ≤ length (records (now kids))) × (length (stayingOf (records (now w)) a i limit (records (now kids)) taking) + left ≤ length (records (now w)))) ⌝ }
-    ensures { λ r. ⌜ (take r (records (now (w .exit))) ≡ stayingOf (records (now (w .entry))) a i limit (records (now (kids .entry))) taking ++ take left (records (now (kids .entry)))) × ((r ≡ length (stayingOf (records (now (w .entry))) a i limit (records (now (kids .entry))) taking) + left) × ((j : ℕ) → a ≤ j → r ≤ j → drop j (records (now (w .exit))) ≡ drop j (records (now (w .entry))))) ⌝ }
+// Parts 6 and 7 where some active records may go: what stays of them, then the children that survive.
+fn sifted(w: &mut [u32], spot: Spot, change: Change, kids: &[u32]) -> usize
+    requires { ⌜ Changing (records (now w)) spot change (records (now kids)) × (length (stayingOf (records (now w)) spot change (records (now kids))) + change .left ≤ length (records (now w))) ⌝ }
+    ensures { λ r. ⌜ Replaced (records (now (w .entry))) spot change (records (now (kids .entry))) (records (now (w .exit))) r ⌝ }
 {
-    let before = sift(w, 0, i, 0, limit, size, base, kids, taking);
-    let end = sift(w, i + 1, a, before, limit, size, base, kids, taking);
-    write_at(w, end, kids, left);
-    end + left
+    let before = sift(
+        w,
+        0,
+        spot.at,
+        0,
+        change.limit,
+        spot.size,
+        spot.base,
+        kids,
+        change.taking,
+    );
+    let end = sift(
+        w,
+        spot.at + 1,
+        spot.active,
+        before,
+        change.limit,
+        spot.size,
+        spot.base,
+        kids,
+        change.taking,
+    );
+    write_at(w, end, kids, change.left);
+    end + change.left
 }
 
-// Parts 6 and 7: the active records afterwards stand at the front, and their number is the result. Where all stay but that at i, it is
-// taken out.
-pub fn replace(
-    w: &mut [u32],
-    a: usize,
-    i: usize,
-    limit: u32,
-    size: u32,
-    base: u32,
-    kids: &[u32],
-    left: usize,
-    taking: usize,
-    all: bool,
-) -> usize
-    requires { ⌜ Active (records (now w)) a i size base (records (now kids)) taking × ((T all → stayingOf (records (now w)) a i limit (records (now kids)) taking ≡ dropAt i (take a (records (now w)))) × ((left ≤ length (records (now kids))) × (length (stayingOf (records (now w)) a i limit (records (now kids)) taking) + left ≤ length (records (now w))))) ⌝ }
-    ensures { λ r. ⌜ (take r (records (now (w .exit))) ≡ stayingOf (records (now (w .entry))) a i limit (records (now (kids .entry))) taking ++ take left (records (now (kids .entry)))) × ((r ≡ length (stayingOf (records (now (w .entry))) a i limit (records (now (kids .entry))) taking) + left) × ((j : ℕ) → a ≤ j → r ≤ j → drop j (records (now (w .exit))) ≡ drop j (records (now (w .entry))))) ⌝ }
+// Parts 6 and 7: the active records afterwards stand at the front, and the result says how many they are. Where all stay but the one that
+// is branched, it is taken out.
+pub fn replace(w: &mut [u32], spot: Spot, change: Change, kids: &[u32]) -> usize
+    requires { ⌜ Changing (records (now w)) spot change (records (now kids)) × (length (stayingOf (records (now w)) spot change (records (now kids))) + change .left ≤ length (records (now w))) ⌝ }
+    ensures { λ r. ⌜ Replaced (records (now (w .entry))) spot change (records (now (kids .entry))) (records (now (w .exit))) r ⌝ }
 {
-    if all {
-        let end = take_out(w, a, i);
-        write_at(w, end, kids, left);
-        return end + left;
+    if change.all {
+        let end = take_out(w, spot.active, spot.at);
+        write_at(w, end, kids, change.left);
+        return end + change.left;
     }
-    sifted(w, a, i, limit, size, base, kids, left, taking)
+    sifted(w, spot, change, kids)
 }
 
 // The branched node joins those at the far end, if the pool holds them.
-pub fn hold(w: &mut [u32], count: usize, held: usize, b: Record)
-    requires { ⌜ (count ≡ length (records (now w))) × (held ≤ count) ⌝ }
-    ensures { λ u. ⌜ records (now (w .exit)) ≡ heldWith (records (now (w .entry))) count held b ⌝ }
+pub fn hold(w: &mut [u32], capacity: usize, far: usize, b: Record)
+    requires { ⌜ (capacity ≡ length (records (now w))) × (far ≤ capacity) ⌝ }
+    ensures { λ u. ⌜ records (now (w .exit)) ≡ farWith (records (now (w .entry))) capacity far b ⌝ }
 {
-    if 0 < held {
-        let at = count - held;
+    if 0 < far {
+        let at = capacity - far;
         store(w, at, b);
     }
 }

@@ -1,9 +1,9 @@
--- Small cases of text, and document 01's case l. Assumes nothing.
+-- Small cases of text, and document 01's case l.
 use mathlib.Core.Path.{_≡_, refl}
 use mathlib.Core.List.{[], _∷_}
 use Rattle.answer.specs.Call.{refusal}
 use Rattle.answer.specs.declared.Report.{Report}
-use Rattle.report_format.specs.Text.{ascii, decimal, numbered, line}
+use Rattle.report_format.specs.Text.{ascii, decimal, spaced, line}
 use Rattle.report_format.specs.Printed.{refusedLine, sevenLines, printedBy, printed}
 
 zero-digits : decimal 0 ≡ ascii "0"
@@ -29,7 +29,7 @@ bytes-of-text = refl
 
 -- the report of case a
 a : Report
-unfolding decimal numbered line refusal refusedLine sevenLines printedBy printed
+unfolding decimal spaced line refusal refusedLine sevenLines printedBy printed
 a = record {
   number = 0;
   cost = 13;
@@ -41,13 +41,13 @@ a = record {
   most = 4;
 }
 
--- l. "prints seven lines"
+-- case l
 seven-lines-of-a :
     printed 3 a ≡ ascii "cost 13\norder 1 2 3\nbranched 3\ngenerated 7\neliminated 3\nactive 1\nmost 4\n"
 unfolding a
 seven-lines-of-a = refl
 
--- "`refused` and the number"
+-- .. and a refusal's line
 refusal-prints-number : printed 3 (refusal 10) ≡ ascii "refused 10\n"
 unfolding a
 refusal-prints-number = refl

@@ -1,4 +1,4 @@
--- Text as bytes, and numbers in decimal: document 01, "Job file and program". Assumes nothing.
+-- Text as bytes, and numbers in decimal: document 01, "Job file and program".
 use mathlib.Core.List.{List, [], _∷_, _++_}
 use Prim.Native.Nat.{ℕ, zero, suc, _+_, _/_, _%_}
 use Prim.Native.Char.{code}
@@ -20,14 +20,14 @@ digitsOf zero x = []
 digitsOf (suc most) zero = []
 digitsOf (suc most) (suc x) = digitsOf most (suc x / 10) ++ (digit (suc x % 10) ∷ [])
 
--- "in decimal": the digits of x / 10, which are never more than x, and then the last digit of x
+-- a number "in decimal": the digits of x / 10, which are never more than x, and then the last digit of x
 unfoldable pub decimal : ℕ → List ℕ
 decimal x = digitsOf x (x / 10) ++ (digit (x % 10) ∷ [])
 
 -- numbers, each behind a space
-unfoldable pub numbered : List ℕ → List ℕ
-numbered numbers = each (λ x. ascii " " ++ decimal x) numbers
+unfoldable pub spaced : List ℕ → List ℕ
+spaced xs = each (λ x. ascii " " ++ decimal x) xs
 
--- "Each line is a name and its numbers in decimal."
+-- a line: its name, its numbers, and the byte that ends it
 unfoldable pub line : String → List ℕ → List ℕ
-line name numbers = ascii name ++ numbered numbers ++ ascii "\n"
+line name xs = ascii name ++ spaced xs ++ ascii "\n"

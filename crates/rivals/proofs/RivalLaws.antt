@@ -15,14 +15,14 @@ use lib.Dec.{T, leb, eqb, eqb→eq, eqb-refl, not-T}
 use lib.ListN.{length, getD, take, set, length-set}
 use lib.Seq.{slice, slice-empty, take-suc-set}
 use Rattle.lists.specs.Lists.{In, put, keep, any}
-use Rattle.lists.proofs.Keep.{any-append}
+use Rattle.lists.proofs.Keep.{any-append, keep-append}
 use Rattle.lists.proofs.Tests.{same-tests, to-false, and-left, and-right, and-both, compared}
 use Rattle.lists.proofs.Members.{in-keep, keep-in, any-in, in-any}
+use Rattle.lists.proofs.Slices.{keep-slice-more, slice-join, AllSo}
 use Rattle.stops.specs.Code.{emptyRecord, recDominates}
 use Rattle.stops.specs.declared.node_record.Record.{Record}
 use Rattle.records.specs.Code.{Sifted}
 use Rattle.rivals.specs.Code.{isFree, near, AllNear, Gathering}
-use Rattle.records.proofs.SliceLaws.{keep-append, keep-slice-more, slice-join, AllSo}
 use Rattle.records.proofs.SiftLaws.{sifted-all, sifted-none, sifted-twice, sifted-same}
 
 -- two numbers of 32 digits side by side, of which one may lack digits, are the same if and only if each is

@@ -3,7 +3,7 @@
 --   Out, OutAt   what a job's rule 1 throws out at a price; at the price that a state knows
 --   Below a b    a's lists are b's without nodes that A's rule 1 throws out, and a's price and counts are no more than b's
 -- Two such states stay so when both jobs branch one node (`both-step`), and when B alone branches a node that is Out (`alone-step`).
--- If A has no rule 1, nothing is Out, and the lists are equal. Assumes nothing.
+-- If A has no rule 1, nothing is Out, and the lists are equal.
 use mathlib.Core.Bool.{Bool, true, false, not, _&&_}
 use mathlib.Core.List.{List, [], _∷_, List·Memᴰ·tail, List·Memᴰ·eq-of-singleton}
 use mathlib.Core.Logic.{_⊎_, inl, inr}

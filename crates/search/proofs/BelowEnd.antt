@@ -1,5 +1,4 @@
 -- Where B's run ends, A's ends: the states of two jobs stand side by side (`Below`), and B stops at its state. Then A stops at its own.
--- Assumes nothing.
 use mathlib.Core.Path.{_≡_, refl, subst}
 use mathlib.Core.Bool.{not}
 use mathlib.Core.List.{List, [], List·Memᴰ·not-nil}

@@ -1,5 +1,5 @@
 -- No count of a run passes the weight of the root, if a node weighs more than its children together (counts-bounded): the counts of a
--- run have a bound that is known beforehand. Assumes nothing.
+-- run have a bound that is known beforehand.
 use mathlib.Core.Path.{_≡_, refl, subst}
 use mathlib.Core.List.{List, [], _∷_}
 use mathlib.Core.Option.{Option}

@@ -1,7 +1,7 @@
 -- The comparison of two jobs that differ in rule 1, the bound, the budget, the pool and the order that they start with. If B's run is
 -- done, so is A's, the job with the closer bound, with the same fuel; A has branched and generated no more nodes, and has had no more
 -- active at once. One simulation: A's state stays `Below` B's. B may branch nodes that A has thrown out, while A waits; else both
--- branch the same node, until one of them is done. Assumes nothing.
+-- branch the same node, until one of them is done.
 use mathlib.Core.Path.{_≡_, refl, ap, _∙_}
 use mathlib.Core.Bool.{Bool, true, false, not}
 use mathlib.Core.List.{List, List·Memᴰ·eq-of-singleton}

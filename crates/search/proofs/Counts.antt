@@ -1,5 +1,5 @@
 -- The counts of a run agree: at every state that is reached from the start, each generated node was branched, was eliminated, or is
--- active; and `most` is at least the number of active nodes, and at least one. Assumes nothing.
+-- active; and `most` is at least the number of active nodes, and at least one.
 use mathlib.Core.Path.{_≡_, refl}
 use mathlib.Core.Bool.{Bool}
 use mathlib.Core.List.{List, [], _∷_}

@@ -1,7 +1,7 @@
 -- When a node stands for another: it is that node or dominates it. A node is covered in a state if an active or a BRANCHED node stands
 -- for it. `Covered v`: while v is at most the upper cost, the root and every child of a branched node, if they are good at v, are
 -- covered. `Sound`: what else holds of every state of a run. Here: these notions, and what the laws say of them.
--- That a step keeps both is in `CoverStep`. Assumes nothing.
+-- That a step keeps both is in `CoverStep`.
 use mathlib.Core.Path.{_≡_}
 use mathlib.Core.Logic.{_⊎_, inl, inr}
 use mathlib.Core.Option.{Option}

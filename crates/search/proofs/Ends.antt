@@ -1,5 +1,5 @@
 -- A run ends. If a node weighs more than its children together, each step makes the active nodes lighter together, so fuel above their
--- weight is never used up: the general run is not `stuck`, and the run of document 01 not `unfinished`. Assumes nothing.
+-- weight is never used up: the general run is not `stuck`, and the run of document 01 not `unfinished`.
 use mathlib.Core.Path.{_≡_, refl}
 use mathlib.Core.List.{List}
 use mathlib.Core.Logic.{_⊎_, inl, inr}

@@ -1,4 +1,4 @@
--- What the theory asks of a tree, a selection and a bound. Statements only. Assumes nothing.
+-- What the theory asks of a tree, a selection and a bound. Statements only.
 use mathlib.Core.Path.{_≡_}
 use mathlib.Core.Bool.{false, not}
 use mathlib.Core.Logic.{_⊎_}

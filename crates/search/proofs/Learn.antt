@@ -1,5 +1,5 @@
 -- Laws of `learn`, the search of the children for a cheaper complete node: the upper cost never rises, no complete child is cheaper
--- than it afterwards, and what is known stays a complete node of the tree. Assumes nothing.
+-- than it afterwards, and what is known stays a complete node of the tree.
 use mathlib.Core.Path.{_≡_}
 use mathlib.Core.Bool.{Bool, true, false, not, _&&_}
 use mathlib.Core.List.{List, [], _∷_, List·Memᴰ·tail, List·Memᴰ·cases-cons, List·Memᴰ·not-nil}

@@ -3,7 +3,7 @@
 --   mapChoice, mapState, mapNext, mapOutcome    a choice, a state, what comes next and an outcome, with each node mapped
 --   ValidState              the nodes of a state are valid, and its best node is complete
 --   select-maps, finishes-maps, learn-maps    the selection, the finish test and part 2 of a step commute with the map
--- That a step does so is in `MappedStep`, that runs do in `MappedRun`. Assumes nothing.
+-- That a step does so is in `MappedStep`, that runs do in `MappedRun`.
 use mathlib.Core.Path.{_≡_, refl, ap, _∙_}
 use mathlib.Core.Bool.{Bool, true, false, not, _&&_, cond}
 use mathlib.Core.List.{List, [], _∷_, map, List·Memᴰ·tail, List·Memᴰ·cases-cons}

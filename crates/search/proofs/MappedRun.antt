@@ -2,7 +2,6 @@
 -- P and C, mapped, with the same counts and the same outcome.
 --   next-maps, run-maps, start-maps         what comes next of a state, a run from it, and a run from the start
 --   next-valid, steps-valid, start-valid    the states of a run of P and C are valid
--- Assumes nothing.
 use mathlib.Core.Path.{_≡_, refl, ap, sym, _∙_, subst}
 use mathlib.Core.Bool.{Bool, true, false}
 use mathlib.Core.List.{_++_, map, map-append, List·Memᴰ·not-nil, List·Memᴰ·eq-of-singleton}

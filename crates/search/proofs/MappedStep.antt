@@ -1,6 +1,6 @@
 -- A step commutes with a map of nodes: where Q and D say of f x what P and C say of each valid x (`Maps`), each part of the step of Q
 -- and D is that part of the step of P and C, mapped, in the sequence of the step (step-maps); and a step leaves a valid state
--- (step-valid). That runs do so is in `MappedRun`. Assumes nothing.
+-- (step-valid). That runs do so is in `MappedRun`.
 use mathlib.Core.Path.{_≡_, refl, ap, sym, _∙_}
 use mathlib.Core.Bool.{Bool, not, _&&_}
 use mathlib.Core.List.{List, [], _∷_, _++_, map, map-append, List·Memᴰ·append-cases, List·Memᴰ·eq-of-singleton}

@@ -1,4 +1,4 @@
--- Which nodes are active and branched after a step, and that the upper cost does not rise. Assumes nothing.
+-- Which nodes are active and branched after a step, and that the upper cost does not rise.
 use mathlib.Core.Path.{_≡_}
 use mathlib.Core.List.{List, [], _∷_, List·Memᴰ·head, Memᴰ·append-left, Memᴰ·append-right, List·Memᴰ·append-cases, List·Memᴰ·eq-of-singleton}
 use mathlib.Core.Logic.{_⊎_, inl, inr}

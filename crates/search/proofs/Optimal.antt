@@ -2,7 +2,6 @@
 -- upper cost, then some active node leads to such an order (`reached-alive`, the paper's Lemma 1). Hence no order is cheaper than what
 -- an ended run knows (`ended-least`). Where the problem has an order, an ended run knows one (`ended-known`), and no state is without
 -- active nodes (`active-some`). The bounds of the active nodes give the floor of document 02, A.3 (`floor-holds`).
--- Assumes nothing.
 use mathlib.Core.Path.{_≡_, refl, subst}
 use mathlib.Core.Bool.{not}
 use mathlib.Core.List.{List, [], List·Memᴰ·not-nil, List·Memᴰ·eq-of-singleton}

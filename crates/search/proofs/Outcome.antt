@@ -4,7 +4,6 @@
 --   full-means, overflow-full       the pool is called full when, and only when, some steps come to such a state: the first of them
 --   finished-means, finish-finished, finish-whatever-pool    the run is finished just at the state that the finish test ends, in any pool
 --   steps-reached, reached-steps    what is proved of reached states is true of the states of the written run
--- Assumes nothing.
 use mathlib.Core.Path.{_≡_, refl, ap, sym, _∙_, subst}
 use mathlib.Core.Bool.{Bool, true, false, not}
 use mathlib.Core.List.{List}

@@ -1,5 +1,5 @@
 -- Laws of the selection by rank (`pick`): the chosen node stands in the list and has the least rank, the others are the rest in
--- their order, and nothing is chosen only of nothing. Assumes nothing.
+-- their order, and nothing is chosen only of nothing.
 use mathlib.Core.Path.{_≡_, refl, ap, sym, _∙_, subst}
 use mathlib.Core.Bool.{Bool, true, false, not}
 use mathlib.Core.List.{List, [], _∷_, _++_, List·Memᴰ·tail, List·Memᴰ·cases-cons, List·Memᴰ·not-nil, Memᴰ·append-left, Memᴰ·append-right, List·Memᴰ·append-cases}

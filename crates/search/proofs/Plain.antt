@@ -4,7 +4,6 @@
 --   step-is-move, finishes-is-ends, held-is-kept, next-is-verdict    the parts of the run are the general run's parts
 --   search-is-run, run-is-search    so are the outcomes; no general run of this instance is `paused`
 --   plan-manner, strict, adds    the laws that `Laws` asks of a plan and a tree, at this instance
--- Assumes nothing.
 use mathlib.Core.Path.{_≡_, refl, ap, sym, _∙_}
 use mathlib.Core.Bool.{Bool, true, false, _||_, cond}
 use mathlib.Core.List.{List}

@@ -2,7 +2,7 @@
 --   0: the earliest of the least bound      2 (FIFO): the earliest, all ranks 0
 --   1: the latest of the least bound        3 (LIFO): the latest, an incomplete node of rank 0, a complete one of rank 1
 -- Each writes "the earliest, or the latest, node that passes a test", and the test passes at just the nodes of some rank m below which
--- no node ranks: such a node is what `pick` chooses, if there is one. Assumes nothing.
+-- no node ranks: such a node is what `pick` chooses, if there is one.
 use mathlib.Core.Path.{_≡_, refl, sym, subst}
 use mathlib.Core.Bool.{Bool, true, false, not, cond}
 use mathlib.Core.List.{List, [], _∷_, List·Memᴰ·tail, List·Memᴰ·cases-cons, List·Memᴰ·not-nil}

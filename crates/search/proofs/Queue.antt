@@ -1,6 +1,6 @@
 -- Under FIFO and LIFO a complete node is chosen only if all active nodes are complete. Under LIFO its rank says so. Under FIFO the
 -- active nodes stand as a queue: sizes never fall along the list and differ by at most one, since the children of the earliest
--- node, one size larger, go to the end. Assumes nothing.
+-- node, one size larger, go to the end.
 use mathlib.Core.Path.{_≡_, sym, _∙_, subst}
 use mathlib.Core.Bool.{Bool, true, false}
 use mathlib.Core.List.{List, [], _∷_, _++_, List·Memᴰ·tail, List·Memᴰ·cases-cons, List·Memᴰ·not-nil, List·Memᴰ·append-cases}

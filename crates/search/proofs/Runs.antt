@@ -1,6 +1,6 @@
 -- Laws of runs: when a node ends a run, when a state stops and when it goes on; a run that is done is done the same with more fuel; and
 -- the counts only grow along a run. `Fewer s e` says that the counts of s are no more than those of e, `DoneWithin` that a run is done
--- with such counts. The other way round, what a verdict says, is in `Verdict`. Assumes nothing.
+-- with such counts. The other way round, what a verdict says, is in `Verdict`.
 use mathlib.Core.Path.{_≡_}
 use mathlib.Core.Bool.{false, not, _&&_, _||_}
 use mathlib.Core.List.{List, [], _∷_}

@@ -2,7 +2,6 @@
 -- The comparison of two runs holds the nodes of one run against those of the other in this way.
 -- `Trimmed P xs ys` says besides that no element of xs has P. Here are their laws: P made weaker, lists joined, more on the right,
 -- lengths, members, tests that eliminate on both sides or on the right alone, and the selection (`pick`) on both sides.
--- Assumes nothing.
 use mathlib.Core.Path.{_≡_, refl, sym, subst}
 use mathlib.Core.Bool.{Bool, true, false, not}
 use mathlib.Core.List.{List, [], _∷_, _++_, List·Memᴰ·head, List·Memᴰ·tail, List·Memᴰ·cases-cons, List·Memᴰ·append-cases}

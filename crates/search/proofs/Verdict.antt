@@ -1,6 +1,6 @@
 -- What a verdict says. Onward: a node was chosen, it does not end the run, another step was allowed, it fits the pool, and the next
 -- state is the step's. Stop: no node is active, or the chosen one ends the run: it is complete, or its bound says so. What every step
--- keeps, a run keeps. Assumes nothing.
+-- keeps, a run keeps.
 use mathlib.Core.Path.{_≡_, refl, sym, subst}
 use mathlib.Core.Bool.{Bool, true, false, not, _&&_, _||_}
 use mathlib.Core.List.{List, [], _∷_}

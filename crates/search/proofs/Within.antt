@@ -2,7 +2,6 @@
 --   active-within    under rule 1 no active node's bound is above U, at every state of a run
 --   rest-stays       so a step that leaves U as it was loses no active node to rule 1: the active nodes need be tested only when U fell
 --   off-keeps        rule 1, if off, eliminates nothing
--- Assumes nothing.
 use mathlib.Core.Path.{_≡_, subst}
 use mathlib.Core.Bool.{Bool, not}
 use mathlib.Core.List.{List, List·Memᴰ·append-cases, List·Memᴰ·eq-of-singleton}

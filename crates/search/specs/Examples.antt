@@ -3,7 +3,7 @@
 -- definition is met here first.
 --
 -- A tree is given by tables: the children of node i, the complete nodes, the bounds (for a complete node its cost), and which nodes
--- dominate which. Each example says how the run ends and the state that then stands. Assumes nothing.
+-- dominate which. Each example says how the run ends and the state that then stands.
 use mathlib.Core.Path.{_≡_, refl}
 use mathlib.Core.Bool.{_&&_}
 use mathlib.Core.List.{List, [], _∷_}

@@ -1,5 +1,5 @@
 -- What is searched, what a caller may choose, and the state of a run: document 01, "Nodes" and "One run", over any nodes N.
--- The stops of a table are an instance (crate `stops`). Assumes nothing.
+-- The stops of a table are an instance (crate `stops`).
 use mathlib.Core.Bool.{Bool}
 use mathlib.Core.List.{List, [], _∷_}
 use mathlib.Core.Option.{Option, none, some}
@@ -26,22 +26,23 @@ pub record Choices (N : Type 0) : Type 0 where
   -- the lower bound
   pub bound : N → ℕ
 
--- "State: active nodes in order of generation, nodes branched so far, upper cost U with its order, counts."
+-- What a run stands at between two steps. U is the cost of `best` (`upper`).
 pub record State (N : Type 0) : Type 0 where
+  -- earliest generated first
   pub active : List N
   -- earliest branched first
   pub branched : List N
-  -- U's order, if one is known
+  -- the cheapest order known, if there is one
   pub best : Option N
   pub generated : ℕ
   pub eliminated : ℕ
   pub most : ℕ
 
--- "U is the cost of the starting order, or above every cost if none is given."
+-- U: the cost of the best order known; while none is known, a number that no order costs
 abbrev pub upper : {N : Type 0} → Problem N → Option N → ℕ
 upper P none = P .above
 upper P (some x) = P .cost x
 
--- "At the start e is active and generated = 1."
+-- A run starts with e alone, which counts as generated; `best` is the starting order, if one is given.
 unfoldable pub start : {N : Type 0} → Problem N → Option N → State N
 start P best = record { active = P .root ∷ []; branched = []; best = best; generated = 1; eliminated = 0; most = 1 }

@@ -1,4 +1,4 @@
--- The run: document 01, "One run" and "The pool". Assumes nothing.
+-- The run: document 01, "One run" and "The pool".
 use mathlib.Core.Path.{_≡_}
 use mathlib.Core.Bool.{Bool, true, false, not}
 use mathlib.Core.List.{List, _++_}
@@ -9,7 +9,7 @@ use Rattle.search.specs.Problem.{Problem, Choices, State}
 use Rattle.search.specs.Selection.{Choice, nothing, chosen, select, finishes}
 use Rattle.search.specs.Step.{on, step}
 
--- What the pool holds of a state: the active nodes, earliest first; then, with rule 4, the branched nodes, earliest branched first.
+-- What the pool holds of a state: its active nodes in their order and, where rule 4 is on, its branched nodes behind them.
 abbrev pub withBranched : {N : Type 0} → Bool → List N → List N → List N
 withBranched true active branched = active ++ branched
 withBranched false active branched = active
@@ -29,12 +29,12 @@ pub data Outcome (N : Type 0) : Type 0 where
   full : State N → Outcome N
   unfinished : State N → Outcome N
 
--- "The finish test comes before the step, so a run that is finished is never refused with 7."
+-- The finish test is asked first, so what does not fit the pool is never looked at in a finished run.
 abbrev pub unless : {N : Type 0} → Bool → Next N → Next N
 unless true next = finish
 unless false next = next
 
--- "If these outnumber the records after a step, the pool is full, and the state before that step stands."
+-- The pool is full where a step would leave more to hold than there are records; that step is not taken.
 abbrev pub goUnless : {N : Type 0} → Bool → State N → Next N
 goUnless true s = overflow
 goUnless false s = go s

@@ -1,4 +1,4 @@
--- The four selections and the finish test: document 01, "One run". Assumes nothing.
+-- The four selections and the finish test: document 01, "One run".
 use mathlib.Core.Bool.{Bool, true, false, not, _&&_, _||_, cond}
 use mathlib.Core.List.{List, [], _∷_}
 use mathlib.Core.Option.{Option}
@@ -31,11 +31,8 @@ abbrev pub latest : {N : Type 0} → (N → Bool) → List N → Choice N
 latest test [] = nothing
 latest test (x ∷ xs) = orElse (behind x (latest test xs)) (cond (test x) (chosen x xs) nothing)
 
--- "The selection number decides which active node is branched, called b":
---   0: least bound (LLB), earliest generated on ties. 1: the same, latest on ties.
---   2 (FIFO): earliest generated.
---   3 (LIFO): latest generated that is not complete; if all are complete, the latest.
--- Any other number is refused before the run ("Causes and numbers", 4).
+-- The node to branch, by the number of the selection. LLB: of the nodes with the least bound the earliest (0) or the latest (1). FIFO
+-- (2): the earliest of all. LIFO (3): the latest that is not complete or, where every node is, the latest. Other numbers have cause 4.
 unfoldable pub selectBy : {N : Type 0} → Problem N → (N → ℕ) → ℕ → List N → Choice N
 selectBy P bound zero active = earliest (λ x. eqb (bound x) (least bound active)) active
 selectBy P bound (suc zero) active = latest (λ x. eqb (bound x) (least bound active)) active
@@ -50,7 +47,8 @@ abbrev pub empty : {N : Type 0} → List N → Bool
 empty [] = true
 empty (x ∷ xs) = false
 
--- "The run finishes .. if b's bound is at least U (and, under 2 and 3, b is the only active node), or if b is complete."
+-- The finish test of the chosen node b. A complete b ends the run; so does a bound that is not below U, under FIFO and LIFO only
+-- where no other node is active.
 unfoldable pub finishes : {N : Type 0} → Problem N → Choices N → Option N → N → List N → Bool
 finishes P C best b rest =
     leb (upper P best) (C .bound b) && (not (eqb (C .selection) 2 || eqb (C .selection) 3) || empty rest) || P .complete b

@@ -1,6 +1,5 @@
--- One step in its seven parts, in their sequence: document 01, "One run". b is the chosen node, rest the other active nodes.
--- Siblings are not tested against each other.
--- Assumes nothing.
+-- One step in its seven parts, in their sequence: document 01, "One run". b is the chosen node, rest the other active nodes. No child is
+-- held against its siblings.
 use mathlib.Core.Bool.{Bool, true, false, not, _&&_}
 use mathlib.Core.List.{List, [], _∷_, _++_}
 use mathlib.Core.Option.{Option, some}
@@ -10,7 +9,7 @@ use lib.ListN.{length}
 use Rattle.lists.specs.Lists.{keep, any}
 use Rattle.search.specs.Problem.{Problem, Choices, State, upper}
 
--- "The choice of rules is the sum of their numbers, 0 to 15": whether rule 1, 2, 4 or 8 is in the sum
+-- whether rule 1, 2, 4 or 8 is in the sum of the rules that are chosen
 abbrev pub on : ℕ → ℕ → Bool
 on rule rules = eqb (rules / rule % 2) 1
 
@@ -21,7 +20,7 @@ survivors eliminates xs = keep (λ x. not (eliminates x)) xs
 abbrev pub lost : {N : Type 0} → (N → Bool) → List N → ℕ
 lost eliminates xs = length (keep eliminates xs)
 
--- a complete child cheaper than U replaces U and its order; an equal one doesn't
+-- the best order known after some children: a complete one takes its place where it is cheaper, and not where it costs the same
 abbrev pub replace : {N : Type 0} → Bool → N → Option N → Option N
 replace true c best = some c
 replace false c best = best
@@ -31,15 +30,15 @@ learn P best [] = best
 learn P best (c ∷ cs) = learn P (replace (P .complete c && ltb (P .cost c) (upper P best)) c best) cs
 
 module _ {N : Type 0} (P : Problem N) (C : Choices N) (s : State N) (b : N) (rest : List N) where
-  -- 1. b leaves the active set (rest). Its children are generated in ascending stop order.
+  -- Part 1. b is active no more, which leaves rest. All its children are generated.
   unfoldable pub children₁ : List N
   children₁ = P .children b
 
-  -- 2. A complete child cheaper than U replaces U and its order.
+  -- Part 2. The best order known, and so U, with the children looked at.
   unfoldable pub best₂ : Option N
   best₂ = learn P (s .best) children₁
 
-  -- 3. Rule 1 (U/DBAS), if on: children, then active nodes, whose bound is above U are eliminated. U is as part 2 left it.
+  -- Part 3, rule 1 (U/DBAS): no child and no active node stays whose bound is above U, which is that of part 2. A bound of U stays.
   unfoldable pub over₃ : N → Bool
   over₃ x = on 1 (C .rules) && ltb (upper P best₂) (C .bound x)
 
@@ -49,29 +48,28 @@ module _ {N : Type 0} (P : Problem N) (C : Choices N) (s : State N) (b : N) (res
   unfoldable pub rest₃ : List N
   rest₃ = survivors over₃ rest
 
-  -- 4. Rule 2 (AS/DB), if on: children dominated by an active node are eliminated; the first dominating node found ends that child's
-  -- search (`any` stops there, and nothing else depends on it).
+  -- Part 4, rule 2 (AS/DB): no child stays that one of the active nodes dominates (`any` looks no further than the first that does).
   unfoldable pub dominated₄ : N → Bool
   dominated₄ x = on 2 (C .rules) && any (λ w. P .dominates w x) rest₃
 
   unfoldable pub children₄ : List N
   children₄ = survivors dominated₄ children₃
 
-  -- 5. Rule 4 (BFS/DB), if on: children dominated by a branched node are eliminated.
+  -- Part 5, rule 4 (BFS/DB): no child stays that one of the nodes branched before b dominates.
   unfoldable pub dominated₅ : N → Bool
   dominated₅ x = on 4 (C .rules) && any (λ w. P .dominates w x) (s .branched)
 
   unfoldable pub children₅ : List N
   children₅ = survivors dominated₅ children₄
 
-  -- 6. Rule 8 (DB/AS), if on: active nodes dominated by a surviving child are eliminated.
+  -- Part 6, rule 8 (DB/AS): no active node stays that a child which is left dominates.
   unfoldable pub dominated₆ : N → Bool
   dominated₆ x = on 8 (C .rules) && any (λ w. P .dominates w x) children₅
 
   unfoldable pub rest₆ : List N
   rest₆ = survivors dominated₆ rest₃
 
-  -- 7. Survivors are written behind the nodes that stay, in their order.
+  -- Part 7. The children that are left stand behind the active nodes that are left, each in their order.
   unfoldable pub active₇ : List N
   active₇ = rest₆ ++ children₅
 

@@ -22,6 +22,7 @@ use lib.Dec.{ltb, eqb}
 use lib.ListN.{length, getD, take, drop, length-append}
 use lib.Seq.{getD-append-seam, getD-take, length-take-le}
 use Rattle.lists.proofs.Tests.{compared, ordered}
+use Rattle.lists.proofs.Slices.{all-so-each}
 use Rattle.search.specs.Problem.{Problem}
 use Rattle.search.specs.Selection.{Choice, nothing, chosen}
 use Rattle.search.proofs.General.{beats, prefer, against, pick}
@@ -32,7 +33,6 @@ use Rattle.stops.specs.declared.node_record.Record.{Record}
 use Rattle.records.specs.Code.{records, dropAt, RunsTo}
 use Rattle.selection.specs.Code.{Chosen, Ahead, NextAhead, boundAt, isBelow}
 use Rattle.records.proofs.ViewLaws.{records-at}
-use Rattle.records.proofs.SliceLaws.{all-so-each}
 
 ahead-le : (late : Bool) (a b : ℕ) → Ahead late a b → a ≤ b
 ahead-le true a b h = h

@@ -20,7 +20,9 @@ pub const RECORD_WORDS: usize = 6;
 
 // Bits of a stop in the words of an order, how many values these have, and how many stops a word holds.
 pub const STOP_BITS: u32 = 4;
+
 pub const STOP_BASE: u32 = 16;
+
 pub const WORD_STOPS: u32 = 8;
 
 // U while no order is known: above the cost of every order.

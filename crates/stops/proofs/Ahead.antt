@@ -1,7 +1,7 @@
 -- What a bound adds to the path cost of a node, as a function of the place where the node ends and of the stops that it leaves.
 --   ahead-grows     flying a leg lowers it by at most that leg: the heart of both bounds
 --   ahead-closer    close adds at least what plain adds
--- Nothing here knows of nodes or of sets; the stops left are any distinct numbers. Assumes nothing.
+-- Nothing here knows of nodes or of sets; the stops left are any distinct numbers.
 use mathlib.Core.Path.{_≡_, refl, sym, subst}
 use mathlib.Core.Bool.{not}
 use mathlib.Core.List.{List, [], _∷_, List·Memᴰ·tail, List·Memᴰ·cases-cons, List·Memᴰ·not-nil}
@@ -9,24 +9,15 @@ use mathlib.Core.Logic.{_⊎_, inl, inr}
 use Prim.Native.Nat.{ℕ, zero, suc, _+_, _≤_}
 use native.Mathlib.Omega.{arith}
 use lib.Dec.{eqb}
-use Rattle.lists.specs.Lists.{In, sum, least, Distinct}
+use Rattle.lists.specs.Lists.{In, sum, least, without, Distinct}
 use Rattle.lists.proofs.Tests.{neq, ne-neqb}
 use Rattle.lists.proofs.Members.{in-head, in-keep, keep-in}
 use Rattle.lists.proofs.Distinct.{sum-without}
-use Rattle.lists.proofs.Numbers.{sum-mono, least-le, least-in}
+use Rattle.lists.proofs.Numbers.{sum-mono, least-le, least-of-some}
 use Rattle.stops.specs.Legs.{Legs}
-use Rattle.stops.specs.Bounds.{without, cheapestInto, remainder}
+use Rattle.stops.specs.Bounds.{cheapestInto, remainder}
 use Rattle.stops.specs.Code.{ahead}
 use Rattle.stops.specs.Examples
-
--- the least of all candidates is at most the least of some of them
-least-of-some :
-    {A : Type 0} (f : A → ℕ) (xs : List A) (y : A) (ys : List A) → ((z : A) → In z (y ∷ ys) → In z xs)
-    → least f xs ≤ least f (y ∷ ys)
-least-of-some f xs y ys some =
-    let (z, m, e) = least-in f y ys in
-    let k : least f xs ≤ f z = least-le f xs z (some z m) in
-    omega arith
 
 -- The stop s, one of the distinct stops `rest`, is flown to from a place. The remainder falls by at most that leg:
 --   into each other stop r, the candidates afterwards are s and the others left, which were candidates before, so the cheapest leg

@@ -1,39 +1,39 @@
--- Stops as bits and as digits of four bits: what the shifts of `Node` compute, and that a word has room for its digits.
--- Assumes nothing.
+-- Stops as bits of a set and as digits of an order: what the shifts of `Record` compute, and that a word has room for its digits.
 use mathlib.Core.Path.{_≡_, refl, ap, sym, _∙_, subst}
 use Prim.Native.Nat.{ℕ, zero, suc, _+_, _*_, _-_, _^_, _%_, _≤_, _<_}
 use native.Mathlib.Nat.{mod-eq-of-lt, pow-suc, pow-le-pow-right, mul-le-mul-right}
 use native.Mathlib.Omega.{arith}
 use lib.Pow.{pow-mono, pow-add}
+use Rattle.sizes.specs.Sizes.{mostStops, stopBits, stopBase, wordStops}
 
 -- stop s stands for one bit
-pub bit-small : (s : ℕ) → s ≤ 16 → 2 ^ (s - 1) ≤ 2 ^ 15
+pub bit-small : (s : ℕ) → s ≤ mostStops → 2 ^ (s - 1) ≤ 2 ^ 15
 bit-small s h = pow-mono {i = s - 1} {j = 15} (omega arith)
 
-pub bit-shifted : (s : ℕ) → s ≤ 16 → (1 * 2 ^ (s - 1)) % 4_294_967_296 ≡ 2 ^ (s - 1)
+pub bit-shifted : (s : ℕ) → s ≤ mostStops → (1 * 2 ^ (s - 1)) % 4_294_967_296 ≡ 2 ^ (s - 1)
 bit-shifted s h =
     let k : 2 ^ (s - 1) ≤ 2 ^ 15 = bit-small s h in
     mod-eq-of-lt {n = 1 * 2 ^ (s - 1)} (omega arith) ∙ (let e : 1 * 2 ^ (s - 1) ≡ 2 ^ (s - 1) = omega arith in e)
 
--- a digit at place k is worth 16 to the power k
-pub sixteen-pow : (k : ℕ) → 2 ^ (4 * k) ≡ 16 ^ k
-sixteen-pow zero = refl
-sixteen-pow (suc k) =
-    ap (λ (m : ℕ). 2 ^ m) (let e : 4 * suc k ≡ 4 * k + 4 = omega arith in e) ∙ pow-add 2 (4 * k) 4
-    ∙ ap (λ (m : ℕ). m * 16) (sixteen-pow k) ∙ sym (pow-suc 16 k)
+-- what a digit at place k is worth
+pub digit-pow : (k : ℕ) → 2 ^ (stopBits * k) ≡ stopBase ^ k
+digit-pow zero = refl
+digit-pow (suc k) =
+    ap (λ (m : ℕ). 2 ^ m) (let e : stopBits * suc k ≡ stopBits * k + stopBits = omega arith in e) ∙ pow-add 2 (stopBits * k) stopBits
+    ∙ ap (λ (m : ℕ). m * stopBase) (digit-pow k) ∙ sym (pow-suc stopBase k)
 
--- eight digits fit a word
-digits-fit : (k : ℕ) → k < 8 → 16 ^ k * 16 ≤ 4_294_967_296
-digits-fit k h = subst (λ (m : ℕ). m ≤ 4_294_967_296) (pow-suc 16 k) (pow-le-pow-right {n = 16} (omega arith) {i = suc k} {j = 8} h)
+-- the digits of a word fit it
+digits-fit : (k : ℕ) → k < wordStops → stopBase ^ k * stopBase ≤ 4_294_967_296
+digits-fit k h = subst (λ (m : ℕ). m ≤ 4_294_967_296) (pow-suc stopBase k) (pow-le-pow-right {n = stopBase} (omega arith) {i = suc k} {j = wordStops} h)
 
-module _ (k s : ℕ) (h : k < 8) (few : s ≤ 16) where
-  digit-small : (s - 1) * 16 ^ k ≤ 15 * 16 ^ k
-  digit-small = mul-le-mul-right {m = s - 1} {n = 15} (16 ^ k) (omega arith)
+module _ (k s : ℕ) (h : k < wordStops) (few : s ≤ mostStops) where
+  digit-small : (s - 1) * stopBase ^ k ≤ 15 * stopBase ^ k
+  digit-small = mul-le-mul-right {m = s - 1} {n = 15} (stopBase ^ k) (omega arith)
 
-  pub digit-shifted : ((s - 1) * 2 ^ (4 * k)) % 4_294_967_296 ≡ (s - 1) * 16 ^ k
+  pub digit-shifted : ((s - 1) * 2 ^ (stopBits * k)) % 4_294_967_296 ≡ (s - 1) * stopBase ^ k
   digit-shifted =
-      ap (λ (m : ℕ). ((s - 1) * m) % 4_294_967_296) (sixteen-pow k)
-      ∙ mod-eq-of-lt {n = (s - 1) * 16 ^ k} (omega (arith, digit-small, digits-fit k h, pow-le-pow-right {n = 16} (omega arith) {i = 0} {j = k} (omega arith)))
+      ap (λ (m : ℕ). ((s - 1) * m) % 4_294_967_296) (digit-pow k)
+      ∙ mod-eq-of-lt {n = (s - 1) * stopBase ^ k} (omega (arith, digit-small, digits-fit k h, pow-le-pow-right {n = stopBase} (omega arith) {i = 0} {j = k} (omega arith)))
 
-  pub digit-fits : (w : ℕ) → w < 16 ^ k → w + (s - 1) * 16 ^ k < 4_294_967_296
+  pub digit-fits : (w : ℕ) → w < stopBase ^ k → w + (s - 1) * stopBase ^ k < 4_294_967_296
   digit-fits w room = omega (arith, digit-small, digits-fit k h)

@@ -1,4 +1,4 @@
--- Laws of `recDominates`, one for each of its tests: the first that decides. Assumes nothing.
+-- Laws of `recDominates`, one for each of its tests: the first that decides.
 use mathlib.Core.Path.{_≡_}
 use mathlib.Core.Bool.{true, false, not}
 use Prim.Native.Nat.{_≤_, _<_}

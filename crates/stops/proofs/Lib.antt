@@ -2,11 +2,9 @@ pub mod Digits
 pub mod Dominance
 pub mod Paths
 pub mod Ahead
-pub mod Bounds
-pub mod Alike
-pub mod LegTable
-pub mod Instance
-pub mod RowLaws
 pub mod SetBits
 pub mod SetAnd
 pub mod SetLoops
+pub mod LegTable
+pub mod RowLaws
+pub mod StopsWalk

@@ -1,14 +1,13 @@
--- Laws of path costs and last places.
---   path-extend, last-extend    what one more stop does to them
---   path-small, cost-small      how large they can be where no leg is above m (`Within`)
--- Assumes nothing.
-use mathlib.Core.Path.{_≡_, refl}
+-- Laws of path costs.
+--   path-extend               what one more stop does to one
+--   path-small, cost-small    how large path cost and cost can be where no leg is above m (`Within`)
+use mathlib.Core.Path.{_≡_}
 use mathlib.Core.List.{[], _∷_, _++_}
 use Prim.Native.Nat.{ℕ, suc, _+_, _*_, _≤_}
 use native.Mathlib.Omega.{arith}
 use lib.ListN.{length}
-use Rattle.orders.specs.Orders.{Node, extend}
-use Rattle.stops.specs.Legs.{Legs, pathFrom, lastFrom, path, last, cost}
+use Rattle.orders.specs.Orders.{Node, lastFrom, last, extend}
+use Rattle.stops.specs.Legs.{Legs, pathFrom, path, cost}
 use Rattle.stops.specs.Code.{Within}
 use Rattle.stops.specs.Examples
 
@@ -23,17 +22,6 @@ module _ (L : Legs) where
 
   pub path-extend : (x : Node) (s : ℕ) → path L (extend x s) ≡ path L x + L .leg (last x) s
   path-extend x s = omega (arith, path-append x (s ∷ []))
-
-lastFrom-append : (place : ℕ) (x y : Node) → lastFrom place (x ++ y) ≡ lastFrom (lastFrom place x) y
-lastFrom-append place [] y = refl
-lastFrom-append place (s ∷ x) y = lastFrom-append s x y
-
-last-append : (x y : Node) → last (x ++ y) ≡ lastFrom (last x) y
-unfolding last
-last-append x y = lastFrom-append 0 x y
-
-pub last-extend : (x : Node) (s : ℕ) → last (extend x s) ≡ s
-last-extend x s = last-append x (s ∷ [])
 
 module _ (m : ℕ) (L : Legs) (w : Within m L) where
   pathFrom-small : (place : ℕ) (x : Node) → pathFrom L place x ≤ length x * m

@@ -1,49 +1,29 @@
 -- Laws behind the functions of the table.
---   Rest, any-finds, any-skips, any-ends    a loop that looks for an element that passes a test
---   Clear, diagonal-finds, diagonal-skips, diagonal-ends    the same of the diagonal of a table
+--   Clear, diagonal-finds, diagonal-skips, diagonal-ends    a loop that looks for an entry of the diagonal that is not 0
 --   Inside, place-inside    a place of the table is within it, and the table is small
---   part-from    the part of a list from a place on, as it is lent
---   filled, filled-none, filled-more    a loop that fills an array of seventeen from the front
+--   filled, filled-none, filled-more    a loop that fills an array, as long as a row, from the front
 --   filled-row, filled-rows    a row and the rows, once the places up to n are filled
--- Assumes nothing.
 use mathlib.Core.Path.{_≡_, refl, ap, sym, _∙_}
 use mathlib.Core.Bool.{Bool, true, false, not, _&&_, cond}
 use mathlib.Core.List.{List, map}
 use mathlib.Core.Logic.{_⊎_, inl, inr, _≢_}
-use Prim.Native.Nat.{ℕ, zero, suc, _+_, _*_, _-_, _≤_, _<_}
+use Prim.Native.Nat.{ℕ, suc, _+_, _*_, _≤_, _<_}
 use native.Mathlib.Nat.{mul-le-mul, suc-mul}
 use native.Mathlib.Numerals.{add-one}
 use native.Mathlib.Omega.{arith}
 use lib.Dec.{leb, ltb, eqb, leb·suc-suc}
-use lib.ListN.{length, getD, set, take, drop, replicate, length-set, length-drop, drop-of-length-le}
-use lib.Seq.{take-all, drop-cons, getD-set-same, getD-set-other, getD-drop, ext-getD}
+use lib.ListN.{length, getD, set, drop, replicate, length-set}
+use lib.Seq.{getD-set-same, getD-set-other, getD-drop, ext-getD}
 use borrow.Author.Tests.{lt-ltb, eq-eqb, ne-eqb}
+use Rattle.sizes.specs.Sizes.{mostStops, places, tableNumbers}
 use Rattle.lists.specs.Lists.{any, from}
 use Rattle.lists.proofs.Tests.{compared, same-tests, tests}
+pub use Rattle.lists.proofs.Elements.{part-from}
+use Rattle.lists.proofs.Elements.{getD-numbers, getD-from, Rest, any-finds, any-skips, any-ends}
 use Rattle.lists.proofs.Map.{map-same}
 use Rattle.lists.proofs.Members.{length-from}
-use Rattle.stops.specs.Legs.{entry, rows}
+use Rattle.stops.specs.Tables.{entry, rows}
 use Rattle.stops.specs.Code.{rowOf}
-use Rattle.stops.proofs.LegTable.{getD-from}
-
--- A loop looks for an element that passes a test. Where none of the first k passes, the answer lies with the rest of the list.
-module _ {A : Type 0} (test : A → Bool) (xs : List A) where
-  abbrev pub Rest : ℕ → Type 0
-  Rest k = any test xs ≡ any test (drop k xs)
-
-  pub any-finds : (k : ℕ) (d : A) → Rest k → k < length xs → test (getD xs k d) ≡ true → false ≡ not (any test xs)
-  any-finds k d r h e = rw (r, drop-cons xs k d, e)
-
-  pub any-skips : (k : ℕ) (d : A) → Rest k → k < length xs → test (getD xs k d) ≡ false → Rest (k + 1)
-  any-skips k d r h e = r ∙ rw (drop-cons xs k d, e, add-one k)
-
-  pub any-ends : (k : ℕ) → Rest k → length xs ≤ k → true ≡ not (any test xs)
-  any-ends k r h = rw (r, drop-of-length-le xs h)
-
-getD-numbers : (a k i j : ℕ) → i < k → a + i ≡ j → getD (from a k) i 0 ≡ j
-getD-numbers a zero i j h e = absurd (omega arith)
-getD-numbers a (suc k) zero j h e = omega arith
-getD-numbers a (suc k) (suc i) j h e = getD-numbers (suc a) k i j (omega arith) (omega arith)
 
 entry-at : (n : ℕ) (table : List ℕ) (i j : ℕ) → getD table (i * (n + 1) + j) 0 ≡ entry n table i j
 unfolding entry
@@ -75,50 +55,47 @@ module _ (n : ℕ) (table : List ℕ) where
   pub diagonal-ends : (i : ℕ) → Clear i → n < i → true ≡ not (any marked (from 0 (suc n)))
   diagonal-ends i r h = any-ends marked (from 0 (suc n)) i r (omega (arith, length-from 0 (suc n)))
 
-  -- place i, j stands inside the table, which has at most 17 times 17 numbers
+  -- place i, j stands inside the table, which has no more numbers than the largest
   abbrev pub Inside : ℕ → ℕ → Type 0
-  Inside i j = (i * (n + 1) + j < length table) × (length table ≤ 289)
+  Inside i j = (i * (n + 1) + j < length table) × (length table ≤ tableNumbers)
 
-  pub place-inside : (i j : ℕ) → (n ≤ 16) × (length table ≡ suc n * suc n) → i ≤ n → j ≤ n → Inside i j
+  pub place-inside : (i j : ℕ) → (n ≤ mostStops) × (length table ≡ suc n * suc n) → i ≤ n → j ≤ n → Inside i j
   place-inside i j pre h k =
-      let few : suc n ≤ 17 = omega arith in
+      let few : suc n ≤ places = omega arith in
       let rows-above : i * (n + 1) ≤ n * suc n = mul-le-mul h (omega arith) in
-      let small : suc n * suc n ≤ 289 = mul-le-mul few few in
+      let small : suc n * suc n ≤ tableNumbers = mul-le-mul few few in
       (omega (arith, suc-mul n (suc n)), omega arith)
 
-pub part-from : (k : ℕ) (xs : List ℕ) → take (length xs - k) (drop k xs) ≡ drop k xs
-part-from k xs = take-all (length xs - k) (drop k xs) (omega (arith, length-drop k xs))
-
 module _ {A : Type 0} where
-  -- seventeen elements: f of the first k places, d at the others
+  -- as many elements as a row has: f of the first k places, d at the others
   unfoldable pub filled : ℕ → (ℕ → A) → A → List A
-  filled k f d = map (λ i. cond (ltb i k) (f i) d) (from 0 17)
+  filled k f d = map (λ i. cond (ltb i k) (f i) d) (from 0 places)
 
-  length-filled : (k : ℕ) (f : ℕ → A) (d : A) → length (filled k f d) ≡ 17
+  length-filled : (k : ℕ) (f : ℕ → A) (d : A) → length (filled k f d) ≡ places
   unfolding filled
   length-filled k f d = refl
 
-  getD-filled : (k : ℕ) (f : ℕ → A) (d : A) (i : ℕ) → i < 17 → getD (filled k f d) i d ≡ cond (ltb i k) (f i) d
+  getD-filled : (k : ℕ) (f : ℕ → A) (d : A) (i : ℕ) → i < places → getD (filled k f d) i d ≡ cond (ltb i k) (f i) d
   unfolding filled
-  getD-filled k f d i h = getD-from (λ j. cond (ltb j k) (f j) d) 0 17 i i d h (omega arith)
+  getD-filled k f d i h = getD-from (λ j. cond (ltb j k) (f j) d) 0 places i i d h (omega arith)
 
-  pub filled-none : (f : ℕ → A) (d : A) → replicate 17 d ≡ filled 0 f d
+  pub filled-none : (f : ℕ → A) (d : A) → replicate places d ≡ filled 0 f d
   unfolding filled
   filled-none f d = refl
 
-  pub filled-more : (k : ℕ) (f : ℕ → A) (d : A) → k < 17 → set (filled k f d) k (f k) ≡ filled (k + 1) f d
+  pub filled-more : (k : ℕ) (f : ℕ → A) (d : A) → k < places → set (filled k f d) k (f k) ≡ filled (k + 1) f d
   filled-more k f d h = ext-getD d stored (filled (k + 1) f d) (length-stored ∙ sym (length-filled (k + 1) f d)) at
     where
       stored : List A
       stored = set (filled k f d) k (f k)
 
-      length-stored : length stored ≡ 17
+      length-stored : length stored ≡ places
       length-stored = length-set (filled k f d) k (f k) ∙ length-filled k f d
 
       elsewhere : (i : ℕ) → i ≢ k → ltb i k ≡ ltb i (k + 1)
       elsewhere i e = same-tests (ltb i k) (ltb i (k + 1)) (λ t. omega (arith, tests)) (λ t. omega (arith, tests))
 
-      go : (i : ℕ) → i < 17 → (i ≡ k) ⊎ (i ≢ k) → getD stored i d ≡ getD (filled (k + 1) f d) i d
+      go : (i : ℕ) → i < places → (i ≡ k) ⊎ (i ≢ k) → getD stored i d ≡ getD (filled (k + 1) f d) i d
       go i l (inl e) =
           let in-range : k < length (filled k f d) = omega (arith, length-filled k f d) in
           rw (e, getD-set-same (filled k f d) k (f k) d in-range, getD-filled (k + 1) f d k h, lt-ltb k (k + 1) (omega arith))
@@ -132,26 +109,26 @@ module _ {A : Type 0} where
       at i l = go i (omega (arith, length-stored)) (compared i k)
 
   -- a loop over the places up to n leaves off at n + 1
-  filled-all : (n k : ℕ) (f : ℕ → A) (d : A) → k ≤ suc n → n < k → filled k f d ≡ map (λ i. cond (leb i n) (f i) d) (from 0 17)
+  filled-all : (n k : ℕ) (f : ℕ → A) (d : A) → k ≤ suc n → n < k → filled k f d ≡ map (λ i. cond (leb i n) (f i) d) (from 0 places)
   unfolding filled
   filled-all n k f d h l =
       ap (λ (m : ℕ). filled m f d) (let e : k ≡ suc n = omega arith in e)
-      ∙ map-same _ _ (from 0 17) (λ i m. ap (λ (b : Bool). cond b (f i) d) (leb·suc-suc i n))
+      ∙ map-same _ _ (from 0 places) (λ i m. ap (λ (b : Bool). cond b (f i) d) (leb·suc-suc i n))
 
 module _ (n k : ℕ) (h : k ≤ suc n) (l : n < k) where
   pub filled-row : (part : List ℕ) → filled k (λ j. getD part j 0) 0 ≡ rowOf n part
   unfolding rowOf
   filled-row part = filled-all n k (λ j. getD part j 0) 0 h l
 
-  pub filled-rows : (table : List ℕ) → filled k (λ i. rowOf n (drop (i * (n + 1)) table)) (replicate 17 0) ≡ rows n table
+  pub filled-rows : (table : List ℕ) → filled k (λ i. rowOf n (drop (i * (n + 1)) table)) (replicate places 0) ≡ rows n table
   unfolding rows rowOf
   filled-rows table =
-      filled-all n k (λ i. rowOf n (drop (i * (n + 1)) table)) (replicate 17 0) h l ∙ map-same _ _ (from 0 17) (λ i m. at i (leb i n))
+      filled-all n k (λ i. rowOf n (drop (i * (n + 1)) table)) (replicate places 0) h l ∙ map-same _ _ (from 0 places) (λ i m. at i (leb i n))
     where
       at :
           (i : ℕ) (b : Bool)
-          → cond b (rowOf n (drop (i * (n + 1)) table)) (replicate 17 0)
-          ≡ map (λ j. cond (b && leb j n) (entry n table i j) 0) (from 0 17)
+          → cond b (rowOf n (drop (i * (n + 1)) table)) (replicate places 0)
+          ≡ map (λ j. cond (b && leb j n) (entry n table i j) 0) (from 0 places)
       at i true =
-          map-same _ _ (from 0 17) (λ j m. ap (λ (v : ℕ). cond (leb j n) v 0) (getD-drop (i * (n + 1)) table j 0 ∙ entry-at n table i j))
+          map-same _ _ (from 0 places) (λ j m. ap (λ (v : ℕ). cond (leb j n) v 0) (getD-drop (i * (n + 1)) table j 0 ∙ entry-at n table i j))
       at i false = refl

@@ -1,5 +1,5 @@
 -- What `_&_` does to sets of stops that are held as numbers: of a set and the number before it, all but the lowest stop stay
--- (`stopsIn-later`); of a set with a stop added that it lacked and the set itself, the set stays (`stopsIn-added`). Assumes nothing.
+-- (`stopsIn-later`); of a set with a stop added that it lacked and the set itself, the set stays (`stopsIn-added`).
 use mathlib.Core.Path.{_≡_, _∙_}
 use mathlib.Core.List.{List, List·Memᴰ·cases-cons, List·Memᴰ·not-nil}
 use mathlib.Core.Logic.{_⊎_, inl, inr}
@@ -9,6 +9,7 @@ use native.Mathlib.Omega.{arith}
 use lib.Bits.{bitAnd, and-step, and-self}
 use lib.Count.{trailingZeros}
 use lib.Pow.{pow-pos}
+use Rattle.sizes.specs.Sizes.{mostStops}
 use Rattle.lists.specs.Lists.{In}
 use Rattle.stops.specs.Code.{stopsIn}
 use Rattle.stops.proofs.SetBits.{Digits, no-digit, is-clear, is-set, digits-range, digits-without, stops-digits, stopsIn-range}
@@ -60,9 +61,9 @@ digits-added (is-set {s = s} {xs = xs} h z d) (suc n) m e (suc j) t q i =
     go (inl p) = absurd (omega arith)
     go (inr p) = p
 
-pub stopsIn-later : (m : ℕ) → m < 2 ^ 16 → 0 < m → bitAnd m (m - 1) ≡ m - 2 ^ trailingZeros 32 m
+pub stopsIn-later : (m : ℕ) → m < 2 ^ mostStops → 0 < m → bitAnd m (m - 1) ≡ m - 2 ^ trailingZeros 32 m
 stopsIn-later m small p = digits-lowest (stops-digits m small) 32 (omega arith) p
 
 -- a stop that a set of the first n lacks, added to it, leaves its stops as they are
-pub stopsIn-added : (n m r s : ℕ) → m + r + 1 ≡ 2 ^ n → r < 2 ^ 16 → In s (stopsIn r) → bitAnd (m + 2 ^ (s - 1)) m ≡ m
+pub stopsIn-added : (n m r s : ℕ) → m + r + 1 ≡ 2 ^ n → r < 2 ^ mostStops → In s (stopsIn r) → bitAnd (m + 2 ^ (s - 1)) m ≡ m
 stopsIn-added n m r s all small i = digits-added (stops-digits r small) n m all (s - 1) s (omega (arith, stopsIn-range r small s i)) i

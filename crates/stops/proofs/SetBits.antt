@@ -1,11 +1,11 @@
 -- The stops of a set that is held as a number (`stopsIn`: stop s adds 2 to the power s-1), by arithmetic alone.
 --   stopsIn-zero, stopsIn-next    the empty set has none; the first of any other set is one more than its trailing zeros
---   stopsIn-range, stopsIn-distinct, stopsIn-few    they are of 1 to 16, none twice, and at most 16
+--   stopsIn-range, stopsIn-distinct, stopsIn-few    they are stops of a day, none twice, and no more than it may have
 --   stopsIn-without               taking 2 to the power s-1 off takes stop s out, and nothing else
---   mask, stopsIn-mask, mask-stopsIn, mask-small    the number of a set of stops, and the way back
+--   stopsIn-mask, mask-stopsIn, mask-small    the number of a set of stops (`mask`), and the way back
 --   mask-others, stopsIn-others   what is missing from the number of all n stops is the number of the other stops
 --   stopsIn-ones                  the digits that are set are as many as the stops
--- Each is shown of `Digits`, by halving the number. Assumes nothing.
+-- Each is shown of `Digits`, by halving the number.
 use mathlib.Core.Path.{_≡_, refl, ap, _∙_, sym}
 use mathlib.Core.Bool.{Bool, true, false, not}
 use mathlib.Core.List.{List, [], _∷_, List·Memᴰ·tail, List·Memᴰ·cases-cons, List·Memᴰ·not-nil}
@@ -16,11 +16,13 @@ use native.Mathlib.Omega.{arith}
 use lib.Count.{trailingZeros, ones, ones-step}
 use lib.Dec.{eqb, eqb-refl}
 use lib.ListN.{length}
-use Rattle.lists.specs.Lists.{In, put, keep, sum, from, Distinct, none, more}
+use Rattle.sizes.specs.Sizes.{mostStops}
+use Rattle.lists.specs.Lists.{In, put, keep, sum, from, without, Distinct, none, more}
 use Rattle.lists.proofs.Tests.{compared, to-true, to-false, ne-neqb}
 use Rattle.lists.proofs.Members.{in-head, in-keep, in-from}
+use Rattle.lists.proofs.Numbers.{sum-parts}
 use Rattle.lists.proofs.Distinct.{without-absent}
-use Rattle.stops.specs.Bounds.{without}
+use Rattle.orders.specs.Orders.{mask}
 use Rattle.stops.specs.Code.{bits, stopsIn}
 use Rattle.stops.specs.Examples
 
@@ -196,30 +198,20 @@ weight-all (suc n) s =
       pow-suc 2 n,
     )
 
-sum-parts : (f : ℕ → ℕ) (test : ℕ → Bool) (xs : List ℕ) → sum f (keep test xs) + sum f (keep (λ x. not (test x)) xs) ≡ sum f xs
-sum-parts f test [] = refl
-sum-parts f test (x ∷ xs) = go (test x) (sum-parts f test xs)
-  where
-    go :
-        (b : Bool) → sum f (keep test xs) + sum f (keep (λ y. not (test y)) xs) ≡ sum f xs
-        → sum f (put b x (keep test xs)) + sum f (put (not b) x (keep (λ y. not (test y)) xs)) ≡ f x + sum f xs
-    go true e = omega arith
-    go false e = omega arith
-
--- ---- sets of 16 stops
+-- ---- sets of the stops of a day
 
 pub stopsIn-zero : stopsIn 0 ≡ []
 unfolding stopsIn
-stopsIn-zero = digits-bits (digits-zero 16 1)
+stopsIn-zero = digits-bits (digits-zero mostStops 1)
 
-module _ (m : ℕ) (small : m < 2 ^ 16) where
-  pub stops-digits : Digits 16 1 m (stopsIn m)
+module _ (m : ℕ) (small : m < 2 ^ mostStops) where
+  pub stops-digits : Digits mostStops 1 m (stopsIn m)
   unfolding stopsIn
-  stops-digits = digits 16 1 m small
+  stops-digits = digits mostStops 1 m small
 
   pub stopsIn-next :
       0 < m
-      → (trailingZeros 32 m < 16) × (2 ^ trailingZeros 32 m ≤ m)
+      → (trailingZeros 32 m < mostStops) × (2 ^ trailingZeros 32 m ≤ m)
       × (stopsIn m ≡ (trailingZeros 32 m + 1) ∷ stopsIn (m - 2 ^ trailingZeros 32 m))
   unfolding stopsIn
   stopsIn-next p =
@@ -227,13 +219,13 @@ module _ (m : ℕ) (small : m < 2 ^ 16) where
       let first : 1 + t ≡ t + 1 = omega arith in
       rw (← z) (b, c, q ∙ rw (first, digits-bits n))
 
-  pub stopsIn-range : (s : ℕ) → In s (stopsIn m) → (1 ≤ s) × (s ≤ 16)
+  pub stopsIn-range : (s : ℕ) → In s (stopsIn m) → (1 ≤ s) × (s ≤ mostStops)
   stopsIn-range s i = omega (arith, digits-range stops-digits s i)
 
   pub stopsIn-distinct : Distinct (stopsIn m)
   stopsIn-distinct = digits-distinct stops-digits
 
-  pub stopsIn-few : length (stopsIn m) ≤ 16
+  pub stopsIn-few : length (stopsIn m) ≤ mostStops
   stopsIn-few = digits-few stops-digits
 
   pub stopsIn-ones : ones m ≡ length (stopsIn m)
@@ -242,32 +234,28 @@ module _ (m : ℕ) (small : m < 2 ^ 16) where
   pub stopsIn-without : (s : ℕ) → In s (stopsIn m) → (2 ^ (s - 1) ≤ m) × (stopsIn (m - 2 ^ (s - 1)) ≡ without s (stopsIn m))
   unfolding stopsIn
   stopsIn-without s i =
-      let h : (1 ≤ s) × (s ≤ 16) = stopsIn-range s i in
+      let h : (1 ≤ s) × (s ≤ mostStops) = stopsIn-range s i in
       let (b, n) = digits-without stops-digits (s - 1) s (omega arith) i in
       (b, digits-bits n)
 
--- the number of a set of stops
-abbrev pub mask : List ℕ → ℕ
-mask xs = sum (λ s. 2 ^ (s - 1)) xs
-
-pub mask-stopsIn : (m : ℕ) → m < 2 ^ 16 → mask (stopsIn m) ≡ m
-unfolding weight
+pub mask-stopsIn : (m : ℕ) → m < 2 ^ mostStops → mask (stopsIn m) ≡ m
+unfolding mask weight
 mask-stopsIn m small = digits-weight (stops-digits m small)
 
 module _ (test : ℕ → Bool) (n : ℕ) where
-  pub stopsIn-mask : n ≤ 16 → stopsIn (mask (keep test (from 1 n))) ≡ keep test (from 1 n)
-  unfolding weight stopsIn
-  stopsIn-mask f = digits-bits (weight-digits test n 16 1 f)
+  pub stopsIn-mask : n ≤ mostStops → stopsIn (mask (keep test (from 1 n))) ≡ keep test (from 1 n)
+  unfolding mask weight stopsIn
+  stopsIn-mask f = digits-bits (weight-digits test n mostStops 1 f)
 
   pub mask-small : mask (keep test (from 1 n)) < 2 ^ n
-  unfolding weight
+  unfolding mask weight
   mask-small = digits-small (weight-digits test n n 1 (omega arith))
 
   -- the others of the n stops
   pub mask-others : 2 ^ n - 1 - mask (keep test (from 1 n)) ≡ mask (keep (λ s. not (test s)) (from 1 n))
-  unfolding weight
+  unfolding mask weight
   mask-others = omega (arith, weight-all n 1, sum-parts (λ s. 2 ^ (s - 1)) test (from 1 n))
 
 pub stopsIn-others :
-    (test : ℕ → Bool) (n : ℕ) → n ≤ 16 → stopsIn (2 ^ n - 1 - mask (keep test (from 1 n))) ≡ keep (λ s. not (test s)) (from 1 n)
+    (test : ℕ → Bool) (n : ℕ) → n ≤ mostStops → stopsIn (2 ^ n - 1 - mask (keep test (from 1 n))) ≡ keep (λ s. not (test s)) (from 1 n)
 stopsIn-others test n f = ap stopsIn (mask-others test n) ∙ stopsIn-mask (λ s. not (test s)) n f

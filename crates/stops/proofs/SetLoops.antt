@@ -4,7 +4,6 @@
 --   Summed, summed-starts, summed-again, summed-ends    the same for a sum; summed-most: no sum on the way is above the last
 --   into-set, into-pair, pair-in, ahead-none, ahead-plain, ahead-close    the cheapest leg into a stop, and what a bound adds, of sets that are numbers
 --   remainder-small, ahead-small    what a bound adds is small where the legs are
--- Assumes nothing.
 use mathlib.Core.Path.{_≡_, refl, ap, sym, _∙_}
 use mathlib.Core.Bool.{not}
 use mathlib.Core.List.{List, [], _∷_, List·Memᴰ·tail, List·Memᴰ·cases-cons}
@@ -16,12 +15,13 @@ use lib.Count.{trailingZeros}
 use lib.Dec.{eqb}
 use lib.ListN.{length}
 use lib.Pow.{pow-pos}
-use Rattle.lists.specs.Lists.{In, sum, least}
+use Rattle.sizes.specs.Sizes.{mostStops}
+use Rattle.lists.specs.Lists.{In, sum, least, without}
 use Rattle.lists.proofs.Tests.{compared, neq, ne-neqb}
 use Rattle.lists.proofs.Members.{in-head, in-keep, keep-in}
 use Rattle.lists.proofs.Numbers.{sum-mono, sum-const, least-le, least-same}
 use Rattle.stops.specs.Legs.{Legs, rowLeg, legs}
-use Rattle.stops.specs.Bounds.{without, cheapestInto, remainder}
+use Rattle.stops.specs.Bounds.{cheapestInto, remainder}
 use Rattle.stops.specs.Code.{stopsIn, ahead, Within}
 use Rattle.stops.specs.Examples
 use Rattle.stops.proofs.SetBits.{stopsIn-zero, stopsIn-next, stopsIn-without}
@@ -32,7 +32,7 @@ pub record First (m r : ℕ) : Type 0 where
   pub others : stopsIn m ≡ r ∷ stopsIn (m - 2 ^ (r - 1))
   pub less : m - 2 ^ (r - 1) < m
 
-pub first-out : (m r : ℕ) → 0 < m → m < 2 ^ 16 → r ≡ trailingZeros 32 m + 1 → First m r
+pub first-out : (m r : ℕ) → 0 < m → m < 2 ^ mostStops → r ≡ trailingZeros 32 m + 1 → First m r
 first-out m r some small e =
     let (f, g, h) = stopsIn-next m small some in
     let back : trailingZeros 32 m ≡ r - 1 = omega arith in
@@ -70,20 +70,20 @@ module _ {A : Type 0} (f : A → ℕ) where
 -- The least value over a set is found so: with `low` the least of the stops passed and `left` the others, what is still to be found is
 -- the least of `low` and of the values over `left`, and that stays `goal`.
 pub record Lowered (f : ℕ → ℕ) (goal low left : ℕ) : Type 0 where
-  pub small : left < 2 ^ 16
+  pub small : left < 2 ^ mostStops
   pub same : lower f low (stopsIn left) ≡ goal
 
-pub lowered-starts : (f : ℕ → ℕ) (x left : ℕ) → left < 2 ^ 16 → Lowered f (least f (x ∷ stopsIn left)) (f x) left
+pub lowered-starts : (f : ℕ → ℕ) (x left : ℕ) → left < 2 ^ mostStops → Lowered f (least f (x ∷ stopsIn left)) (f x) left
 lowered-starts f x left h = record { small = h; same = lower-least f x (stopsIn left) }
 
 -- the loop may start from two values, too
 pub lowered-starts-two :
-    (f : ℕ → ℕ) (x y left : ℕ) → left < 2 ^ 16 → Lowered f (least f (x ∷ y ∷ stopsIn left)) (min (f x) (f y)) left
+    (f : ℕ → ℕ) (x y left : ℕ) → left < 2 ^ mostStops → Lowered f (least f (x ∷ y ∷ stopsIn left)) (min (f x) (f y)) left
 lowered-starts-two f x y left h = record { small = h; same = lower-least f x (y ∷ stopsIn left) }
 
 -- and from the first stop of the set
 pub lowered-starts-first :
-    (f : ℕ → ℕ) (set r left : ℕ) → set < 2 ^ 16 → First set r → left ≡ set - 2 ^ (r - 1) → Lowered f (least f (stopsIn set)) (f r) left
+    (f : ℕ → ℕ) (set r left : ℕ) → set < 2 ^ mostStops → First set r → left ≡ set - 2 ^ (r - 1) → Lowered f (least f (stopsIn set)) (f r) left
 lowered-starts-first f set r left h o e = rw (o .others, e) (lowered-starts f r (set - 2 ^ (r - 1)) (omega arith))
 
 pub lowered-again :
@@ -99,11 +99,11 @@ lowered-ends l e = rw (e, stopsIn-zero) at (l .same)
 
 -- A sum over the set `rest` is found so: `total` and the values over what is left add up to `goal`, and what is left is of the set.
 pub record Summed (f : ℕ → ℕ) (rest goal total left : ℕ) : Type 0 where
-  pub small : left < 2 ^ 16
+  pub small : left < 2 ^ mostStops
   pub part : (s : ℕ) → In s (stopsIn left) → In s (stopsIn rest)
   pub same : sum f (stopsIn left) + total ≡ goal
 
-pub summed-starts : {f : ℕ → ℕ} {rest goal total : ℕ} → rest < 2 ^ 16 → sum f (stopsIn rest) + total ≡ goal → Summed f rest goal total rest
+pub summed-starts : {f : ℕ → ℕ} {rest goal total : ℕ} → rest < 2 ^ mostStops → sum f (stopsIn rest) + total ≡ goal → Summed f rest goal total rest
 summed-starts h e = record { small = h; part = λ s i. i; same = e }
 
 module _ {f : ℕ → ℕ} {rest goal total left : ℕ} (l : Summed f rest goal total left) where
@@ -129,7 +129,7 @@ leg-small t m s places w = least-small (λ p. rowLeg t p s) m (λ p. w .leg p s)
 
 -- the cheapest leg into a stop of a set, from the others as a set
 pub into-set :
-    (t : List (List ℕ)) (place rest others s : ℕ) → rest < 2 ^ 16 → In s (stopsIn rest) → others ≡ rest - 2 ^ (s - 1)
+    (t : List (List ℕ)) (place rest others s : ℕ) → rest < 2 ^ mostStops → In s (stopsIn rest) → others ≡ rest - 2 ^ (s - 1)
     → least (λ p. rowLeg t p s) (place ∷ stopsIn others) ≡ cheapestInto (legs t) place (stopsIn rest) s
 unfolding legs cheapestInto
 into-set t place rest others s h i e = rw (e, stopsIn-without rest h s i .1)
@@ -162,7 +162,7 @@ taken-first x u xs i f = least-same f x x (u ∷ without u xs) xs there back
 
 -- and into one of two stops of a set, from the other one and the rest as a set
 pub into-pair :
-    (t : List (List ℕ)) (place rest others s u : ℕ) → rest < 2 ^ 16 → In s (stopsIn rest) → In u (stopsIn (rest - 2 ^ (s - 1)))
+    (t : List (List ℕ)) (place rest others s u : ℕ) → rest < 2 ^ mostStops → In s (stopsIn rest) → In u (stopsIn (rest - 2 ^ (s - 1)))
     → others ≡ rest - 2 ^ (s - 1) - 2 ^ (u - 1)
     → least (λ p. rowLeg t p s) (place ∷ u ∷ stopsIn others) ≡ cheapestInto (legs t) place (stopsIn rest) s
 into-pair t place rest others s u h i j e =
@@ -172,7 +172,7 @@ into-pair t place rest others s u h i j e =
 
 -- two stops of a part of a set, one after the other: each is of the set without the other
 pub pair-in :
-    (rest left s u : ℕ) → rest < 2 ^ 16 → left < 2 ^ 16 → ((x : ℕ) → In x (stopsIn left) → In x (stopsIn rest)) → In s (stopsIn left)
+    (rest left s u : ℕ) → rest < 2 ^ mostStops → left < 2 ^ mostStops → ((x : ℕ) → In x (stopsIn left) → In x (stopsIn rest)) → In s (stopsIn left)
     → In u (stopsIn (left - 2 ^ (s - 1))) → In u (stopsIn (rest - 2 ^ (s - 1))) × In s (stopsIn (rest - 2 ^ (u - 1)))
 pair-in rest left s u h k part i j =
     let (m, n) = in-keep (λ r. not (eqb s r)) (stopsIn left) u (rw (stopsIn-without left k s i .1) at j) in
@@ -197,24 +197,24 @@ module _ (m : ℕ) (L : Legs) (w : Within m L) (place : ℕ) where
         least-small (L .home) m (w .home) rest,
       )
 
-  pub ahead-small : (k number : ℕ) (rest : List ℕ) → length rest ≤ k → ahead number L place rest ≤ suc k * m
+  pub ahead-small : (k bound : ℕ) (rest : List ℕ) → length rest ≤ k → ahead bound L place rest ≤ suc k * m
   unfolding ahead
-  ahead-small k number [] h = omega (arith, suc-mul k m, w .home place)
+  ahead-small k bound [] h = omega (arith, suc-mul k m, w .home place)
   ahead-small k zero (r ∷ rest) h = omega arith
-  ahead-small k (suc number) (r ∷ rest) h =
+  ahead-small k (suc bound) (r ∷ rest) h =
       omega (arith, suc-mul k m, mul-le-mul-right m h, remainder-small (r ∷ rest))
 
 -- what a bound adds, by whether a stop is left and by its number
-pub ahead-none : (number : ℕ) (L : Legs) (place rest : ℕ) → rest ≡ 0 → L .home place ≡ ahead number L place (stopsIn rest)
+pub ahead-none : (bound : ℕ) (L : Legs) (place rest : ℕ) → rest ≡ 0 → L .home place ≡ ahead bound L place (stopsIn rest)
 unfolding ahead
-ahead-none number L place rest e = rw (e, stopsIn-zero)
+ahead-none bound L place rest e = rw (e, stopsIn-zero)
 
-module _ (L : Legs) (place rest : ℕ) (some : 0 < rest) (small : rest < 2 ^ 16) where
-  pub ahead-plain : (number : ℕ) → number ≡ 0 → 0 ≡ ahead number L place (stopsIn rest)
+module _ (L : Legs) (place rest : ℕ) (some : 0 < rest) (small : rest < 2 ^ mostStops) where
+  pub ahead-plain : (bound : ℕ) → bound ≡ 0 → 0 ≡ ahead bound L place (stopsIn rest)
   unfolding ahead
-  ahead-plain number e = rw (e, stopsIn-next rest small some .2)
+  ahead-plain bound e = rw (e, stopsIn-next rest small some .2)
 
-  pub ahead-close : (number : ℕ) → 0 < number → remainder L place (stopsIn rest) ≡ ahead number L place (stopsIn rest)
+  pub ahead-close : (bound : ℕ) → 0 < bound → remainder L place (stopsIn rest) ≡ ahead bound L place (stopsIn rest)
   unfolding ahead
   ahead-close zero h = absurd (omega arith)
   ahead-close (suc k) h = rw (stopsIn-next rest small some .2)

@@ -1,29 +1,25 @@
--- The two lower bounds and dominance: document 01, "Nodes". Assumes nothing.
+-- The two lower bounds and dominance: document 01, "Nodes".
 use mathlib.Core.Bool.{Bool, not, _&&_, cond}
-use mathlib.Core.List.{List, [], _∷_}
+use mathlib.Core.List.{List, _∷_}
 use Prim.Native.Nat.{ℕ, zero, suc, _+_}
 use lib.Dec.{leb, eqb}
-use Rattle.lists.specs.Lists.{keep, sum, least}
-use Rattle.orders.specs.Orders.{Node, setOf, left, complete}
-use Rattle.stops.specs.Legs.{Legs, path, last, cost}
+use Rattle.lists.specs.Lists.{sum, least, without, same}
+use Rattle.orders.specs.Orders.{Node, setOf, left, last, complete}
+use Rattle.stops.specs.Legs.{Legs, path, cost}
 
--- "0, plain: the path cost; for a complete node, path cost plus leg home."
+-- plain, number 0: the path cost, and the leg home where no stop is left
 unfoldable pub plain : ℕ → Legs → Node → ℕ
 plain n L x = cond (complete n x) (cost L x) (path L x)
 
--- the others of some stops
-abbrev pub without : ℕ → List ℕ → List ℕ
-without s xs = keep (λ r. not (eqb s r)) xs
-
--- "the cheapest leg into it from the last place (home for e) or another stop not yet flown"
+-- of the legs into s from the place of a node or from one of the other stops that it leaves, the cheapest
 unfoldable pub cheapestInto : Legs → ℕ → List ℕ → ℕ → ℕ
 cheapestInto L place rest s = least (λ r. L .leg r s) (place ∷ without s rest)
 
--- "for each stop not yet flown the cheapest leg into it .., plus the cheapest leg home from a stop not yet flown"
+-- such a leg for each stop that is left, and the cheapest leg home from one of them
 unfoldable pub remainder : Legs → ℕ → List ℕ → ℕ
 remainder L place rest = sum (cheapestInto L place rest) rest + least (L .home) rest
 
--- "1, close: path cost, plus [the remainder]. For a complete node, as in plain."
+-- close, number 1: the path cost and the remainder; of a complete node, as plain
 unfoldable pub close : ℕ → Legs → Node → ℕ
 close n L x = cond (complete n x) (cost L x) (path L x + remainder L (last x) (left n x))
 
@@ -33,13 +29,6 @@ boundBy zero n L x = plain n L x
 boundBy (suc zero) n L x = close n L x
 boundBy (suc (suc k)) n L x = 0
 
--- whether two lists of numbers are the same
-abbrev pub same : List ℕ → List ℕ → Bool
-same [] [] = Bool.true
-same [] (y ∷ ys) = Bool.false
-same (x ∷ xs) [] = Bool.false
-same (x ∷ xs) (y ∷ ys) = eqb x y && same xs ys
-
--- "y dominates z when they differ, have the same set and last stop, and y's path cost is at most z's."
+-- y dominates z: two nodes, one set, one last stop, and y's path is not dearer
 unfoldable pub dominates : ℕ → Legs → Node → Node → Bool
 dominates n L y z = not (same y z) && same (setOf n y) (setOf n z) && eqb (last y) (last z) && leb (path L y) (path L z)

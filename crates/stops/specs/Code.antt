@@ -4,20 +4,23 @@
 --   extended x s leg      x with stop s and its leg added; its bound is not yet known
 --   lastStop x            the last stop flown; 0 for e, and for numbers that are no node's
 --   recDominates y z      dominance, on records
---   ahead k L place rest  what bound number k adds to the path cost at a place, with the stops of rest to come
---   rowOf n part          a row of seventeen numbers
---   Within m L            no leg is above m
+--   ahead k L place rest  what the bound of number k adds to the path cost at a place, with the stops of rest to come
+--   reckonOn rows         the day of the planner's rows as a walk from stop to stop
+--   Cheap rows            no leg of theirs is above the dearest (Within m L: none is above m)
+--   rowOf n part          a row of the planner's
 --   Wide x s leg          what `extended` asks, so that no number wraps
 --   emptyRecord           six zeros, e's record before it has a bound
--- Assumes nothing.
 use mathlib.Core.Bool.{Bool, not, _&&_, cond}
 use mathlib.Core.List.{List, [], _∷_, map}
 use Prim.Native.Nat.{ℕ, zero, suc, _+_, _*_, _-_, _^_, _/_, _%_, _≤_, _<_}
 use lib.Count.{ones}
 use lib.Dec.{leb, ltb, eqb}
 use lib.ListN.{getD}
+use Rattle.sizes.specs.Sizes.{mostStops, places, dearest, stopBase, wordStops}
 use Rattle.lists.specs.Lists.{put, from}
-use Rattle.stops.specs.Legs.{Legs}
+use Rattle.orders.specs.Orders.{last}
+use Rattle.days.specs.Code.{Reckoning}
+use Rattle.stops.specs.Legs.{Legs, legs}
 use Rattle.stops.specs.Bounds.{remainder}
 use Rattle.stops.specs.declared.node_record.Record.{Record}
 
@@ -27,37 +30,37 @@ bits zero s m = []
 bits (suc k) s m = put (eqb (m % 2) 1) s (bits k (suc s) (m / 2))
 
 unfoldable pub stopsIn : ℕ → List ℕ
-stopsIn set = bits 16 1 set
+stopsIn set = bits mostStops 1 set
 
 unfoldable pub emptyRecord : Record
 emptyRecord = record { size = 0; set = 0; path = 0; bound = 0; first = 0; second = 0 }
 
--- four bits a stop, eight stops a number, the first lowest
+-- a stop is a digit of the order, in the second number once the first is full
 unfoldable pub extended : Record → ℕ → ℕ → Record
 extended x stop leg = record {
   size = ones (x .set + 2 ^ (stop - 1));
   set = x .set + 2 ^ (stop - 1);
   path = x .path + leg;
   bound = 0;
-  first = x .first + cond (ltb (x .size) 8) ((stop - 1) * 16 ^ x .size) 0;
-  second = x .second + cond (ltb (x .size) 8) 0 ((stop - 1) * 16 ^ (x .size - 8));
+  first = x .first + cond (ltb (x .size) wordStops) ((stop - 1) * stopBase ^ x .size) 0;
+  second = x .second + cond (ltb (x .size) wordStops) 0 ((stop - 1) * stopBase ^ (x .size - wordStops));
 }
 
 unfoldable pub lastStop : Record → ℕ
 lastStop x =
     cond (eqb (x .size) 0) 0
-    (cond (leb (x .size) 8) (x .first / 16 ^ (x .size - 1) % 16 + 1)
-    (cond (leb (x .size) 16) (x .second / 16 ^ (x .size - 9) % 16 + 1) 0))
+    (cond (leb (x .size) wordStops) (x .first / stopBase ^ (x .size - 1) % stopBase + 1)
+    (cond (leb (x .size) mostStops) (x .second / stopBase ^ (x .size - 1 - wordStops) % stopBase + 1) 0))
 
 -- the numbers have room for one stop more
 pub record Wide (x : Record) (stop leg : ℕ) : Type 0 where
   pub some : 1 ≤ stop
-  pub few : stop ≤ 16
-  pub room : x .size < 16
-  pub set-small : x .set < 2 ^ 16
+  pub few : stop ≤ mostStops
+  pub room : x .size < mostStops
+  pub set-small : x .set < 2 ^ mostStops
   pub path-small : x .path + leg < 2 ^ 32
-  pub first-small : x .size < 8 → x .first < 16 ^ x .size
-  pub second-small : 8 ≤ x .size → x .second < 16 ^ (x .size - 8)
+  pub first-small : x .size < wordStops → x .first < stopBase ^ x .size
+  pub second-small : wordStops ≤ x .size → x .second < stopBase ^ (x .size - wordStops)
 
 unfoldable pub recDominates : Record → Record → Bool
 recDominates y z =
@@ -70,10 +73,19 @@ ahead k L place [] = L .home place
 ahead zero L place (r ∷ rest) = 0
 ahead (suc k) L place (r ∷ rest) = remainder L place (r ∷ rest)
 
--- a row of seventeen: the first n + 1 numbers of a part of the table, and zeros
+unfoldable pub reckoning : Legs → Reckoning
+reckoning L = record { place = last; further = L .leg; after = λ place s. s; ahead = λ k. ahead k L }
+
+unfoldable pub reckonOn : List (List ℕ) → Reckoning
+reckonOn rows = reckoning (legs rows)
+
+-- a row: the first n + 1 numbers of a part of the table, and zeros
 unfoldable pub rowOf : ℕ → List ℕ → List ℕ
-rowOf n part = map (λ j. cond (leb j n) (getD part j 0) 0) (from 0 17)
+rowOf n part = map (λ j. cond (leb j n) (getD part j 0) 0) (from 0 places)
 
 pub record Within (m : ℕ) (L : Legs) : Type 0 where
   pub leg : (i j : ℕ) → L .leg i j ≤ m
   pub home : (s : ℕ) → L .home s ≤ m
+
+abbrev pub Cheap : List (List ℕ) → Type 0
+Cheap rows = Within dearest (legs rows)

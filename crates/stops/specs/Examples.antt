@@ -1,18 +1,27 @@
 -- Worked examples on document 01's table T: the costs of its six orders, case k on the bounds, and dominance. They stand beside
--- the definitions, and the laws name this module so that it is checked before them: a wrong definition is met here first. Assumes nothing.
+-- the definitions, and the laws name this module so that it is checked before them: a wrong definition is met here first.
 use mathlib.Core.Path.{_≡_, refl}
 use mathlib.Core.Bool.{true, false}
-use mathlib.Core.List.{[], _∷_, map}
-use Rattle.orders.specs.Orders.{flown, setOf, left, size, complete, children, level, orders}
-use Rattle.stops.specs.Legs.{Legs, entry, rows, rowLeg, legs, path, last, cost}
-use Rattle.stops.specs.Bounds.{plain, cheapestInto, remainder, close, dominates}
+use mathlib.Core.List.{List, [], _∷_, map}
+use Prim.Native.Nat.{ℕ}
+use Rattle.orders.specs.Orders.{flown, setOf, left, last, size, complete, children, level, orders}
+use Rattle.days.specs.Days.{Day}
+use Rattle.stops.specs.Tables.{entry, rows}
+use Rattle.stops.specs.Legs.{Legs, rowLeg, legs, path, cost}
+use Rattle.stops.specs.Bounds.{plain, cheapestInto, remainder, close, boundBy, dominates}
+use Rattle.stops.specs.Stops.{day, dayOn}
 
--- the legs of T, with every definition that the examples rest on open
+-- the day of a table, with every definition that it rests on open: a proof that says `unfolding computedDay` computes it
+unfoldable pub computedDay : ℕ → List ℕ → Day
+unfolding flown setOf left last size complete children entry rows rowLeg legs path cost plain cheapestInto remainder close boundBy dominates day dayOn
+computedDay n table = dayOn n (rows n table)
+
+-- the legs of T
 legsT : Legs
-unfolding flown setOf left size complete children level orders entry rows rowLeg legs path last cost plain cheapestInto remainder close dominates
+unfolding level orders computedDay
 legsT = legs (rows 3 (0 ∷ 4 ∷ 7 ∷ 9 ∷ 5 ∷ 0 ∷ 2 ∷ 6 ∷ 3 ∷ 8 ∷ 0 ∷ 1 ∷ 6 ∷ 5 ∷ 4 ∷ 0 ∷ []))
 
--- "Orders cost 123: 13, 132: 17, 213: 27, 231: 18, 312: 19, 321: 26."
+-- the six orders of T and what each costs
 six-orders :
     orders 3 ≡ (1 ∷ 2 ∷ 3 ∷ []) ∷ (1 ∷ 3 ∷ 2 ∷ []) ∷ (2 ∷ 1 ∷ 3 ∷ []) ∷ (2 ∷ 3 ∷ 1 ∷ []) ∷ (3 ∷ 1 ∷ 2 ∷ []) ∷ (3 ∷ 2 ∷ 1 ∷ []) ∷ []
 unfolding legsT
@@ -22,7 +31,7 @@ six-costs : map (cost legsT) (orders 3) ≡ 13 ∷ 17 ∷ 27 ∷ 18 ∷ 19 ∷ 2
 unfolding legsT
 six-costs = refl
 
--- k. "Bounds in T, close: e 10, node 1 10, node 2 18, node 3 19."
+-- case k: the close bounds of e and of its three children
 case-k : map (close 3 legsT) ([] ∷ (1 ∷ []) ∷ (2 ∷ []) ∷ (3 ∷ []) ∷ []) ≡ 10 ∷ 10 ∷ 18 ∷ 19 ∷ []
 unfolding legsT
 case-k = refl

@@ -1,3 +1,4 @@
+pub mod Tables
 pub mod Legs
 pub mod Bounds
 pub mod Stops

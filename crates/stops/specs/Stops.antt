@@ -1,25 +1,12 @@
--- The stops of one table as a problem to search: document 01, "Nodes" and "One run". Assumes nothing.
-use mathlib.Core.List.{[]}
+-- The stops of a table as a day: document 01, "Nodes". What is above this crate names a day by the planner's rows (`dayOn`) and no leg.
+use mathlib.Core.List.{List}
 use Prim.Native.Nat.{ℕ}
-use Rattle.search.specs.Problem.{Problem, Choices}
-use Rattle.orders.specs.Orders.{Node, complete, children}
-use Rattle.stops.specs.Legs.{Legs, cost}
+use Rattle.days.specs.Days.{Day}
+use Rattle.stops.specs.Legs.{Legs, legs, path, cost}
 use Rattle.stops.specs.Bounds.{boundBy, dominates}
 
--- "above every cost": the largest number of 32 bits. (`proofs/` shows that it is above the cost of every order of a table that is accepted.)
-abbrev pub aboveEveryCost : ℕ
-aboveEveryCost = 4_294_967_295
+unfoldable pub day : ℕ → Legs → Day
+day n L = record { path = path L; cost = cost L; bound = λ k. boundBy k n L; dominates = dominates n L }
 
-unfoldable pub problem : ℕ → Legs → Problem Node
-problem n L = record {
-  root = [];
-  children = children n;
-  complete = complete n;
-  cost = cost L;
-  dominates = dominates n L;
-  above = aboveEveryCost;
-}
-
--- the choices of a caller, by their numbers
-unfoldable pub choices : ℕ → Legs → ℕ → ℕ → ℕ → Choices Node
-choices n L selection rules bound = record { selection = selection; rules = rules; bound = boundBy bound n L }
+unfoldable pub dayOn : ℕ → List (List ℕ) → Day
+dayOn n rows = day n (legs rows)

@@ -3,10 +3,12 @@ ghost use mathlib.Core.Path.{_≡_};
 ghost use mathlib.Core.List.{_∷_};
 ghost use Prim.Native.Nat.{_+_, _-_, _^_, _≤_, _<_, min};
 ghost use lib.Count.{trailingZeros};
+ghost use Rattle.sizes.specs.Sizes.{mostStops};
 ghost use Rattle.lists.specs.Lists.{In, least};
 ghost use Rattle.stops.specs.Legs.{rowLeg, legs};
 ghost use Rattle.stops.specs.Bounds.{remainder};
-ghost use Rattle.stops.specs.Code.{stopsIn, ahead, Within};
+ghost use Rattle.stops.specs.Code.{stopsIn, reckonOn, Cheap};
+use crate::table::Rows;
 use crate::table::leg;
 
 fn lesser(a: u32, b: u32) -> u32
@@ -17,15 +19,15 @@ fn lesser(a: u32, b: u32) -> u32
 
 // The next stop of a set: its lowest.
 pub fn next(set: u32) -> u32
-    requires { ⌜ (0 < set) × (set < 2 ^ 16) ⌝ }
-    ensures { λ r. ⌜ (r ≡ trailingZeros 32 set + 1) × (r ≤ 16) ⌝ }
+    requires { ⌜ (0 < set) × (set < 2 ^ mostStops) ⌝ }
+    ensures { λ r. ⌜ (r ≡ trailingZeros 32 set + 1) × (r ≤ mostStops) ⌝ }
 {
     u32::trailing_zeros(set) + 1
 }
 
 // The stops of a set behind its next one.
 pub fn later(set: u32) -> u32
-    requires { ⌜ (0 < set) × (set < 2 ^ 16) ⌝ }
+    requires { ⌜ (0 < set) × (set < 2 ^ mostStops) ⌝ }
     ensures { λ r. ⌜ r ≡ set - 2 ^ trailingZeros 32 set ⌝ }
 {
     set & (set - 1)
@@ -33,15 +35,15 @@ pub fn later(set: u32) -> u32
 
 // The set without a stop of it.
 pub fn without(set: u32, stop: u32) -> u32
-    requires { ⌜ (set < 2 ^ 16) × In stop (stopsIn set) ⌝ }
+    requires { ⌜ (set < 2 ^ mostStops) × In stop (stopsIn set) ⌝ }
     ensures { λ r. ⌜ r ≡ set - 2 ^ (stop - 1) ⌝ }
 {
     set - (1u32 << (stop - 1))
 }
 
 // The cheapest leg into s from a place or one of some other stops.
-fn into(t: &[[u32; 17]; 17], place: u32, others: u32, s: u32) -> u32
-    requires { ⌜ (place ≤ 16) × ((others < 2 ^ 16) × (s ≤ 16)) ⌝ }
+fn into(t: &Rows, place: u32, others: u32, s: u32) -> u32
+    requires { ⌜ (place ≤ mostStops) × ((others < 2 ^ mostStops) × (s ≤ mostStops)) ⌝ }
     ensures { λ r. ⌜ r ≡ least (λ p. rowLeg (now (t .entry)) p s) (place ∷ stopsIn others) ⌝ }
 {
     let mut least = leg(t, place, s);
@@ -56,8 +58,8 @@ fn into(t: &[[u32; 17]; 17], place: u32, others: u32, s: u32) -> u32
 
 // The cheapest legs into s and u, together: from a place, from one of some other stops, or from u into s and from s into u. One walk of
 // the other stops finds both.
-fn into_two(t: &[[u32; 17]; 17], place: u32, others: u32, s: u32, u: u32) -> u32
-    requires { ⌜ (place ≤ 16) × ((others < 2 ^ 16) × ((s ≤ 16) × ((u ≤ 16) × Within 1000000 (legs (now t))))) ⌝ }
+fn into_two(t: &Rows, place: u32, others: u32, s: u32, u: u32) -> u32
+    requires { ⌜ (place ≤ mostStops) × ((others < 2 ^ mostStops) × ((s ≤ mostStops) × ((u ≤ mostStops) × Cheap (now t)))) ⌝ }
     ensures { λ r. ⌜ r ≡ least (λ p. rowLeg (now (t .entry)) p s) (place ∷ u ∷ stopsIn others) + least (λ p. rowLeg (now (t .entry)) p u) (place ∷ s ∷ stopsIn others) ⌝ }
 {
     let mut a = lesser(leg(t, place, s), leg(t, u, s));
@@ -73,8 +75,8 @@ fn into_two(t: &[[u32; 17]; 17], place: u32, others: u32, s: u32, u: u32) -> u32
 }
 
 // The cheapest leg home from one of some stops.
-fn home(t: &[[u32; 17]; 17], rest: u32) -> u32
-    requires { ⌜ (0 < rest) × (rest < 2 ^ 16) ⌝ }
+fn home(t: &Rows, rest: u32) -> u32
+    requires { ⌜ (0 < rest) × (rest < 2 ^ mostStops) ⌝ }
     ensures { λ r. ⌜ r ≡ least (λ s. rowLeg (now (t .entry)) s 0) (stopsIn rest) ⌝ }
 {
     let first = next(rest);
@@ -89,8 +91,8 @@ fn home(t: &[[u32; 17]; 17], rest: u32) -> u32
 }
 
 // For each stop to come the cheapest leg into it, two stops at a time, and the cheapest leg home.
-fn remainder(t: &[[u32; 17]; 17], place: u32, rest: u32) -> u32
-    requires { ⌜ (place ≤ 16) × ((0 < rest) × ((rest < 2 ^ 16) × Within 1000000 (legs (now t)))) ⌝ }
+fn remainder(t: &Rows, place: u32, rest: u32) -> u32
+    requires { ⌜ (place ≤ mostStops) × ((0 < rest) × ((rest < 2 ^ mostStops) × Cheap (now t))) ⌝ }
     ensures { λ r. ⌜ r ≡ remainder (legs (now (t .entry))) place (stopsIn rest) ⌝ }
 {
     let mut sum = home(t, rest);
@@ -109,15 +111,15 @@ fn remainder(t: &[[u32; 17]; 17], place: u32, rest: u32) -> u32
     sum
 }
 
-// What the bound of a number adds to the path cost of a node at a place that has the stops of rest to come.
-pub fn ahead(t: &[[u32; 17]; 17], number: u32, place: u32, rest: u32) -> u32
-    requires { ⌜ (place ≤ 16) × ((rest < 2 ^ 16) × Within 1000000 (legs (now t))) ⌝ }
-    ensures { λ r. ⌜ r ≡ ahead number (legs (now (t .entry))) place (stopsIn rest) ⌝ }
+// What a bound, by its number, adds to the path cost of a node at a place that has the stops of rest to come.
+pub fn ahead(t: &Rows, bound: u32, place: u32, rest: u32) -> u32
+    requires { ⌜ (place ≤ mostStops) × ((rest < 2 ^ mostStops) × Cheap (now t)) ⌝ }
+    ensures { λ r. ⌜ r ≡ reckonOn (now (t .entry)) .ahead bound place (stopsIn rest) ⌝ }
 {
     if rest == 0 {
         return leg(t, place, 0);
     }
-    if number == 0 {
+    if bound == 0 {
         return 0;
     }
     remainder(t, place, rest)

@@ -1,5 +1,5 @@
-// Legs, costs, both bounds and dominance over the stops of one table (specs/), and their laws, which make them an instance of
-// `search` (proofs/). The functions are public for the crates above and not for hosts; what they require, those crates meet.
+// Legs, costs, both bounds and dominance over the stops of one table, which make a day of them (specs/), and the laws of that day
+// (proofs/). The functions are public for the crates above and not for hosts; what they require, those crates meet.
 pub mod bound;
 pub mod node_record;
 pub mod table;

@@ -2,6 +2,10 @@
 ghost use mathlib.Core.Path.{_≡_};
 ghost use Prim.Native.Nat.{_+_, _-_, _<_};
 ghost use Rattle.stops.specs.Code.{Wide, extended, lastStop, emptyRecord, recDominates};
+use sizes::MOST_STOPS;
+use sizes::STOP_BASE;
+use sizes::STOP_BITS;
+use sizes::WORD_STOPS;
 
 #[repr(C)]
 pub struct Record {
@@ -38,10 +42,10 @@ impl Record {
         self.size = u32::count_ones(self.set);
         self.path += leg;
         self.bound = 0;
-        if place < 8 {
-            self.first += (stop - 1) << (4 * place);
+        if place < WORD_STOPS {
+            self.first += (stop - 1) << (STOP_BITS * place);
         } else {
-            self.second += (stop - 1) << (4 * (place - 8));
+            self.second += (stop - 1) << (STOP_BITS * (place - WORD_STOPS));
         }
         self
     }
@@ -54,11 +58,11 @@ impl Record {
         if size == 0 {
             return 0;
         }
-        if size <= 8 {
-            return (self.first >> (4 * (size - 1))) % 16 + 1;
+        if size <= WORD_STOPS {
+            return (self.first >> (STOP_BITS * (size - 1))) % STOP_BASE + 1;
         }
-        if size <= 16 {
-            return (self.second >> (4 * (size - 9))) % 16 + 1;
+        if size <= MOST_STOPS {
+            return (self.second >> (STOP_BITS * (size - 1 - WORD_STOPS))) % STOP_BASE + 1;
         }
         0
     }

@@ -1,20 +1,27 @@
-// The table: the checks on its numbers, and the rows of seventeen that the planner reckons with.
+// The table: the checks on its numbers, and the rows that the planner reckons with.
 ghost use mathlib.Core.Path.{_≡_};
 ghost use mathlib.Core.Bool.{not};
 ghost use Prim.Native.Nat.{suc, _+_, _*_, _≤_, _<_};
 ghost use lib.Dec.{ltb, eqb};
 ghost use lib.ListN.{length};
+ghost use Rattle.sizes.specs.Sizes.{mostStops, dearest};
 ghost use Rattle.lists.specs.Lists.{any, from};
-ghost use Rattle.stops.specs.Legs.{entry, rows, rowLeg};
-ghost use Rattle.stops.specs.Code.{rowOf};
+ghost use Rattle.stops.specs.Tables.{entry, rows};
+ghost use Rattle.stops.specs.Legs.{rowLeg};
+ghost use Rattle.stops.specs.Code.{rowOf, reckonOn};
+use sizes::DEAREST;
+use sizes::PLACES;
 
-// Whether no number is above 1,000,000.
+// The legs in rows of one length; unused numbers are 0.
+pub type Rows = [[u32; PLACES]; PLACES];
+
+// Whether no number is above the dearest leg.
 pub fn small(table: &[u32]) -> bool
-    ensures { λ r. ⌜ r ≡ not (any (ltb 1000000) (now (table .entry))) ⌝ }
+    ensures { λ r. ⌜ r ≡ not (any (ltb dearest) (now (table .entry))) ⌝ }
 {
     let mut k = 0;
     while k < table.len() {
-        if 1_000_000 < table[k] {
+        if DEAREST < table[k] {
             return false;
         }
         k += 1;
@@ -24,7 +31,7 @@ pub fn small(table: &[u32]) -> bool
 
 // Whether the diagonal entries are 0.
 pub fn diagonal(n: usize, table: &[u32]) -> bool
-    requires { ⌜ (n ≤ 16) × (length (now table) ≡ suc n * suc n) ⌝ }
+    requires { ⌜ (n ≤ mostStops) × (length (now table) ≡ suc n * suc n) ⌝ }
     ensures { λ r. ⌜ r ≡ not (any (λ i. not (eqb (entry n (now (table .entry)) i i) 0)) (from 0 (suc n))) ⌝ }
 {
     let mut i = 0;
@@ -38,11 +45,11 @@ pub fn diagonal(n: usize, table: &[u32]) -> bool
 }
 
 // One row: the first n + 1 numbers of a part of the table, and zeros.
-fn row(n: usize, part: &[u32]) -> [u32; 17]
-    requires { ⌜ (n ≤ 16) × (n < length (now part)) ⌝ }
+fn row(n: usize, part: &[u32]) -> [u32; PLACES]
+    requires { ⌜ (n ≤ mostStops) × (n < length (now part)) ⌝ }
     ensures { λ r. ⌜ r ≡ rowOf n (now (part .entry)) ⌝ }
 {
-    let mut r = [0u32; 17];
+    let mut r = [0u32; PLACES];
     let mut j = 0;
     while j <= n {
         r[j] = part[j];
@@ -52,11 +59,11 @@ fn row(n: usize, part: &[u32]) -> [u32; 17]
 }
 
 // The rows of the table.
-pub fn rows(n: usize, table: &[u32]) -> [[u32; 17]; 17]
-    requires { ⌜ (n ≤ 16) × (length (now table) ≡ suc n * suc n) ⌝ }
+pub fn rows(n: usize, table: &[u32]) -> Rows
+    requires { ⌜ (n ≤ mostStops) × (length (now table) ≡ suc n * suc n) ⌝ }
     ensures { λ r. ⌜ r ≡ rows n (now (table .entry)) ⌝ }
 {
-    let mut t = [[0u32; 17]; 17];
+    let mut t = [[0u32; PLACES]; PLACES];
     let mut i = 0;
     while i <= n {
         let at = i * (n + 1);
@@ -67,9 +74,17 @@ pub fn rows(n: usize, table: &[u32]) -> [[u32; 17]; 17]
 }
 
 // The leg from one place to another.
-pub fn leg(t: &[[u32; 17]; 17], from: u32, to: u32) -> u32
-    requires { ⌜ (from ≤ 16) × (to ≤ 16) ⌝ }
+pub fn leg(t: &Rows, from: u32, to: u32) -> u32
+    requires { ⌜ (from ≤ mostStops) × (to ≤ mostStops) ⌝ }
     ensures { λ r. ⌜ r ≡ rowLeg (now (t .entry)) from to ⌝ }
 {
     t[from as usize][to as usize]
+}
+
+// What a stop adds to the path cost of a node at a place: its leg from there.
+pub fn further(t: &Rows, place: u32, stop: u32) -> u32
+    requires { ⌜ (place ≤ mostStops) × (stop ≤ mostStops) ⌝ }
+    ensures { λ r. ⌜ r ≡ reckonOn (now (t .entry)) .further place stop ⌝ }
+{
+    leg(t, place, stop)
 }

@@ -1,17 +1,15 @@
-//! The proved planner beside an unverified one of the same passes, job by job
-//! in one run: ns per branching, records needed, and the ratio of the times.
-//! `cargo run --release -p bench [tables] [seconds] [R, P or Q]`: tables a row
-//! (default 5), how long the peer may take for one (default 10; those over it
-//! are left out and counted), and the job to run alone (default all three).
-//! Each table is planned three times by each of the two in turn, thirty times
-//! where that is short, and the least time counts, so that what else the machine
-//! does shows little.
+//! The proved planner beside an unverified one of the same passes, job by job in one run: ns per branching, records
+//! needed, and the ratio of the times. `cargo run --release -p bench [tables] [seconds] [R, P or Q]`: tables a row
+//! (default 5), how long the peer may take for one (default 10; those over it are left out and counted), and the job to
+//! run alone (default all three). Each table is planned three times by each of the two in turn, thirty times where that
+//! is short, and the least time counts, so that what else the machine does shows little.
 
 mod peer;
 mod tables;
 
 use std::time::{Duration, Instant};
 
+use gondamuy::{raw, PLACES, RECORD_WORDS};
 use peer::{Found, Record, Rows};
 
 struct Kind {
@@ -26,6 +24,29 @@ const KINDS: [Kind; 3] = [
     Kind { letter: "Q", selection: 3, rules: 1 },
 ];
 
+/// What is planned: a job with its table and its starting order.
+struct Task {
+    job: raw::Job,
+    table: Vec<u32>,
+    start: Vec<u8>,
+}
+
+impl Task {
+    fn of(kind: &Kind, n: usize, table: Vec<u32>) -> Task {
+        let start = if kind.selection == 3 { samples::nearest(n, &table) } else { Vec::new() };
+        Task { job: raw::Job { n: n as u32, selection: kind.selection, rules: kind.rules, bound: 1 }, table, start }
+    }
+
+    fn rows(&self) -> Rows {
+        let side = self.job.n as usize + 1;
+        let mut rows = [[0; PLACES]; PLACES];
+        for (row, legs) in rows.iter_mut().zip(self.table.chunks(side)) {
+            row[..side].copy_from_slice(legs);
+        }
+        rows
+    }
+}
+
 const RUNS: usize = 3;
 const SHORT_RUNS: usize = 30;
 const SHORT: Duration = Duration::from_millis(20);
@@ -37,8 +58,12 @@ fn main() {
     let letter = words.next();
     let kinds: Vec<&Kind> = KINDS.iter().filter(|kind| letter.as_ref().is_none_or(|l| l == kind.letter)).collect();
     assert!(!kinds.is_empty(), "the job is R, P or Q");
-    let mut pool: Vec<Record> = vec![[0; 6]; 4_000_000];
-    println!("{:<8}{:>3}  {:<26}{:>7}{:>10}{:>12}{:>10}{:>12}{:>12}{:>8}", "table", "n", "job", "tables", "left out", "branched", "records", "peer ns", "ours ns", "ratio");
+    let mut pool: Vec<Record> = vec![[0; RECORD_WORDS]; 4_000_000];
+    print!(
+        "{:<8}{:>3}  {:<26}{:>7}{:>10}{:>12}{:>10}",
+        "table", "n", "job", "tables", "left out", "branched", "records"
+    );
+    println!("{:>12}{:>12}{:>8}", "peer ns", "ours ns", "ratio");
     for wind in ["uniform", "wind"] {
         for n in [12, 14, 16] {
             for kind in &kinds {
@@ -52,9 +77,8 @@ fn row(wind: &str, n: usize, kind: &Kind, tables: u64, seconds: u64, pool: &mut 
     let (mut ended, mut branched, mut records) = (0, 0, 0);
     let (mut theirs, mut ours) = (Duration::ZERO, Duration::ZERO);
     for seed in 0..tables {
-        let table = tables::table(wind, n, seed);
-        let start = if kind.selection == 3 { samples::nearest(n, &table) } else { Vec::new() };
-        let Some((found, times)) = least_times(n, &table, kind, &start, seconds, pool) else {
+        let task = Task::of(kind, n, tables::table(wind, n, seed));
+        let Some((found, times)) = least_times(&task, seconds, pool) else {
             continue;
         };
         ended += 1;
@@ -66,45 +90,41 @@ fn row(wind: &str, n: usize, kind: &Kind, tables: u64, seconds: u64, pool: &mut 
     let each = |time: Duration| time.as_nanos() as f64 / branched.max(1) as f64;
     let ratio = ours.as_secs_f64() / theirs.as_secs_f64().max(1e-9);
     let name = format!("{}: selection {}, rules {}", kind.letter, kind.selection, kind.rules);
-    println!("{wind:<8}{n:>3}  {name:<26}{ended:>7}{:>10}{branched:>12}{records:>10}{:>12.0}{:>12.0}{ratio:>8.2}", tables - ended, each(theirs), each(ours));
+    let (out, theirs, ours) = (tables - ended, each(theirs), each(ours));
+    print!("{wind:<8}{n:>3}  {name:<26}{ended:>7}{out:>10}{branched:>12}{records:>10}");
+    println!("{theirs:>12.0}{ours:>12.0}{ratio:>8.2}");
 }
 
 /// The peer's least time and ours.
-fn least_times(n: usize, table: &[u32], kind: &Kind, start: &[u8], seconds: u64, pool: &mut [Record]) -> Option<(Found, (Duration, Duration))> {
-    let (found, mut theirs) = time_peer(n, table, kind, start, seconds, pool)?;
-    let mut ours = time_ours(n, table, kind, start, &found, pool);
+fn least_times(task: &Task, seconds: u64, pool: &mut [Record]) -> Option<(Found, (Duration, Duration))> {
+    let (found, mut theirs) = time_peer(task, seconds, pool)?;
+    let mut ours = time_ours(task, &found, pool);
     for _ in 1..if theirs < SHORT { SHORT_RUNS } else { RUNS } {
-        if let Some((_, again)) = time_peer(n, table, kind, start, seconds, pool) {
+        if let Some((_, again)) = time_peer(task, seconds, pool) {
             theirs = theirs.min(again);
         }
-        ours = ours.min(time_ours(n, table, kind, start, &found, pool));
+        ours = ours.min(time_ours(task, &found, pool));
     }
     Some((found, (theirs, ours)))
 }
 
-fn rows_of(n: usize, table: &[u32]) -> Rows {
-    let mut rows = [[0; 17]; 17];
-    for i in 0..=n {
-        rows[i][..=n].copy_from_slice(&table[i * (n + 1)..(i + 1) * (n + 1)]);
-    }
-    rows
-}
-
-fn time_peer(n: usize, table: &[u32], kind: &Kind, start: &[u8], seconds: u64, pool: &mut [Record]) -> Option<(Found, Duration)> {
-    let rows = rows_of(n, table);
-    let job = peer::Job { n: n as u32, rows: &rows, selection: kind.selection, rules: kind.rules, bound: 1 };
-    let best = if start.is_empty() { u32::MAX } else { tables::cost(n, table, start) };
+fn time_peer(task: &Task, seconds: u64, pool: &mut [Record]) -> Option<(Found, Duration)> {
+    let rows = task.rows();
+    let raw::Job { n, selection, rules, bound } = task.job;
+    let job = peer::Job { n, rows: &rows, selection, rules, bound };
+    let best = if task.start.is_empty() { u32::MAX } else { tables::cost(n as usize, &task.table, &task.start) };
     let begin = Instant::now();
     let found = peer::plan(&job, best, pool, begin + Duration::from_secs(seconds))?;
     Some((found, begin.elapsed()))
 }
 
 /// In a pool of as many records as the peer needed: what is cleared at the end is no more than was used.
-fn time_ours(n: usize, table: &[u32], kind: &Kind, start: &[u8], found: &Found, pool: &mut [Record]) -> Duration {
+fn time_ours(task: &Task, found: &Found, pool: &mut [Record]) -> Duration {
     let words = pool[..found.records].as_flattened_mut();
     let begin = Instant::now();
-    let report = gondamuy::plan(n as u32, table, kind.selection, kind.rules, 1, start, words);
+    let report = raw::plan(task.job, &task.table, &task.start, words);
     let time = begin.elapsed();
-    assert_eq!((report.number, report.cost, report.branched, report.most), (0, found.cost, found.branched, found.most as u64));
+    assert_eq!((report.number, report.cost), (0, found.cost));
+    assert_eq!((report.branched, report.most), (found.branched, found.most as u64));
     time
 }

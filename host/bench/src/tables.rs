@@ -5,7 +5,8 @@ use samples::Random;
 
 pub fn table(kind: &str, n: usize, seed: u64) -> Vec<u32> {
     let mut random = Random(seed * 1000 + n as u64);
-    let places: Vec<[f64; 4]> = (0..=n).map(|_| [random.unit(), random.unit(), random.unit() - 0.5, random.unit() - 0.5]).collect();
+    let places: Vec<[f64; 4]> =
+        (0..=n).map(|_| [random.unit(), random.unit(), random.unit() - 0.5, random.unit() - 0.5]).collect();
     let mut table = vec![0; (n + 1) * (n + 1)];
     for i in 0..=n {
         for j in 0..=n {

@@ -1,31 +1,34 @@
-//! Writes the job file of document 01's case a (three stops, least bound
-//! first, rule 1, close), reads it back and plans it.
+//! Writes the job file of document 01's case a (three stops, least bound first, rule 1, close), reads it back and plans
+//! it. A refusal ends it with a status other than 0.
 
-use gondamuy::{plan, read, write, LONGEST_FILE, RECORD_WORDS};
+use std::process::ExitCode;
 
-fn main() {
-    if let Err(number) = answer() {
-        println!("refused {number}");
+use gondamuy::{plan, read, write, Bound, Job, Refusal, Rules, Selection, LONGEST_FILE, RECORD_WORDS};
+
+const RECORDS: usize = 2_000;
+
+fn main() -> ExitCode {
+    match answer() {
+        Ok(()) => ExitCode::SUCCESS,
+        Err(refusal) => {
+            eprintln!("{refusal}");
+            ExitCode::FAILURE
+        }
     }
 }
 
-fn answer() -> Result<(), u32> {
+fn answer() -> Result<(), Refusal> {
     let table = [0, 4, 7, 9, 5, 0, 2, 6, 3, 8, 0, 1, 6, 5, 4, 0];
+    let selection = Selection::LeastBoundEarliest;
+    let case_a = Job { n: 3, selection, rules: Rules::UPPER_COST, bound: Bound::Close };
     let mut file = [0; LONGEST_FILE];
-    let written = write(3, &table, 0, 1, 1, &[], &mut file);
-    accepted(written.number)?;
-    let job = read(&file[..written.length]);
-    accepted(job.number)?;
-    let mut pool = vec![0; 2000 * RECORD_WORDS];
-    let report = plan(job.n, job.table(), job.selection, job.rules, job.bound, job.start(), &mut pool);
-    accepted(report.number)?;
-    println!("bytes {}", written.length);
-    println!("cost {}", report.cost);
-    println!("order {} {} {}", report.order[0], report.order[1], report.order[2]);
-    println!("branched {}", report.branched);
+    let length = write(case_a, &table, &[], &mut file)?;
+    let contents = read(&file[..length])?;
+    let mut pool = vec![0; RECORDS * RECORD_WORDS];
+    let plan = plan(contents.job, contents.table(), contents.start(), &mut pool)?;
+    println!("bytes {length}");
+    println!("cost {}", plan.cost);
+    println!("order {} {} {}", plan.order()[0], plan.order()[1], plan.order()[2]);
+    println!("branched {}", plan.counts.branched);
     Ok(())
-}
-
-fn accepted(number: u32) -> Result<(), u32> {
-    if number == 0 { Ok(()) } else { Err(number) }
 }

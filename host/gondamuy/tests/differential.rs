@@ -3,8 +3,9 @@
 
 mod common;
 
-use common::random_job;
-use gondamuy::{plan, Report, RECORD_WORDS};
+use common::{choices, random_job};
+use gondamuy::raw::{plan, Report};
+use gondamuy::RECORD_WORDS;
 use jobtext::Job;
 use samples::{level, nearest, Random};
 use witness::job_file::Contents;
@@ -18,10 +19,10 @@ fn compare(job: &Job, pool: &[u32]) -> (Report, usize) {
     let mut most = 0;
     let with_branched = job.rules & 4 != 0;
     let expected = plan_watched(&Contents::from(job).request(), &mut theirs, &mut |state| {
-        let held = if with_branched { state.branched.len() } else { 0 };
-        most = most.max(state.active.len() + held);
+        let branched = if with_branched { state.branched.len() } else { 0 };
+        most = most.max(state.active.len() + branched);
     });
-    let report = plan(job.n, &job.table, job.selection, job.rules, job.bound, &job.start, &mut ours);
+    let report = plan(choices(job), &job.table, &job.start, &mut ours);
     let order: Vec<u32> = report.order.iter().map(|&s| s.into()).collect();
     assert_eq!((report.number, report.cost), (expected.number, expected.cost), "{job:?}");
     assert_eq!(order, expected.order, "{job:?}");

@@ -15,27 +15,24 @@
 
 mod common;
 
-use common::{any_job, each_size, some_of, spoil_choice, spoil_start, spoil_table};
-use gondamuy::{read, write, Reading, Written, LONGEST_FILE};
+use common::{any_job, choices, each_size, some_of, spoil_choice, spoil_start, spoil_table};
+use gondamuy::raw::{self, read, write, Reading, Written};
+use gondamuy::{LONGEST_FILE, ORDER_PLACES, TABLE_NUMBERS};
 use jobtext::Job;
 use samples::Random;
 use witness::job_file::{self, Contents};
 
 /// What is to be handed back for the second reader's answer.
 fn laid_out(answer: Result<Contents, u32>) -> Reading {
-    let zeros = Reading { number: 0, n: 0, table: [0; 289], selection: 0, rules: 0, bound: 0, start: [0; 16], stops: 0 };
+    let (table, start) = ([0; TABLE_NUMBERS], [0; ORDER_PLACES]);
+    let zeros = Reading { number: 0, job: raw::Job::default(), table, start, stops: 0 };
     let job = match answer {
         Ok(job) => job,
         Err(number) => return Reading { number, ..zeros },
     };
-    let mut reading = Reading {
-        n: job.n as u32,
-        selection: job.selection as u32,
-        rules: job.rules as u32,
-        bound: job.bound as u32,
-        stops: job.start.len() as u32,
-        ..zeros
-    };
+    let [n, selection, rules, bound] = [job.n, job.selection, job.rules, job.bound].map(|x| x as u32);
+    let stops = job.start.len() as u32;
+    let mut reading = Reading { job: raw::Job { n, selection, rules, bound }, stops, ..zeros };
     reading.table[..job.table.len()].copy_from_slice(&job.table);
     for (place, stop) in reading.start.iter_mut().zip(job.start) {
         *place = stop as u8;
@@ -48,9 +45,8 @@ fn compare(file: &[u8]) -> u32 {
     let reading = read(file);
     assert_eq!(reading, laid_out(job_file::read(file)), "{file:?}");
     if reading.number == 0 {
-        let Reading { n, selection, rules, bound, .. } = reading;
         let mut again = vec![0; file.len()];
-        let written = write(n, reading.table(), selection, rules, bound, reading.start(), &mut again);
+        let written = write(reading.job, reading.table(), reading.start(), &mut again);
         assert_eq!(written, Written { number: 0, length: file.len() });
         assert_eq!(again, file);
     }
@@ -77,8 +73,8 @@ fn valid_files() {
             let file = bytes(job);
             assert_eq!(compare(&file), 0);
             let reading = read(&file);
-            assert_eq!((reading.n, reading.table(), reading.start()), (job.n, &job.table[..], &job.start[..]));
-            assert_eq!((reading.selection, reading.rules, reading.bound), (job.selection, job.rules, job.bound));
+            assert_eq!((reading.table(), reading.start()), (&job.table[..], &job.start[..]));
+            assert_eq!(reading.job, choices(job));
         });
     }
 }
@@ -125,7 +121,10 @@ fn each_trailer_byte_changed() {
         }
     });
     // The choices alone can change to others that are known.
-    assert_eq!(seen, [32 * (3 + 15 + 1), 32 * 240, 0, 0, 32 * (252 + 240 + 254), 0, 0, 0, 0, 32 * (8 * 255 + 15 + 255)]);
+    assert_eq!(
+        seen,
+        [32 * (3 + 15 + 1), 32 * 240, 0, 0, 32 * (252 + 240 + 254), 0, 0, 0, 0, 32 * (8 * 255 + 15 + 255)]
+    );
 }
 
 #[test]
@@ -133,7 +132,7 @@ fn random_bytes() {
     let mut random = Random(55);
     for _ in 0..40_000 {
         let length = random.below(1_300) as usize;
-        let mut file: Vec<u8> = (0..length).map(|_| random.next() as u8).collect();
+        let mut file: Vec<u8> = (0..length).map(|_| random.draw() as u8).collect();
         compare(&file);
         let job = any_job(&mut random);
         let trailer = bytes(&job).split_off(4 * job.table.len() + job.start.len());

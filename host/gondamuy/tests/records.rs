@@ -1,36 +1,29 @@
-//! The pool as node records and as words: one memory, the same jobs over
-//! both views, equal reports and equal memory.
+//! The pool as records and as words: one memory, the same jobs over both views, equal reports and equal memory.
 
-use gondamuy::{plan, plan_nodes, words, Node, RECORD_WORDS};
+use gondamuy::raw::{plan, plan_records, words, Job, Record};
+use gondamuy::RECORD_WORDS;
 use samples::Random;
 
 /// Records whose fields are given six words at a time, in their sequence.
-fn nodes(words: &[u32]) -> Vec<Node> {
+fn records(words: &[u32]) -> Vec<Record> {
     assert_eq!(words.len() % RECORD_WORDS, 0);
-    let node = |w: &[u32]| Node {
-        size: w[0],
-        set: w[1],
-        path: w[2],
-        bound: w[3],
-        first: w[4],
-        second: w[5],
-    };
-    words.chunks_exact(RECORD_WORDS).map(node).collect()
+    let record = |w: &[u32]| Record { size: w[0], set: w[1], path: w[2], bound: w[3], first: w[4], second: w[5] };
+    words.chunks_exact(RECORD_WORDS).map(record).collect()
 }
 
 #[test]
 fn the_fields_are_the_words() {
     let mut random = Random(11);
-    for records in [0, 1, 2, 17, 400] {
-        let mut numbers = random.words(records * RECORD_WORDS);
-        let mut pool = nodes(&numbers);
+    for capacity in [0, 1, 2, 17, 400] {
+        let mut numbers = random.words(capacity * RECORD_WORDS);
+        let mut pool = records(&numbers);
         assert_eq!(words(&mut pool), numbers);
         // A word written through one view is read through the other.
         for k in 0..numbers.len() {
-            let word = random.next() as u32;
+            let word = random.draw() as u32;
             words(&mut pool)[k] = word;
             numbers[k] = word;
-            assert_eq!(pool, nodes(&numbers));
+            assert_eq!(pool, records(&numbers));
         }
     }
 }
@@ -50,20 +43,21 @@ fn the_same_plan_over_both_views() {
         if random.below(50) == 0 {
             table.pop();
         }
-        let number = random.pick(&[n as u32, n as u32, n as u32, n as u32, n as u32, n as u32, 0, 17]);
+        let stops = random.pick(&[n as u32, n as u32, n as u32, n as u32, n as u32, n as u32, 0, 17]);
         let choices = [random.below(4), random.below(16), random.below(2) + random.below(20) / 19];
         let [selection, rules, bound] = choices.map(|k| k as u32);
         let order = random.order(n);
         let start = random.pick(&[Vec::new(), order, vec![1, 1]]);
-        let records = random.pick(&[0, 1, 2, 5, 40, 400, 400, 400]);
-        let mut flat = random.words(records * RECORD_WORDS);
-        let mut pool = nodes(&flat);
-        let of_words = plan(number, &table, selection, rules, bound, &start, &mut flat);
-        let of_nodes = plan_nodes(number, &table, selection, rules, bound, &start, &mut pool);
-        assert_eq!(of_words, of_nodes);
+        let job = Job { n: stops, selection, rules, bound };
+        let capacity = random.pick(&[0, 1, 2, 5, 40, 400, 400, 400]);
+        let mut flat = random.words(capacity * RECORD_WORDS);
+        let mut pool = records(&flat);
+        let of_words = plan(job, &table, &start, &mut flat);
+        let of_records = plan_records(job, &table, &start, &mut pool);
+        assert_eq!(of_words, of_records);
         assert_eq!(flat, words(&mut pool));
-        assert_eq!(pool, nodes(&flat));
-        seen[of_nodes.number as usize] += 1;
+        assert_eq!(pool, records(&flat));
+        seen[of_records.number as usize] += 1;
     }
     assert!(seen.iter().all(|&k| k > 100), "{seen:?}");
 }

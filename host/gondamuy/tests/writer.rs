@@ -9,17 +9,17 @@
 
 mod common;
 
-use common::{any_job, each_size, some_of, spoil_choice, spoil_start, spoil_table};
-use gondamuy::{read, write, Written};
+use common::{any_job, choices, each_size, some_of, spoil_choice, spoil_start, spoil_table};
+use gondamuy::raw::{read, write, Written};
 use jobtext::Job;
 use samples::Random;
 use witness::job_file::{self, Contents};
 
 /// Holds both writers to each other in a buffer of random bytes. Returns what the proved one answers and leaves.
 fn compare(random: &mut Random, job: &Job, length: usize) -> (Written, Vec<u8>) {
-    let before: Vec<u8> = (0..length).map(|_| random.next() as u8).collect();
+    let before: Vec<u8> = (0..length).map(|_| random.draw() as u8).collect();
     let (mut ours, mut theirs) = (before.clone(), before.clone());
-    let written = write(job.n, &job.table, job.selection, job.rules, job.bound, &job.start, &mut ours);
+    let written = write(choices(job), &job.table, &job.start, &mut ours);
     let expected = match job_file::write(&Contents::from(job).request(), &mut theirs) {
         Ok(length) => Written { number: 0, length },
         Err(number) => Written { number, length: 0 },
@@ -54,9 +54,8 @@ fn buffers_of_every_kind() {
 
 fn read_back(job: &Job, file: &[u8]) {
     let reading = read(file);
-    assert_eq!((reading.number, reading.n), (0, job.n));
+    assert_eq!((reading.number, reading.job), (0, choices(job)));
     assert_eq!((reading.table(), reading.start()), (&job.table[..], &job.start[..]));
-    assert_eq!((reading.selection, reading.rules, reading.bound), (job.selection, job.rules, job.bound));
 }
 
 #[test]

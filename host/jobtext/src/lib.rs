@@ -20,7 +20,6 @@
 mod names;
 mod parse;
 
-pub use names::refusal;
 pub use parse::{parse, Fault, Parsed};
 
 #[derive(Clone, Debug, PartialEq, Eq)]

@@ -3,8 +3,10 @@
 use std::fmt;
 use std::str::FromStr;
 
-use crate::names::{list, number, Named, BOUNDS, RULES, SELECTIONS};
+use crate::names::{by_name, list, Named, ALL_RULES, BOUNDS, RULES, SELECTIONS};
 use crate::Job;
+
+const DEAREST_LEG: u32 = 1_000_000;
 
 /// What is wrong with a text, and on which line, counted from 1.
 #[derive(Clone, Debug, PartialEq, Eq)]
@@ -49,16 +51,16 @@ impl Parsed {
 
     fn refused_row(&self) -> usize {
         let side = self.job.n as usize + 1;
-        let wrong = |i: usize, row: &[u32]| row[i] != 0 || row.iter().any(|&leg| leg > 1_000_000);
+        let wrong = |i: usize, row: &[u32]| row[i] != 0 || row.iter().any(|&leg| leg > DEAREST_LEG);
         let at = self.job.table.chunks(side).enumerate().position(|(i, row)| wrong(i, row));
         at.map_or(self.table, |i| self.rows[i])
     }
 
     fn unknown_choice(&self) -> usize {
         let Job { selection, rules, .. } = self.job;
-        if selection > 3 {
+        if selection as usize >= SELECTIONS.len() {
             0
-        } else if rules > 15 {
+        } else if rules > ALL_RULES {
             1
         } else {
             2
@@ -178,7 +180,7 @@ fn single(words: &[&str], what: &str) -> Result<u32, String> {
 fn choice(words: &[&str], named: &[Named]) -> Result<u32, String> {
     let names = list(named);
     match words {
-        [word] => number(named, word)
+        [word] => by_name(named, word)
             .or_else(|| word.parse().ok())
             .ok_or(format!("`{word}` is none of {names}, and no number")),
         _ => Err(format!("one of {names}, or a number")),
@@ -195,7 +197,7 @@ fn rules(words: &[&str]) -> Result<u32, String> {
     }
     let mut sum = 0;
     for word in words {
-        let rule = number(&RULES, word).ok_or(format!("`{word}` is none of {}", list(&RULES)))?;
+        let rule = by_name(&RULES, word).ok_or(format!("`{word}` is none of {}", list(&RULES)))?;
         if sum & rule != 0 {
             return Err(format!("`{word}` stands twice"));
         }

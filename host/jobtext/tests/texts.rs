@@ -1,6 +1,6 @@
 //! Texts of jobs: what they say, and the line of each fault.
 
-use jobtext::{parse, refusal, text, Job};
+use jobtext::{parse, text, Job};
 
 const LINES: [&str; 9] = [
     "# two stops",
@@ -41,13 +41,17 @@ fn names_numbers_and_comments() {
         assert_eq!(parsed(&with(7, &format!("selection {name}"))), Job { selection, ..job() });
         assert_eq!(parsed(&with(7, &format!("selection {number}"))), Job { selection, ..job() });
     }
-    for (rules, says) in [(0, "none"), (0, "0"), (1, "U/DBAS"), (15, "15"), (15, "DB/AS U/DBAS AS/DB BFS/DB"), (16, "16")] {
+    for (rules, says) in
+        [(0, "none"), (0, "0"), (1, "U/DBAS"), (15, "15"), (15, "DB/AS U/DBAS AS/DB BFS/DB"), (16, "16")]
+    {
         assert_eq!(parsed(&with(8, &format!("rules {says}"))), Job { rules, ..job() });
     }
     for (bound, says) in [(0, "plain"), (1, "close"), (0, "0"), (1, "1"), (7, "7")] {
         assert_eq!(parsed(&with(9, &format!("bound {says}"))), Job { bound, ..job() });
     }
-    for (start, says) in [(vec![2, 1], "start 2 1"), (vec![], "start none"), (vec![], "start"), (vec![0, 255], "start 0 255")] {
+    for (start, says) in
+        [(vec![2, 1], "start 2 1"), (vec![], "start none"), (vec![], "start"), (vec![0, 255], "start 0 255")]
+    {
         assert_eq!(parsed(&with(1, says)), Job { start, ..job() });
     }
 }
@@ -77,18 +81,14 @@ fn faults_name_their_lines() {
     assert_eq!(fault(&with(6, "")), "line 3: a table of 2 rows, and 2 stops have 3");
     assert_eq!(fault(&with(4, "0 3 4294967296")), "line 4: `4294967296` is no number of a leg");
     assert_eq!(fault(&with(4, "0 3 -4")), "line 4: `-4` is no number of a leg");
-    assert_eq!(fault(&with(7, "selection best")), "line 7: `best` is none of LLB-FIFO, LLB-LIFO, FIFO, LIFO, and no number");
+    assert_eq!(
+        fault(&with(7, "selection best")),
+        "line 7: `best` is none of LLB-FIFO, LLB-LIFO, FIFO, LIFO, and no number"
+    );
     assert_eq!(fault(&with(7, "selection 0 1")), "line 7: one of LLB-FIFO, LLB-LIFO, FIFO, LIFO, or a number");
     assert_eq!(fault(&with(8, "rules AS/DB 1")), "line 8: `1` is none of U/DBAS, AS/DB, BFS/DB, DB/AS");
     assert_eq!(fault(&with(8, "rules AS/DB AS/DB")), "line 8: `AS/DB` stands twice");
     assert_eq!(fault(&with(8, "rules")), "line 8: none, some of U/DBAS, AS/DB, BFS/DB, DB/AS, or a number");
     assert_eq!(fault(&with(9, "")), "line 8: the text ends without `bound`");
     assert_eq!(fault(&with(1, "start 1 256")), "line 1: `256` is no number of a stop");
-}
-
-#[test]
-fn every_number_has_words() {
-    let words: std::collections::HashSet<&str> = (0..=11).map(refusal).collect();
-    assert_eq!(words.len(), 12);
-    assert_eq!((refusal(11), refusal(u32::MAX)), ("no such number", "no such number"));
 }

@@ -1,5 +1,5 @@
-//! Job files from plain text (see `jobtext`) and back. What is written and
-//! read goes through the proved writer and reader; this tool is not proved.
+//! Job files from plain text (see `jobtext`) and back. What is written and read goes through the proved writer and
+//! reader; this tool is not proved.
 //!
 //!     jobtool write < TEXT > FILE     the job file of a text
 //!     jobtool show < FILE             the text of a job file, or why it is refused
@@ -8,8 +8,8 @@
 use std::io::{self, Read, Write};
 use std::process::ExitCode;
 
-use gondamuy::{read, Reading, LONGEST_FILE};
-use jobtext::{parse, refusal, text, Job, Parsed};
+use gondamuy::{raw, read, Refusal, LONGEST_FILE};
+use jobtext::{parse, text, Job};
 
 const USAGE: &str = "jobtool write < TEXT > FILE, jobtool show < FILE, or jobtool refusal NUMBER";
 
@@ -41,31 +41,28 @@ fn input() -> Result<Vec<u8>, String> {
 fn file_of(bytes: &[u8]) -> Result<Vec<u8>, String> {
     let text = std::str::from_utf8(bytes).map_err(|_| "the input is no text".to_string())?;
     let parsed = parse(text).map_err(|fault| fault.to_string())?;
+    let Job { n, ref table, selection, rules, bound, ref start } = parsed.job;
     let mut file = vec![0; LONGEST_FILE];
-    let written = write(&parsed, &mut file);
-    if written.number != 0 {
-        let line = parsed.line_of(written.number);
-        return Err(format!("line {line}: refused {}: {}", written.number, refusal(written.number)));
-    }
+    let written = raw::write(raw::Job { n, selection, rules, bound }, table, start, &mut file);
+    let at_line = |refusal: Refusal| format!("line {}: {refusal}", parsed.line_of(refusal.number()));
+    Refusal::check(written.number).map_err(at_line)?;
     file.truncate(written.length);
     Ok(file)
 }
 
-fn write(parsed: &Parsed, file: &mut [u8]) -> gondamuy::Written {
-    let Job { n, table, selection, rules, bound, start } = &parsed.job;
-    gondamuy::write(*n, table, *selection, *rules, *bound, start, file)
-}
-
 fn text_of(file: &[u8]) -> Result<Vec<u8>, String> {
-    let reading = read(file);
-    let Reading { number, n, selection, rules, bound, .. } = reading;
-    if number != 0 {
-        return Err(format!("refused {number}: {}", refusal(number)));
-    }
-    let job = Job { n, table: reading.table().to_vec(), selection, rules, bound, start: reading.start().to_vec() };
+    let contents = read(file).map_err(|refusal| refusal.to_string())?;
+    let raw::Job { n, selection, rules, bound } = contents.job.into();
+    let (table, start) = (contents.table().to_vec(), contents.start().to_vec());
+    let job = Job { n, table, selection, rules, bound, start };
     Ok(text(&job).into_bytes())
 }
 
 fn in_words(number: u32) -> Vec<u8> {
-    format!("{number}: {}\n", refusal(number)).into_bytes()
+    let words = match Refusal::of(number) {
+        Some(refusal) => refusal.words(),
+        None if number == 0 => "not refused",
+        None => "no such number",
+    };
+    format!("{number}: {words}\n").into_bytes()
 }

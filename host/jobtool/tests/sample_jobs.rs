@@ -5,7 +5,8 @@
 use std::fs;
 use std::path::{Path, PathBuf};
 
-use gondamuy::{plan, read, write, LONGEST_FILE, RECORD_WORDS};
+use gondamuy::raw::{self, plan, read, write};
+use gondamuy::{LONGEST_FILE, RECORD_WORDS};
 use jobtext::{parse, Job};
 
 const NAMES: [&str; 4] = ["case-a", "office", "office-full", "pilot"];
@@ -22,8 +23,11 @@ fn string(name: &str, kind: &str) -> String {
     String::from_utf8(bytes(name, kind)).unwrap()
 }
 
-fn job(name: &str) -> Job {
-    parse(&string(name, "txt")).map_err(|fault| fault.to_string()).unwrap().job
+/// The job of the text, its table and its starting order.
+fn job(name: &str) -> (raw::Job, Vec<u32>, Vec<u8>) {
+    let Job { n, table, selection, rules, bound, start } =
+        parse(&string(name, "txt")).map_err(|fault| fault.to_string()).unwrap().job;
+    (raw::Job { n, selection, rules, bound }, table, start)
 }
 
 #[test]
@@ -40,13 +44,13 @@ fn three_files_for_each() {
 #[test]
 fn text_and_file_agree() {
     for name in NAMES {
-        let Job { n, table, selection, rules, bound, start } = job(name);
+        let (job, table, start) = job(name);
         let mut file = vec![0; LONGEST_FILE];
-        let written = write(n, &table, selection, rules, bound, &start, &mut file);
+        let written = write(job, &table, &start, &mut file);
         assert_eq!(written.number, 0, "{name}");
         assert_eq!(file[..written.length], bytes(name, "job"), "{name}");
         let reading = read(&bytes(name, "job"));
-        assert_eq!((reading.table(), reading.start()), (&table[..], &start[..]), "{name}");
+        assert_eq!((reading.job, reading.table(), reading.start()), (job, &table[..], &start[..]), "{name}");
     }
 }
 
@@ -55,8 +59,8 @@ fn both_planners_give_what_is_expected() {
     for name in NAMES {
         let expected = string(name, "expected");
         assert_eq!(witness::program::output(&bytes(name, "job")), expected, "{name}");
-        let Job { n, table, selection, rules, bound, start } = job(name);
-        let report = plan(n, &table, selection, rules, bound, &start, &mut vec![0; 2_000 * RECORD_WORDS]);
+        let (job, table, start) = job(name);
+        let report = plan(job, &table, &start, &mut vec![0; 2_000 * RECORD_WORDS]);
         let first = match report.number {
             0 => format!("cost {}", report.cost),
             number => format!("refused {number}"),
@@ -69,8 +73,8 @@ fn both_planners_give_what_is_expected() {
 #[test]
 fn choices_of_each() {
     let choices = |name| {
-        let job = job(name);
-        (job.n, job.selection, job.rules, job.bound, job.start.len())
+        let (job, _, start) = job(name);
+        (job.n, job.selection, job.rules, job.bound, start.len())
     };
     assert_eq!(choices("case-a"), (3, 0, 1, 1, 0));
     assert_eq!(choices("pilot"), (16, 3, 1, 1, 16));

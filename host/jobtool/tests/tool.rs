@@ -43,7 +43,10 @@ fn text_to_file_and_back() {
 #[test]
 fn refused_jobs() {
     let refused = |old, new| write(&TEXT.replace(old, new)).unwrap_err();
-    assert_eq!(refused("0 3 4", "0 3 1000001"), "line 3: refused 3: a leg is above 1,000,000 or a diagonal entry is not 0\n");
+    assert_eq!(
+        refused("0 3 4", "0 3 1000001"),
+        "line 3: refused 3: a leg is above 1,000,000 or a diagonal entry is not 0\n"
+    );
     assert!(refused("7 8 0", "7 8 1").starts_with("line 5: refused 3:"));
     assert!(refused("LIFO", "4").starts_with("line 6: refused 4:"));
     assert!(refused("U/DBAS DB/AS", "16").starts_with("line 7: refused 4:"));

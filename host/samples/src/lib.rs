@@ -8,7 +8,7 @@ pub struct Random(pub u64);
 pub const KINDS: [(u32, u32); 6] = [(0, 2), (1, 1), (0, 0), (0, 1), (1, 12), (0, 1_000_000)];
 
 impl Random {
-    pub fn next(&mut self) -> u64 {
+    pub fn draw(&mut self) -> u64 {
         self.0 = self.0.wrapping_add(0x9E37_79B9_7F4A_7C15);
         let mut z = self.0;
         z = (z ^ (z >> 30)).wrapping_mul(0xBF58_476D_1CE4_E5B9);
@@ -17,12 +17,12 @@ impl Random {
     }
 
     pub fn below(&mut self, limit: u64) -> u64 {
-        self.next() % limit
+        self.draw() % limit
     }
 
     /// From 0 on, below 1.
     pub fn unit(&mut self) -> f64 {
-        (self.next() >> 11) as f64 / (1u64 << 53) as f64
+        (self.draw() >> 11) as f64 / (1u64 << 53) as f64
     }
 
     pub fn pick<T: Clone>(&mut self, from: &[T]) -> T {
@@ -30,7 +30,7 @@ impl Random {
     }
 
     pub fn words(&mut self, count: usize) -> Vec<u32> {
-        (0..count).map(|_| self.next() as u32).collect()
+        (0..count).map(|_| self.draw() as u32).collect()
     }
 
     /// Legs from `low` to `high`, both directions by themselves.

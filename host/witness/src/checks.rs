@@ -1,12 +1,12 @@
 //! Refusals 1 to 6, the lowest number that applies (document 01, "Causes and
 //! numbers").
 
-use crate::legs::{Legs, Place};
+use crate::legs::{Legs, Place, MOST_STOPS};
 use crate::node::Bound;
 use crate::run::{Job, Rules, Selection};
 use crate::words::WORDS;
 
-pub const MOST_STOPS: u64 = 16;
+/// What a leg may cost at most.
 pub const DEAREST_LEG: u32 = 1_000_000;
 
 /// What a caller hands in beside the pool.
@@ -49,7 +49,7 @@ pub fn check_job(request: &Request) -> Result<Job, u32> {
 }
 
 pub fn n_allowed(n: u64) -> bool {
-    (1..=MOST_STOPS).contains(&n)
+    (1..=MOST_STOPS as u64).contains(&n)
 }
 
 fn legs_allowed(legs: &Legs) -> bool {
@@ -63,8 +63,8 @@ fn legs_allowed(legs: &Legs) -> bool {
     true
 }
 
-fn selection(number: u64) -> Option<Selection> {
-    match number {
+fn selection(selection: u64) -> Option<Selection> {
+    match selection {
         0 => Some(Selection::LeastBoundEarliest),
         1 => Some(Selection::LeastBoundLatest),
         2 => Some(Selection::Fifo),
@@ -73,21 +73,21 @@ fn selection(number: u64) -> Option<Selection> {
     }
 }
 
-/// The sum of the rules' numbers.
-fn rules(number: u64) -> Option<Rules> {
-    if number > 15 {
+/// The rules that a sum has.
+fn rules(sum: u64) -> Option<Rules> {
+    if sum > 15 {
         return None;
     }
     Some(Rules {
-        upper_cost: number & 1 != 0,
-        active_child: number & 2 != 0,
-        branched_child: number & 4 != 0,
-        child_active: number & 8 != 0,
+        upper_cost: sum & 1 != 0,
+        active_child: sum & 2 != 0,
+        branched_child: sum & 4 != 0,
+        child_active: sum & 8 != 0,
     })
 }
 
-fn bound(number: u64) -> Option<Bound> {
-    match number {
+fn bound(bound: u64) -> Option<Bound> {
+    match bound {
         0 => Some(Bound::Plain),
         1 => Some(Bound::Close),
         _ => None,

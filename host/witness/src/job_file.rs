@@ -57,7 +57,7 @@ pub fn read(file: &[u8]) -> Result<Contents, u32> {
     }
     let side = n as usize + 1;
     let start_place = 4 * side * side;
-    let places = [number(&trailer[..4]), number(&trailer[4..8])];
+    let places = [word(&trailer[..4]), word(&trailer[4..8])];
     if places != [0, start_place as u32]
         || file.len() != start_place + length as usize + TRAILER
         || file.len() > LONGEST
@@ -67,7 +67,7 @@ pub fn read(file: &[u8]) -> Result<Contents, u32> {
     let (table, start) = body.split_at(start_place);
     let contents = Contents {
         n: n.into(),
-        table: table.chunks(4).map(number).collect(),
+        table: table.chunks(4).map(word).collect(),
         selection: selection.into(),
         rules: rules.into(),
         bound: bound.into(),
@@ -102,6 +102,6 @@ fn bytes(job: &Request) -> Vec<u8> {
 }
 
 /// Least byte first.
-fn number(bytes: &[u8]) -> u32 {
+fn word(bytes: &[u8]) -> u32 {
     bytes.iter().rev().fold(0, |sum, &byte| sum << 8 | u32::from(byte))
 }

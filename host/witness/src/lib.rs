@@ -47,25 +47,12 @@ pub use run::State;
 pub use words::{Report, WORDS};
 
 /// The whole call: checks, run, report, and the pool's words afterwards.
-pub fn plan(
-    n: u64,
-    table: &[u32],
-    selection: u64,
-    rules: u64,
-    bound: u64,
-    start: &[u32],
-    pool: &mut [u32],
-) -> Report {
-    let request = Request { n, table, selection, rules, bound, start };
-    plan_watched(&request, pool, &mut |_| {})
+pub fn plan(request: &Request, pool: &mut [u32]) -> Report {
+    plan_watched(request, pool, &mut |_| {})
 }
 
 /// As `plan`; `watch` sees the state at the start and after each step.
-pub fn plan_watched(
-    request: &Request,
-    pool: &mut [u32],
-    watch: &mut dyn FnMut(&State),
-) -> Report {
+pub fn plan_watched(request: &Request, pool: &mut [u32], watch: &mut dyn FnMut(&State)) -> Report {
     let job = match checks::check(request, pool.len()) {
         Ok(job) => job,
         Err(number) => return Report::refusal(number),

@@ -47,8 +47,7 @@ fn answer() -> Result<(), String> {
 }
 
 fn report_text(report: &Report) -> String {
-    let Report { number, cost, order, branched, generated, eliminated, active, most } =
-        report;
+    let Report { number, cost, order, branched, generated, eliminated, active, most } = report;
     let order = joined(order);
     format!(
         "number {number}\ncost {cost}\norder {order}\nbranched {branched}\n\

@@ -87,12 +87,8 @@ impl Node {
         sum + home.expect("a node that isn't complete has a stop to come")
     }
 
-    /// They differ, have the same set and last stop, and this path cost is at
-    /// most the other's.
+    /// Another way through the same stops to the same last one, and no dearer.
     pub fn dominates(&self, other: &Node) -> bool {
-        self.set == other.set
-            && self.last() == other.last()
-            && self.path <= other.path
-            && self.stops != other.stops
+        self.set == other.set && self.last() == other.last() && self.path <= other.path && self.stops != other.stops
     }
 }

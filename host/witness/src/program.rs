@@ -2,7 +2,7 @@
 //! second planner.
 
 use crate::job_file::{read, LONGEST};
-use crate::{plan_watched, Report, WORDS};
+use crate::{plan, Report, WORDS};
 
 const RECORDS: usize = 2_000;
 
@@ -20,7 +20,7 @@ fn answer(input: &[u8]) -> Result<String, u32> {
     }
     let job = read(input)?;
     let mut pool = vec![0; RECORDS * WORDS];
-    let report = plan_watched(&job.request(), &mut pool, &mut |_| {});
+    let report = plan(&job.request(), &mut pool);
     match report.number {
         0 => Ok(lines(&report, job.n as usize)),
         number => Err(number),

@@ -46,7 +46,7 @@ pub struct Upper {
 impl Upper {
     /// `cost` is below U.
     fn undercut_by(&self, cost: u32) -> bool {
-        self.cost.map_or(true, |u| cost < u)
+        self.cost.is_none_or(|u| cost < u)
     }
 
     /// `bound` is above U.
@@ -161,8 +161,7 @@ impl State {
         // 1
         let b = next.active.remove(b);
         next.branched.push(b.clone());
-        let mut children: Vec<Rc<Node>> =
-            b.children(&job.legs, job.bound).into_iter().map(Rc::new).collect();
+        let mut children: Vec<Rc<Node>> = b.children(&job.legs, job.bound).into_iter().map(Rc::new).collect();
         next.generated += children.len() as u64;
         // 2
         for child in &children {

@@ -1,17 +1,22 @@
 //! The report ("The report") and the pool's words ("The pool").
 
+use crate::legs::MOST_STOPS;
 use crate::node::Node;
 use crate::run::{End, State};
 
 /// Words in a record.
 pub const WORDS: usize = 6;
 
+/// Bits of a stop in a word of the order, and stops in such a word.
+const STOP_BITS: usize = 4;
+const WORD_STOPS: usize = 8;
+
 #[derive(Clone, Copy, PartialEq, Eq, Debug, Default)]
 pub struct Report {
     pub number: u32,
     pub cost: u32,
     /// Zeros past n.
-    pub order: [u32; 16],
+    pub order: [u32; MOST_STOPS],
     pub branched: u64,
     pub generated: u64,
     pub eliminated: u64,
@@ -56,13 +61,13 @@ impl Report {
 pub fn record(node: &Node) -> [u32; WORDS] {
     let mut order = [0u32; 2];
     for (i, &stop) in node.stops.iter().enumerate() {
-        order[i / 8] |= (stop as u32 - 1) << (4 * (i % 8));
+        order[i / WORD_STOPS] |= (stop as u32 - 1) << (STOP_BITS * (i % WORD_STOPS));
     }
     [node.size() as u32, node.set, node.path, node.bound, order[0], order[1]]
 }
 
-/// Active nodes, earliest first; with rule 4 the branched nodes, earliest
-/// branched first; zeros behind.
+/// The active nodes in order of generation, behind them those branched in that of branching, if they are kept; the rest
+/// of the pool is cleared.
 pub fn write_pool(state: &State, with_branched: bool, pool: &mut [u32]) {
     pool.fill(0);
     let branched = if with_branched { &state.branched[..] } else { &[] };

@@ -11,7 +11,11 @@ use witness::legs::Legs;
 /// Two orders, the cheaper one first.
 fn two_orders(random: &mut Random, job: &Job) -> (Vec<u32>, Vec<u32>) {
     let (x, y) = (random.order(job.n), random.order(job.n));
-    if job.cost(&x) <= job.cost(&y) { (x, y) } else { (y, x) }
+    if job.cost(&x) <= job.cost(&y) {
+        (x, y)
+    } else {
+        (y, x)
+    }
 }
 
 /// A and B as the letter words it, over `table`.

@@ -5,7 +5,7 @@ mod common;
 
 use common::T;
 use samples::Random;
-use witness::{plan, Report};
+use witness::{plan, Report, Request};
 
 /// A call on table T that passes every check, to be spoiled in places.
 #[derive(Clone)]
@@ -27,9 +27,8 @@ fn good() -> Call {
 
 fn number(call: &Call) -> u32 {
     let mut pool = call.pool.clone();
-    let c = call;
-    let report =
-        plan(c.n, &c.table, c.selection, c.rules, c.bound, &c.start, &mut pool);
+    let Call { n, ref table, selection, rules, bound, ref start, .. } = *call;
+    let report = plan(&Request { n, table, selection, rules, bound, start }, &mut pool);
     if (1..=6).contains(&report.number) {
         let bare = Report { number: report.number, ..Report::default() };
         assert_eq!(report, bare, "all else is zero");
@@ -112,14 +111,23 @@ fn number_4() {
 #[test]
 fn number_5() {
     let wrong: [&[u32]; 12] = [
-        &[1], &[1, 2], &[1, 2, 3, 1], &[1, 2, 3, 4], &[1, 2, 2], &[1, 1, 1], &[0, 1, 2],
-        &[1, 2, 4], &[1, 2, 0], &[1, 2, 259], &[0, 0, 0], &[1, 2, u32::MAX],
+        &[1],
+        &[1, 2],
+        &[1, 2, 3, 1],
+        &[1, 2, 3, 4],
+        &[1, 2, 2],
+        &[1, 1, 1],
+        &[0, 1, 2],
+        &[1, 2, 4],
+        &[1, 2, 0],
+        &[1, 2, 259],
+        &[0, 0, 0],
+        &[1, 2, u32::MAX],
     ];
     for start in wrong {
         assert_eq!(spoiled(|c| c.start = start.to_vec()), 5, "{start:?}");
     }
-    let right: [&[u32]; 7] =
-        [&[], &[1, 2, 3], &[1, 3, 2], &[2, 1, 3], &[2, 3, 1], &[3, 1, 2], &[3, 2, 1]];
+    let right: [&[u32]; 7] = [&[], &[1, 2, 3], &[1, 3, 2], &[2, 1, 3], &[2, 3, 1], &[3, 1, 2], &[3, 2, 1]];
     for start in right {
         assert_eq!(spoiled(|c| c.start = start.to_vec()), 0, "{start:?}");
     }

@@ -72,9 +72,7 @@ fn after(job: &Job, before: &State, b: usize) -> After {
             || job.rule(4) && branched.iter().any(|y| dominates(job, y, c))
     };
     let new: Vec<Order> = children.iter().filter(|c| !child_goes(c)).cloned().collect();
-    let active_goes = |a: &Order| {
-        above(a) || job.rule(8) && new.iter().any(|c| dominates(job, c, a))
-    };
+    let active_goes = |a: &Order| above(a) || job.rule(8) && new.iter().any(|c| dominates(job, c, a));
     let kept: Vec<Order> = rest.iter().filter(|a| !active_goes(a)).cloned().collect();
     let active = [kept, new].concat();
     After { active, branched, upper, best, generated: children.len() as u64 }

@@ -6,10 +6,10 @@ use Prim.Native.Nat.{_+_, _-_, _≤_}
 use native.Mathlib.Omega.{arith}
 use lib.ListN.{getD, take}
 use borrow.Author.Tests.{not-true, not-false}
+use Rattle.lists.proofs.Slices.{AllSo, all-so-none, all-so-more}
 use Rattle.stops.specs.Code.{emptyRecord}
 use Rattle.records.specs.Code.{records}
 use Rattle.passes.specs.Code.{isStaying}
-use Rattle.records.proofs.SliceLaws.{AllSo, all-so-none, all-so-more}
 use Rattle.passes.proofs.StayLaws.{stay-on}
 use Rattle.passes.proofs.next_gone.Statement.{statement}
 use Rattle.passes.proofs.next_gone.Tie as tie

@@ -7,10 +7,10 @@ use borrow.Author.Needs.{needs}
 use lib.ListN.{getD}
 use lib.Seq.{slice}
 use Rattle.lists.specs.Lists.{any}
+use Rattle.lists.proofs.Slices.{AllSo, all-so-none, all-so-four, all-so-more}
 use Rattle.stops.specs.Code.{emptyRecord}
 use Rattle.records.specs.Code.{records}
 use Rattle.passes.specs.Code.{isSuspect}
-use Rattle.records.proofs.SliceLaws.{AllSo, all-so-none, all-so-four, all-so-more}
 use Rattle.passes.proofs.next_suspect.Statement.{statement}
 use Rattle.passes.proofs.next_suspect.Tie as tie
 

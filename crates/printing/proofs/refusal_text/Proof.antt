@@ -1,4 +1,4 @@
--- `refusal_text` meets its contract: one line in an array of zeros. Assumes nothing.
+-- `refusal_text` meets its contract: one line in an array of zeros.
 use native.Mathlib.Omega.{arith}
 use Rattle.report_format.specs.Text.{line}
 use Rattle.report_format.specs.Printed.{refusedLine}
@@ -7,15 +7,6 @@ use borrow.Author.Needs.{needs}
 use Rattle.printing.proofs.refusal_text.Statement.{statement}
 use Rattle.printing.proofs.refusal_text.Tie as tie
 
-slice-aggregate-put-line : tie.Need-slice-aggregate-put-line
-slice-aggregate-put-line c = search needs
-
-slice-aggregate-put-line-2 : tie.Need-slice-aggregate-put-line-2
-slice-aggregate-put-line-2 c = search needs
-
-put-line-requires : tie.Need-put-line-requires
-put-line-requires c κs = search needs
-
 returns : tie.Need-returns
 unfolding refusedLine line
 returns c = put-text (omega arith) (c .before .put-line .ensures .0)
@@ -23,4 +14,4 @@ returns c = put-text (omega arith) (c .before .put-line .ensures .0)
 pub refusal-text-spec : {M : Type 1} → statement M
 refusal-text-spec =
     tie.close
-    (tie.spec slice-aggregate-put-line slice-aggregate-put-line-2 put-line-requires returns)
+    (tie.spec (λ c. search needs) (λ c. search needs) (λ c κs. search needs) returns)

@@ -1,11 +1,12 @@
--- `all_stay` meets its contract. Assumes nothing.
+-- `all_stay` meets its contract.
 use mathlib.Core.Path.{_≡_}
 use mathlib.Core.Bool.{not}
 use mathlib.Core.Logic.{_⊎_, inl, inr}
-use Prim.Native.Nat.{ℕ, _/_, _%_, _≤_, _<_}
+use Prim.Native.Nat.{ℕ, _≤_, _<_}
 use native.Mathlib.Omega.{arith}
 use lib.Dec.{leb, ltb}
-use borrow.Author.Tests.{eq-eqb, ne-eqb, le-leb, lt-leb, lt-ltb, le-ltb}
+use borrow.Author.Needs.{needs}
+use borrow.Author.Tests.{eq-eqb, ne-eqb, le-leb, lt-leb, lt-ltb, le-ltb, not-true, not-false}
 use Rattle.lists.proofs.Tests.{ordered}
 use Rattle.replacement.proofs.all_stay.Statement.{statement}
 use Rattle.replacement.proofs.all_stay.Tie as tie
@@ -22,13 +23,16 @@ returns c = rw (ne-eqb (c .before .args .taking) 0 (c .if1 .taken))
 
 returns-2 : tie.Need-returns-2
 returns-2 c =
-    let a = c .before .before .args in
-    rw (eq-eqb (a .taking) 0 (omega arith), ne-eqb (a .rules / 1 % 2) 1 (λ e. c .if2 .taken (omega arith)))
+    let asked = c .before in
+    let a = asked .before .before .args in
+    rw (eq-eqb (a .taking) 0 (asked .before .if1 .left), ← asked .on .ensures, not-true (asked .on .result) (c .if2 .taken))
 
 returns-3 : tie.Need-returns-3
 returns-3 c =
-    let a = c .before .before .args in
-    rw (eq-eqb (a .taking) 0 (omega arith), eq-eqb (a .rules / 1 % 2) 1 (omega arith)) (not-above (a .known) (a .upper))
+    let asked = c .before in
+    let a = asked .before .before .args in
+    rw (eq-eqb (a .taking) 0 (asked .before .if1 .left), ← asked .on .ensures, not-false (asked .on .result) (c .if2 .left))
+    (not-above (a .known) (a .upper))
 
 pub all-stay-spec : {M : Type 1} → statement M
-all-stay-spec = tie.close (tie.spec returns returns-2 returns-3)
+all-stay-spec = tie.close (tie.spec returns (λ c κs. search needs) returns-2 returns-3)

@@ -1,17 +1,14 @@
--- `holding` meets its contract. Assumes nothing.
+-- `holding` meets its contract.
 use native.Mathlib.Omega.{arith}
-use borrow.Author.Tests.{eq-eqb, ne-eqb}
+use borrow.Author.Needs.{needs}
 use Rattle.replacement.proofs.holding.Statement.{statement}
 use Rattle.replacement.proofs.holding.Tie as tie
 
-add-result : tie.Need-add-result
-add-result c = omega arith
-
 returns : tie.Need-returns
-returns c = rw (eq-eqb _ _ (c .if1 .taken))
+returns c = rw (← c .before .on .ensures, c .if1 .taken)
 
 returns-2 : tie.Need-returns-2
-returns-2 c = rw (ne-eqb _ _ (c .if1 .left))
+returns-2 c = rw (← c .before .on .ensures, c .if1 .left)
 
 pub holding-spec : {M : Type 1} → statement M
-holding-spec = tie.close (tie.spec add-result returns returns-2)
+holding-spec = tie.close (tie.spec (λ c κs. search needs) (λ c. omega arith) returns returns-2)

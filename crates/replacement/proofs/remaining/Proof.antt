@@ -1,33 +1,46 @@
--- `remaining` meets its contract: those that stay before i and behind it are those that stay. Assumes nothing.
+-- `remaining` meets its contract: those that stay before the branched record and behind it are those that stay.
 use mathlib.Core.Path.{ap₂, _∙_}
 use Prim.Native.Nat.{ℕ, _+_}
 use native.Mathlib.Omega.{arith}
 use Rattle.records.specs.Code.{records}
-use Rattle.replacement.proofs.ReplaceLaws.{staying-number, staying-few}
+use Rattle.replacement.proofs.ReplaceLaws.{staying-count, staying-few}
 use Rattle.replacement.proofs.remaining.Statement.{statement}
 use Rattle.replacement.proofs.remaining.Tie as tie
 
+-- the function's entry, seen from behind the first call
+abbrev entry : tie.After-staying → tie.Start
+entry c = c .before .before .before
+
 staying-requires : tie.Need-staying-requires
-staying-requires c κs = (omega arith, (omega arith, (omega arith, c .before .before .pre .kids-near)))
+staying-requires c κs =
+    let s = c .before .before .pre in
+    (omega arith, (omega (arith, s .inside, s .front), (s .few, s .near)))
 
 add-staying : tie.Need-add-staying
-add-staying c = omega arith
+add-staying c = let s = entry (c .before) .pre in omega (arith, s .inside)
 
 staying-requires-2 : tie.Need-staying-requires-2
-staying-requires-2 c κs = (omega arith, (omega arith, (omega arith, c .before .before .before .pre .kids-near)))
+staying-requires-2 c κs =
+    let s = entry (c .before) .pre in
+    (omega (arith, s .inside), (s .front, (s .few, s .near)))
 
 returns : tie.Need-returns
 returns c =
-    let start = c .before .before .before .before in
-    let a = start .args in
-    ap₂ (λ (k m : ℕ). k + m) (c .before .staying .ensures) (c .staying2 .ensures)
-    ∙ staying-number (records (a .w .now)) (a .a) (a .i) (a .limit) (records (a .kids .now)) (a .taking) (start .pre)
+    let first = c .before .before in
+    let a = entry first .args in
+    ap₂ (λ (k m : ℕ). k + m) (first .staying .ensures) (c .staying2 .ensures)
+    ∙ staying-count (records (a .w .now)) (a .spot) (a .change) (records (a .kids .now)) (entry first .pre)
 
 add-result : tie.Need-add-result
 add-result c =
-    let start = c .before .before .before .before in
+    let start = entry (c .before .before) in
     let a = start .args in
-    omega (arith, returns c, staying-few (records (a .w .now)) (a .a) (a .i) (a .limit) (records (a .kids .now)) (a .taking) (start .pre))
+    omega (
+      arith,
+      returns c,
+      start .pre .inside,
+      staying-few (records (a .w .now)) (a .spot) (a .change) (records (a .kids .now)) (start .pre),
+    )
 
 pub remaining-spec : {M : Type 1} → statement M
 remaining-spec = tie.close (tie.spec staying-requires add-staying staying-requires-2 add-result returns)

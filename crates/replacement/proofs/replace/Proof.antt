@@ -1,4 +1,4 @@
--- `replace` meets its contract: where all stay, taking b out gathers them; else `sifted` does it all. Assumes nothing.
+-- `replace` meets its contract: where all stay, taking the branched record out gathers them; else `sifted` does it all.
 use native.Mathlib.Omega.{arith}
 use lib.Dec.{T}
 use borrow.Author.Needs.{needs}
@@ -9,43 +9,48 @@ use Rattle.replacement.proofs.ReplaceLaws.{Gathered, slide-gathers, gat
 use Rattle.replacement.proofs.replace.Statement.{statement}
 use Rattle.replacement.proofs.replace.Tie as tie
 
+-- the places before: the entry and the test, seen from behind `take_out`, and this, seen from behind the writing
+abbrev chosen : tie.After-take-out → tie.Then1
+chosen c = c .before .before
+
+abbrev entry : tie.Then1 → tie.Start
+entry c = c .before .before .before
+
+abbrev taken : tie.After-write-at → tie.After-take-out
+taken c = c .before .before .before .before
+
 gathered :
     (c : tie.After-take-out)
-    → (let a = c .before .before .before .before .before .args in
-    Gathered (stayingOf (records (a .w .now)) (a .a) (a .i) (a .limit) (records (a .kids .now)) (a .taking)) (records (a .w .now)) (a .a)
+    → (let a = entry (chosen c) .args in
+    Gathered (stayingOf (records (a .w .now)) (a .spot) (a .change) (records (a .kids .now))) (records (a .w .now)) (a .spot .active)
     (records (c .take-out .last .0)) (c .take-out .result))
 gathered c =
-    let start = c .before .before .before .before .before in
-    let all : T (start .args .all) = rw (c .before .before .if1 .taken) tt in
-    slide-gathers _ _ _ _ _ _ (start .pre .0) _ _ (start .pre .1 .0 all) (c .take-out .ensures)
+    let start = entry (chosen c) in
+    let all : T (start .args .change .all) = rw (chosen c .if1 .taken) tt in
+    slide-gathers _ _ _ _ (start .pre .0 .spotted) _ _ (start .pre .0 .right all) (c .take-out .ensures)
 
 take-out-requires : tie.Need-take-out-requires
-take-out-requires c κs = omega arith
+take-out-requires c κs = let s = entry (c .before) .pre .0 .spotted in (s .inside, s .front)
 
 write-at-requires : tie.Need-write-at-requires
 write-at-requires c κs =
-    let g = gathered (c .before .before .before) in
-    omega (arith, g .count, g .same-length)
+    let out = c .before .before .before in
+    let g = gathered out in
+    let p = entry (chosen out) .pre in
+    (omega (arith, g .count, g .same-length, p .1), p .0 .some)
 
 add-result : tie.Need-add-result
 add-result c =
-    let s = c .before .before .before .before .before .before in
-    let w = s .before .before .before .before .before .args .w .now in
-    omega (arith, gathered s .count, length-records w)
-
-same-length : tie.Need-same-length
-same-length c = search needs
+    let out = taken (c .before .before .before) in
+    let start = entry (chosen out) in
+    omega (arith, gathered out .count, start .pre .1, length-records (start .args .w .now))
 
 returns : tie.Need-returns
 returns c =
-    let g = gathered (c .before .before .before .before .before .before) in
-    gathered-written _ _ _ _ _ _ _ _ g (omega arith) (omega (arith, g .count)) (c .before .before .write-at .ensures)
-
-sifted-requires : tie.Need-sifted-requires
-sifted-requires c κs = search needs
-
-same-length-2 : tie.Need-same-length-2
-same-length-2 c = search needs
+    let written = c .before .before .before in
+    let out = taken written in
+    let start = entry (chosen out) in
+    gathered-written (start .pre .0) _ _ _ (gathered out) (start .pre .1) (written .write-at .ensures)
 
 returns-2 : tie.Need-returns-2
 returns-2 c = c .before .before .sifted .ensures
@@ -57,8 +62,8 @@ replace-spec =
     take-out-requires
     write-at-requires
     add-result
-    same-length
+    (λ c. search needs)
     returns
-    sifted-requires
-    same-length-2
+    (λ c κs. search needs)
+    (λ c. search needs)
     returns-2)

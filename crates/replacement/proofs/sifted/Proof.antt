@@ -1,4 +1,4 @@
--- `sifted` meets its contract: two sifts gather the records that stay, and the kids are written behind them. Assumes nothing.
+-- `sifted` meets its contract: two sifts gather the records that stay, and the kids are written behind them.
 use native.Mathlib.Omega.{arith}
 use lib.ListN.{take}
 use borrow.Author.Needs.{needs}
@@ -11,49 +11,66 @@ use Rattle.replacement.proofs.ReplaceLaws.{Gathered, sifts-gather, gath
 use Rattle.replacement.proofs.sifted.Statement.{statement}
 use Rattle.replacement.proofs.sifted.Tie as tie
 
+-- the places before: the entry, seen from behind the first sift; that sift, seen from the second; and both, seen from behind the writing
+abbrev entry : tie.After-sift → tie.Start
+entry c = c .before .before .before .before
+
+abbrev first : tie.After-struct-known → tie.After-sift
+first c = c .before .before .before .before
+
+abbrev second : tie.After-write-at → tie.After-sift2
+second c = c .before .before .before .before
+
 gathered :
     (c : tie.After-sift2)
-    → (let a = c .before .before .before .before .before .before .before .before .args in
-    Gathered (stayingOf (records (a .w .now)) (a .a) (a .i) (a .limit) (records (a .kids .now)) (a .taking)) (records (a .w .now)) (a .a)
+    → (let a = entry (first (c .before)) .args in
+    Gathered (stayingOf (records (a .w .now)) (a .spot) (a .change) (records (a .kids .now))) (records (a .w .now)) (a .spot .active)
     (records (c .sift2 .last .0)) (c .sift2 .result))
 gathered c =
-    let s = c .before .before .before .before in
-    sifts-gather _ _ _ _ _ _ (s .before .before .before .before .pre .0) _ _ _ _ (s .sift .ensures) (c .sift2 .ensures)
+    let s = first (c .before) in
+    sifts-gather _ _ _ _ (entry s .pre .0 .spotted) _ _ _ _ (s .sift .ensures) (c .sift2 .ensures)
 
 sift-requires : tie.Need-sift-requires
-sift-requires c κs = (omega arith, (omega arith, (omega arith, (omega arith, c .before .before .before .pre .0 .kids-near))))
+sift-requires c κs =
+    let s = c .before .before .before .pre .0 .spotted in
+    (omega arith, (omega arith, (omega (arith, s .inside, s .front), (s .few, s .near))))
 
 add-sift : tie.Need-add-sift
-add-sift c = omega arith
+add-sift c = let s = entry (first c) .pre .0 .spotted in omega (arith, s .inside)
 
 sift-requires-2 : tie.Need-sift-requires-2
 sift-requires-2 c κs =
-    let s = c .before .before .before in
-    let start = s .before .before .before .before in
+    let start = entry (first c) in
     let a = start .args in
-    let stays = isStaying (a .limit) (take (a .taking) (records (a .kids .now))) in
-    let few = count-within stays 0 (a .i) (records (a .w .now)) (omega arith) in
-    let sifted = s .sift .ensures in
-    (omega (arith, sifted .count, few), (omega arith, (omega (arith, sifted .same-length), (omega arith, start .pre .0 .kids-near))))
+    let s = start .pre .0 .spotted in
+    let stays = isStaying (a .change .limit) (take (a .change .taking) (records (a .kids .now))) in
+    let few = count-within stays 0 (a .spot .at) (records (a .w .now)) (omega (arith, s .inside, s .front)) in
+    let sifted = first c .sift .ensures in (
+      omega (arith, sifted .count, few),
+      (omega (arith, s .inside), (omega (arith, sifted .same-length, s .front), (s .few, s .near))),
+    )
 
 write-at-requires : tie.Need-write-at-requires
 write-at-requires c κs =
-    let g = gathered (c .before .before .before) in
-    omega (arith, g .count, g .same-length)
+    let sift = c .before .before .before in
+    let g = gathered sift in
+    let p = entry (first (sift .before)) .pre in
+    (omega (arith, g .count, g .same-length, p .1), p .0 .some)
 
 add-result : tie.Need-add-result
 add-result c =
-    let s = c .before .before .before .before .before .before in
-    let w = s .before .before .before .before .before .before .before .before .args .w .now in
-    omega (arith, gathered s .count, length-records w)
-
-same-length : tie.Need-same-length
-same-length c = search needs
+    let sift = second (c .before .before .before) in
+    let start = entry (first (sift .before)) in
+    omega (arith, gathered sift .count, start .pre .1, length-records (start .args .w .now))
 
 returns : tie.Need-returns
 returns c =
-    let g = gathered (c .before .before .before .before .before .before) in
-    gathered-written _ _ _ _ _ _ _ _ g (omega arith) (omega (arith, g .count)) (c .before .before .write-at .ensures)
+    let written = c .before .before .before in
+    let sift = second written in
+    let start = entry (first (sift .before)) in
+    gathered-written (start .pre .0) _ _ _ (gathered sift) (start .pre .1) (written .write-at .ensures)
 
 pub sifted-spec : {M : Type 1} → statement M
-sifted-spec = tie.close (tie.spec sift-requires add-sift sift-requires-2 write-at-requires add-result same-length returns)
+sifted-spec =
+    tie.close
+    (tie.spec sift-requires add-sift sift-requires-2 write-at-requires add-result (λ c. search needs) returns)

@@ -7,10 +7,10 @@ use borrow.Author.Needs.{needs}
 use lib.ListN.{getD}
 use lib.Seq.{slice}
 use Rattle.lists.specs.Lists.{any}
+use Rattle.lists.proofs.Slices.{AllSo, all-so-none, all-so-four, all-so-more}
 use Rattle.stops.specs.Code.{emptyRecord}
 use Rattle.records.specs.Code.{records}
 use Rattle.rivals.specs.Code.{near}
-use Rattle.records.proofs.SliceLaws.{AllSo, all-so-none, all-so-four, all-so-more}
 use Rattle.rivals.proofs.next_near.Statement.{statement}
 use Rattle.rivals.proofs.next_near.Tie as tie
 

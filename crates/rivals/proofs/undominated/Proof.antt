@@ -10,11 +10,11 @@ use lib.Dec.{leb}
 use lib.ListN.{length, getD}
 use lib.Seq.{slice}
 use Rattle.lists.specs.Lists.{any}
+use Rattle.lists.proofs.Slices.{any-slice-none, any-slice-more, any-slice-found}
 use Rattle.stops.specs.Code.{emptyRecord, recDominates}
 use Rattle.stops.specs.declared.node_record.Record.{Record}
 use Rattle.records.specs.Code.{records, Sifted}
 use Rattle.rivals.specs.Code.{isFree}
-use Rattle.records.proofs.SliceLaws.{any-slice-none, any-slice-more, any-slice-found}
 use Rattle.records.proofs.SiftLaws.{sifted-none, sifted-passes, sifted-fails}
 use Rattle.rivals.proofs.undominated.Statement.{statement}
 use Rattle.rivals.proofs.undominated.Tie as tie

@@ -2,11 +2,11 @@
 use mathlib.Core.Path.{_∙_}
 use Prim.Native.Nat.{_+_}
 use native.Mathlib.Omega.{arith}
+use Rattle.lists.proofs.Slices.{four-found, four-last}
 use Rattle.stops.specs.Code.{emptyRecord}
 use Rattle.records.specs.Code.{records}
 use Rattle.selection.specs.Code.{isBelow}
 use Rattle.records.proofs.ViewLaws.{length-records}
-use Rattle.records.proofs.SliceLaws.{four-found, four-last}
 use Rattle.selection.proofs.four_below.Statement.{statement}
 use Rattle.selection.proofs.four_below.Tie as tie
 

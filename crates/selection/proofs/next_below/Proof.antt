@@ -6,10 +6,10 @@ use native.Mathlib.Omega.{arith}
 use lib.ListN.{getD}
 use lib.Seq.{slice}
 use Rattle.lists.specs.Lists.{any}
+use Rattle.lists.proofs.Slices.{AllSo, all-so-none, all-so-four, all-so-more}
 use Rattle.stops.specs.Code.{emptyRecord}
 use Rattle.records.specs.Code.{records}
 use Rattle.selection.specs.Code.{isBelow}
-use Rattle.records.proofs.SliceLaws.{AllSo, all-so-none, all-so-four, all-so-more}
 use Rattle.selection.proofs.next_below.Statement.{statement}
 use Rattle.selection.proofs.next_below.Tie as tie
 

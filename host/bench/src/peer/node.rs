@@ -1,7 +1,9 @@
 //! A node as the six numbers of its record, its bound and its children.
 
-pub type Rows = [[u32; 17]; 17];
-pub type Record = [u32; 6];
+use gondamuy::{MOST_STOPS, PLACES, RECORD_WORDS};
+
+pub type Rows = [[u32; PLACES]; PLACES];
+pub type Record = [u32; RECORD_WORDS];
 
 pub const SIZE: usize = 0;
 pub const SET: usize = 1;
@@ -18,13 +20,13 @@ pub struct Job<'a> {
 }
 
 impl Job<'_> {
-    pub fn rule(&self, number: u32) -> bool {
-        self.rules & number != 0
+    pub fn rule(&self, rule: u32) -> bool {
+        self.rules & rule != 0
     }
 
-    /// No place is above 16.
     #[inline(always)]
     fn leg(&self, from: usize, to: usize) -> u32 {
+        // SAFETY: home is place 0, and no stop is above MOST_STOPS.
         unsafe { *self.rows.get_unchecked(from).get_unchecked(to) }
     }
 }
@@ -43,19 +45,19 @@ fn dominates(y: &Record, z: &Record) -> bool {
     y[SET] == z[SET] && y[PATH] <= z[PATH] && last(y) == last(z) && (y[4] != z[4] || y[5] != z[5])
 }
 
-/// Whether one of the records with a bound up to `top` dominates x.
+/// Whether one of the records with a bound up to `limit` dominates x.
 #[inline(always)]
-pub fn beaten(by: &[Record], x: &Record, top: u32) -> bool {
+pub fn beaten(by: &[Record], x: &Record, limit: u32) -> bool {
     for y in by {
-        if dominates(y, x) && y[BOUND] <= top {
+        if dominates(y, x) && y[BOUND] <= limit {
             return true;
         }
     }
     false
 }
 
-/// Which records can have the set of one of b's children: they are one larger, and their sets hold b's. Size and set are
-/// tested as one number.
+/// Which records can have the set of one of b's children: they are one larger, and their sets hold b's. Size and set
+/// are tested as one number.
 #[derive(Clone, Copy)]
 pub struct Kin {
     mask: u64,
@@ -125,7 +127,7 @@ pub fn ahead(job: &Job, place: usize, rest: u32) -> u32 {
 }
 
 /// Writes b's children and says how many there are.
-pub fn family(job: &Job, b: &Record, kids: &mut [Record; 16]) -> usize {
+pub fn family(job: &Job, b: &Record, kids: &mut [Record; MOST_STOPS]) -> usize {
     let rest = (1u32 << job.n) - 1 - b[SET];
     let place = last(b);
     let mut m = 0;
@@ -141,6 +143,7 @@ pub fn family(job: &Job, b: &Record, kids: &mut [Record; 16]) -> usize {
         }
         x[SIZE] += 1;
         x[BOUND] = x[PATH] + ahead(job, s, rest & !(1 << (s - 1)));
+        // SAFETY: a set has no more than MOST_STOPS stops.
         unsafe { *kids.get_unchecked_mut(m) = x };
         m += 1;
     }

@@ -1,8 +1,14 @@
 //! What the tests share: random jobs, and ways to spoil them.
 #![allow(dead_code)]
 
+use gondamuy::raw;
 use jobtext::Job;
 use samples::Random;
+
+/// The numbers of a job as the calls take them.
+pub fn choices(job: &Job) -> raw::Job {
+    raw::Job { n: job.n, selection: job.selection, rules: job.rules, bound: job.bound }
+}
 
 /// A job of n stops that every check lets pass, with or without a starting order.
 pub fn random_job(random: &mut Random, n: usize, most: u32) -> Job {
@@ -62,7 +68,8 @@ pub fn spoil_choice(random: &mut Random, job: &mut Job, more: &[u32]) {
     }
 }
 
-/// Number 5: a starting order cut short or too long (though its file is not), with a stop twice, or with one that is not there.
+/// Number 5: a starting order cut short or too long (though its file is not), with a stop twice, or with one that is not
+/// there.
 pub fn spoil_start(random: &mut Random, job: &mut Job) {
     let n = job.n as usize;
     job.start = random.order(n);

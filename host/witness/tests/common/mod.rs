@@ -4,7 +4,7 @@
 
 use samples::{Random, KINDS};
 use witness::legs::Legs;
-use witness::{plan_watched, Report, Request, State, WORDS};
+use witness::{plan, plan_watched, Report, Request, State, WORDS};
 
 pub const T: [u32; 16] = [0, 4, 7, 9, 5, 0, 2, 6, 3, 8, 0, 1, 6, 5, 4, 0];
 
@@ -37,7 +37,7 @@ impl Job {
     }
 
     pub fn run_in(&self, pool: &mut [u32]) -> Report {
-        plan_watched(&self.request(), pool, &mut |_| {})
+        plan(&self.request(), pool)
     }
 
     pub fn run(&self, records: usize) -> (Report, Vec<u32>) {
@@ -64,8 +64,8 @@ impl Job {
         keeps
     }
 
-    pub fn rule(&self, number: u64) -> bool {
-        self.rules & number != 0
+    pub fn rule(&self, rule: u64) -> bool {
+        self.rules & rule != 0
     }
 
     pub fn leg(&self, from: u32, to: u32) -> u32 {
@@ -178,8 +178,7 @@ pub fn order_of(job: &Job, record: &[u32]) -> Vec<u32> {
 pub fn read_pool(job: &Job, report: &Report, pool: &[u32]) -> (Vec<Vec<u32>>, Vec<Vec<u32>>) {
     let active = report.active as usize;
     let branched = if job.rule(4) { report.branched as usize } else { 0 };
-    let orders: Vec<Vec<u32>> =
-        pool.chunks(WORDS).take(active + branched).map(|r| order_of(job, r)).collect();
+    let orders: Vec<Vec<u32>> = pool.chunks(WORDS).take(active + branched).map(|r| order_of(job, r)).collect();
     assert_eq!(orders.len(), active + branched, "the nodes fit the pool");
     assert!(pool[(active + branched) * WORDS..].iter().all(|&w| w == 0));
     let mut distinct = orders.clone();

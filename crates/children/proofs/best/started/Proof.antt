@@ -1,43 +1,51 @@
--- `started` meets its contract. The invariant: x is the record of the first k stops, but for its bound, and they end at place. The measure
--- is how many are left. Assumes nothing.
+-- `started` meets its contract. The invariant: x is the record of the first k stops, but for its bound, and they end at place (the loop does
+-- not look at the setting, so it is any). The measure is how many are left.
 use Prim.Native.Nat.{_-_, _≤_}
 use native.Mathlib.Omega.{arith}
 use borrow.Author.Needs.{needs}
 use lib.ListN.{length, getD}
 use denote.Ref.{now}
+use Rattle.sizes.specs.Sizes.{mostStops}
 use Rattle.orders.specs.Orders.{Order}
-use Rattle.stops.specs.Legs.{legs}
-use Rattle.records.specs.Code.{encode}
-use Rattle.children.specs.Code.{Rows}
-use Rattle.children.proofs.BestLaws.{empty-best, Flown, flown-none, flown-more, flown-wide, flown-room, flown-best, next-near, order-given}
+use Rattle.children.specs.Code.{Rows, encodeOf}
+use Rattle.children.specs.declared.setting.Setting.{Setting}
+use Rattle.children.proofs.FlownLaws.{empty-best, Flown, flown-none, flown-more, flown-wide, flown-room, flown-best, next-near, order-given}
 use Rattle.children.proofs.best.started.Statement.{statement}
 use Rattle.children.proofs.best.started.Tie as tie
 
 abbrev Inv-loop : tie.InvT-loop
-Inv-loop n start t x₀ place₀ k₀ x place k = Flown n t start k x place
+Inv-loop start t x₀ place₀ k₀ x place k = (d : Setting) → Rows d t → Order (d .n) start → Flown d t start k x place
 
 abbrev μ-loop : tie.MeasureT-loop
-μ-loop n start t x₀ place₀ k₀ x place k = length start - k
+μ-loop start t x₀ place₀ k₀ x place k = length start - k
 
--- what holds wherever the loop is reached: the table's rows, and that an order is given; and the next stop is at most 16
-rows :
-    (c : tie.At-loop Inv-loop μ-loop) → Rows (c .before .before .before .before .args .n) (c .before .before .before .before .args .t1) 0
-rows c = c .before .before .before .before .pre .0
+-- the function's entry, seen from the loop's head; the table's rows, that an order is given, and how far it is flown
+abbrev entry : tie.At-loop Inv-loop μ-loop → tie.Start Inv-loop μ-loop
+entry c = c .before .before .before .before
 
-order : (c : tie.At-loop Inv-loop μ-loop) → Order (c .before .before .before .before .args .n) (now (c .before .before .before .before .args .start))
-order c = order-given _ _ (c .before .before .before .before .pre .1) (c .before .before .if1 .left)
+rows : (c : tie.At-loop Inv-loop μ-loop) → Rows (entry c .args .setting) (entry c .args .t2)
+rows c = entry c .pre .0
 
-near : (c : tie.In-loop Inv-loop μ-loop) → getD (now (c .before .before .before .before .before .args .start)) (c .before .loop .k) 0 ≤ 16
-near c = next-near _ (rows (c .before)) (order (c .before)) (c .before .loop .inv) (c .loop-test .taken)
+order : (c : tie.At-loop Inv-loop μ-loop) → Order (entry c .args .setting .n) (now (entry c .args .start))
+order c = order-given _ _ (entry c .pre .1) (c .before .before .if1 .left)
+
+flown :
+    (c : tie.At-loop Inv-loop μ-loop)
+    → let a = entry c .args in Flown (a .setting) (a .t2) (now (a .start)) (c .loop .k) (c .loop .x) (c .loop .place)
+flown c = c .loop .inv _ (rows c) (order c)
+
+-- the next stop is a place
+near : (c : tie.In-loop Inv-loop μ-loop) → getD (now (entry (c .before) .args .start)) (c .before .loop .k) 0 ≤ mostStops
+near c = let l = c .before in next-near _ (rows l) (order l) (flown l) (c .loop-test .taken)
 
 returns : tie.Need-returns Inv-loop μ-loop
-returns c = let a = c .before .before .args in λ k h. empty-best (encode (a .n) (legs (a .t1)) k) (now (a .start)) (c .if1 .taken)
+returns c = let a = c .before .before .args in empty-best (encodeOf (a .setting) (a .t2)) (now (a .start)) (c .if1 .taken)
 
 empty-requires : tie.Need-empty-requires Inv-loop μ-loop
 empty-requires c κs = search needs
 
 loop-holds : tie.Need-loop-holds Inv-loop μ-loop
-loop-holds c = let a = c .before .before .before .args in flown-none (a .n) (a .t1) (a .start .now) (c .empty .result) (c .empty .ensures)
+loop-holds c d p o = let a = c .before .before .before .args in flown-none d (a .t2) (a .start .now) (c .empty .result) (c .empty .ensures)
 
 shared-slice-read-s : tie.Need-shared-slice-read-s Inv-loop μ-loop
 shared-slice-read-s c = omega arith
@@ -45,13 +53,14 @@ shared-slice-read-s c = omega arith
 cast-s : tie.Need-cast-s Inv-loop μ-loop
 cast-s c = omega (arith, near (c .before))
 
-leg-requires : tie.Need-leg-requires Inv-loop μ-loop
-leg-requires c κs = (omega arith, near (c .before .before))
+further-requires : tie.Need-further-requires Inv-loop μ-loop
+further-requires c κs = let i = c .before .before in (flown (i .before) .near, near i)
 
 extended-requires : tie.Need-extended-requires Inv-loop μ-loop
 extended-requires c κs =
     let i = c .before .before .before in
-    rw (c .leg .ensures) (flown-wide _ (rows (i .before)) (order (i .before)) (i .before .loop .inv) (i .loop-test .taken))
+    let l = i .before in
+    rw (c .further .ensures) (flown-wide _ (rows l) (order l) (flown l) (i .loop-test .taken))
 
 add-k : tie.Need-add-k Inv-loop μ-loop
 add-k c = omega arith
@@ -60,23 +69,23 @@ loop-less : tie.Need-loop-less Inv-loop μ-loop
 loop-less c = omega arith
 
 loop-again : tie.Need-loop-again Inv-loop μ-loop
-loop-again c =
+loop-again c d p o =
     let i = c .before .before .before .before in
-    rw (c .extended .ensures, c .before .leg .ensures)
-    (flown-more _ (rows (i .before)) (order (i .before)) (i .before .loop .inv) (i .loop-test .taken))
+    let l = i .before in
+    rw (c .extended .ensures, c .before .further .ensures) (flown-more _ p o (l .loop .inv d p o) (i .loop-test .taken))
 
-leg-requires-2 : tie.Need-leg-requires-2 Inv-loop μ-loop
-leg-requires-2 c κs = omega arith
+ahead-requires : tie.Need-ahead-requires Inv-loop μ-loop
+ahead-requires c κs = let l = c .before .before in (flown l .near, (omega arith, rows l .cheap))
 
 add-t19 : tie.Need-add-t19 Inv-loop μ-loop
 add-t19 c =
     let l = c .before .before .before .before in
-    record { fits = rw (c .before .leg2 .ensures) (flown-room _ (rows l) (order l) (l .loop .inv) 0) }
+    record { fits = rw (c .before .ahead .ensures) (flown-room _ (rows l) (order l) (flown l)) }
 
 returns-2 : tie.Need-returns-2 Inv-loop μ-loop
 returns-2 c =
     let l = c .before .before .before .before in
-    rw (c .before .leg2 .ensures) (flown-best _ (rows l) (order l) (l .loop .inv) (c .before .before .before .loop-test .left))
+    rw (c .before .ahead .ensures) (flown-best _ (rows l) (order l) (flown l) (c .before .before .before .loop-test .left))
 
 pub started-spec : {M : Type 1} → statement M
 started-spec =
@@ -89,11 +98,11 @@ started-spec =
     loop-holds
     shared-slice-read-s
     cast-s
-    leg-requires
+    further-requires
     extended-requires
     add-k
     loop-less
     loop-again
-    leg-requires-2
+    ahead-requires
     add-t19
     returns-2)

@@ -1,33 +1,32 @@
 -- `family::child` meets its contract: the numbers of b have room for one of the stops that it leaves, and what is made is the
--- child (`FamilyLaws`). Assumes nothing.
+-- child (`KidLaws`).
 use mathlib.Core.Path.{_≡_, ap, _∙_}
 use native.Mathlib.Omega.{arith}
-use Rattle.stops.specs.Legs.{rowLeg}
-use Rattle.stops.specs.Code.{extended}
+use Rattle.stops.specs.Code.{extended, reckonOn}
 use Rattle.children.specs.Code.{bounded}
-use Rattle.children.proofs.FamilyLaws.{kid-places, kid-wide, kid-small, kid-made}
+use Rattle.children.proofs.KidLaws.{kid-places, kid-wide, kid-small, kid-made}
 use Rattle.children.proofs.family.child.Statement.{statement}
 use Rattle.children.proofs.family.child.Tie as tie
 
 extended-requires : tie.Need-extended-requires
-extended-requires c κs = rw (c .leg .ensures) (kid-wide (c .before .pre))
+extended-requires c κs = rw (c .further .ensures) (kid-wide (c .before .pre))
 
--- what `extended` makes is b with the stop and its leg
+-- what `extended` makes is b with the stop and what it adds
 made :
     (c : tie.After-extended) →
     let a = c .before .before .args in
-    c .extended .result ≡ extended (a .b) (a .s) (rowLeg (a .t .now) (a .place) (a .s))
+    c .extended .result ≡ extended (a .b) (a .s) (reckonOn (a .t .now) .further (a .place) (a .s))
 made c =
     let a = c .before .before .args in
-    c .extended .ensures ∙ ap (extended (a .b) (a .s)) (c .before .leg .ensures)
+    c .extended .ensures ∙ ap (extended (a .b) (a .s)) (c .before .further .ensures)
 
 without-requires : tie.Need-without-requires
-without-requires c κs = let q = c .before .before .pre in (kid-places q .1, q .1 .1 .1 .1)
+without-requires c κs = let q = c .before .before .pre in (kid-places q .1, q .stop)
 
 ahead-requires : tie.Need-ahead-requires
 ahead-requires c κs =
     let q = c .before .before .before .pre in
-    (kid-places q .2, (omega (arith, kid-places q), q .0 .cheap))
+    (kid-places q .2, (omega (arith, kid-places q), q .rows .cheap))
 
 add-x : tie.Need-add-x
 add-x c =

@@ -1,11 +1,12 @@
 -- `family::family` meets its contract. The loop's invariant: `rest` is the set of the stops that b leaves, the slice keeps its
 -- length, and the first m records are the children by the stops passed (`Written`). The measure is the set of the stops left, as a
--- number. Assumes nothing.
+-- number.
 use mathlib.Core.Path.{_≡_, refl, _∙_}
 use Prim.Native.Nat.{_+_, _-_, _*_, _^_, _%_, _≤_, _<_}
 use native.Mathlib.Omega.{arith}
 use borrow.Author.Needs.{needs}
 use lib.ListN.{length}
+use Rattle.sizes.specs.Sizes.{mostStops}
 use Rattle.stops.proofs.SetLoops.{First, first-out, first-later}
 use Rattle.records.specs.Code.{records}
 use Rattle.records.proofs.Mask.{rest-small}
@@ -15,85 +16,108 @@ use Rattle.children.proofs.family.family.Statement.{statement}
 use Rattle.children.proofs.family.family.Tie as tie
 
 abbrev Inv-loop : tie.InvT-loop
-Inv-loop n number b kids₀ t place rest m₀ left₀ kids m left =
-    (rest ≡ restOf n b) × (length kids ≡ length kids₀) × Written (childOf n t number b) (restOf n b) (records kids) m left
+Inv-loop setting b kids₀ t place rest m₀ left₀ kids m left =
+    (rest ≡ restOf setting b) × (length kids ≡ length kids₀) × Written (childOf setting t b) (restOf setting b) (records kids) m left
 
 abbrev μ-loop : tie.MeasureT-loop
-μ-loop n number b kids₀ t place rest m₀ left₀ kids m left = left
+μ-loop setting b kids₀ t place rest m₀ left₀ kids m left = left
+
+-- the places before: the entry, seen from behind `last`; the call of `last`, seen from the loop's head; the loop's head, seen from behind `next`
+abbrev entry : tie.After-last Inv-loop μ-loop → tie.Start Inv-loop μ-loop
+entry c = c .before .before
+
+abbrev placed : tie.At-loop Inv-loop μ-loop → tie.After-last Inv-loop μ-loop
+placed c = c .before .before .before
+
+abbrev head : tie.After-next Inv-loop μ-loop → tie.At-loop Inv-loop μ-loop
+head c = c .before .before
+
+-- and the call of `next`, seen from behind that of `child`
+abbrev stepped : tie.After-child Inv-loop μ-loop → tie.After-next Inv-loop μ-loop
+stepped c = c .before .before .before .before
 
 last-requires : tie.Need-last-requires Inv-loop μ-loop
 last-requires c κs = search needs
 
 shl-rest : tie.Need-shl-rest Inv-loop μ-loop
-shl-rest c = let h = c .before .before .pre .0 .few in omega arith
+shl-rest c = let h = entry (c .before) .pre .0 .few in omega arith
 
 -- 2 to the power n is small, and b's set is below it
 sums :
     (c : tie.After-last Inv-loop μ-loop)
-    → let a = c .before .before .args in (a .b .set + restOf (a .n) (a .b) + 1 ≡ 2 ^ a .n) × (2 ^ a .n ≤ 2 ^ 16)
-sums c = let p = c .before .before .pre in rest-sum (p .0) (p .1 .0)
+    → let a = entry c .args in
+    (a .b .set + restOf (a .setting) (a .b) + 1 ≡ 2 ^ a .setting .n) × (2 ^ a .setting .n ≤ 2 ^ mostStops)
+sums c = let p = entry c .pre in rest-sum (p .0) (p .1 .0)
 
 sub-rest : tie.Need-sub-rest Inv-loop μ-loop
-sub-rest c = omega (arith, sums c)
+sub-rest c = omega (arith, sums (c .before))
 
 sub-rest-2 : tie.Need-sub-rest-2 Inv-loop μ-loop
-sub-rest-2 c = omega (arith, sums (c .before))
+sub-rest-2 c = omega (arith, sums (c .before .before))
 
 loop-holds : tie.Need-loop-holds Inv-loop μ-loop
 unfolding restOf
 loop-holds c =
-    let a = c .before .before .before .args in
-    let p = c .before .before .before .pre in
-    let e : 1 * 2 ^ a .n % 2 ^ 32 - 1 - a .b .set ≡ restOf (a .n) (a .b) = omega (arith, sums (c .before)) in
-    (e, refl, written-starts e (rest-small (a .n) (p .0 .few) (a .b .set)) (p .1 .1))
+    let last = c .before .before in
+    let a = entry last .args in
+    let p = entry last .pre in
+    let e : 1 * 2 ^ a .setting .n % 2 ^ 32 - 1 - a .b .set ≡ restOf (a .setting) (a .b) = omega (arith, sums last) in
+    (e, refl, written-starts e (rest-small (a .setting .n) (p .0 .few) (a .b .set)) (p .1 .1))
 
 next-requires : tie.Need-next-requires Inv-loop μ-loop
 next-requires c κs = let h = c .before .loop .inv .2 .small in omega arith
 
 -- what `next` gives is the first of the stops left
-first : (c : tie.After-next Inv-loop μ-loop) → First (c .before .before .loop .left) (c .next .result)
+first : (c : tie.After-next Inv-loop μ-loop) → First (head c .loop .left) (c .next .result)
 first c =
-    let l = c .before .before .loop in
+    let l = head c .loop in
     first-out (l .left) (c .next .result) (omega arith) (l .inv .2 .small) (c .next .ensures .0)
 
 later-requires : tie.Need-later-requires Inv-loop μ-loop
-later-requires c κs = let h = c .before .before .loop .inv .2 .small in omega arith
+later-requires c κs = let h = head c .loop .inv .2 .small in omega arith
 
 -- what `later` gives is the others
-rest-left : (c : tie.After-later Inv-loop μ-loop) → c .later .result ≡ c .before .before .before .loop .left - 2 ^ (c .before .next .result - 1)
+rest-left : (c : tie.After-later Inv-loop μ-loop) → c .later .result ≡ head (c .before) .loop .left - 2 ^ (c .before .next .result - 1)
 rest-left c = first-later _ _ _ (c .before .next .ensures .0) (c .later .ensures)
 
 -- the slice has room for one record more
-room : (c : tie.After-next Inv-loop μ-loop) → let l = c .before .before .loop in (l .m < 16) × (16 ≤ length (records (l .kids)))
-room c = written-room (c .before .before .loop .inv .2) (first c)
+room :
+    (c : tie.After-next Inv-loop μ-loop)
+    → let l = head c .loop in (l .m < mostStops) × (mostStops ≤ length (records (l .kids)))
+room c = written-room (head c .loop .inv .2) (first c)
 
 child-requires : tie.Need-child-requires Inv-loop μ-loop
 child-requires c κs =
     let n = c .before .before .before in
-    let l = n .before .before in
-    let p = l .before .before .before .before .pre in
-    (p .0, (p .1 .0, (l .before .before .last .ensures, (l .loop .inv .0, rw (l .loop .inv .0) (l .loop .inv .2 .part _ (first n .member))))))
+    let l = head n in
+    let p = entry (placed l) .pre in
+    record {
+      rows = p .0;
+      encoded = p .1 .0;
+      at = placed l .last .ensures;
+      leaves = l .loop .inv .0;
+      stop = rw (l .loop .inv .0) (l .loop .inv .2 .part _ (first n .member));
+    }
 
 store-requires : tie.Need-store-requires Inv-loop μ-loop
-store-requires c κs = omega (arith, room (c .before .before .before .before))
+store-requires c κs = omega (arith, room (stepped c))
 
 add-m : tie.Need-add-m Inv-loop μ-loop
-add-m c = omega (arith, room (c .before .before .before .before .before .before .before))
+add-m c = omega (arith, room (stepped (c .before .before .before)))
 
 loop-less : tie.Need-loop-less Inv-loop μ-loop
 loop-less c =
-    let s = c .before .before in
-    let w = s .before .before .before .before in
-    omega (arith, first (w .before) .less, rest-left w)
+    let born = c .before .before .before in
+    omega (arith, first (stepped born) .less, rest-left (born .before .before .before))
 
 loop-again : tie.Need-loop-again Inv-loop μ-loop
 loop-again c =
     let s = c .before .before in
-    let w = s .before .before .before .before in
-    let l = w .before .before .before .loop in (
+    let n = stepped (s .before) in
+    let l = head n .loop in (
       l .inv .0,
       s .store .kept .0 ∙ l .inv .1,
-      written-again (l .inv .2) (first (w .before)) (rest-left w) (s .before .child .ensures) (s .store .ensures),
+      written-again (l .inv .2) (first n) (rest-left (s .before .before .before .before)) (s .before .child .ensures) (s .store .ensures),
     )
 
 same-length : tie.Need-same-length Inv-loop μ-loop

@@ -1,15 +1,13 @@
--- `limit_of` meets its contract: rule 1 is on where the sum is odd. Assumes nothing.
-use Prim.Native.Nat.{_/_, _%_}
-use native.Mathlib.Omega.{arith}
-use borrow.Author.Tests.{eq-eqb, ne-eqb}
+-- `limit_of` meets its contract.
+use borrow.Author.Needs.{needs}
 use Rattle.children.proofs.survivors.limit_of.Statement.{statement}
 use Rattle.children.proofs.survivors.limit_of.Tie as tie
 
 returns : tie.Need-returns
-returns c = rw (eq-eqb (c .before .args .rules / 1 % 2) 1 (omega arith))
+returns c = rw (← c .before .on .ensures, c .if1 .taken)
 
 returns-2 : tie.Need-returns-2
-returns-2 c = rw (ne-eqb (c .before .args .rules / 1 % 2) 1 (λ e. c .if1 .left (omega arith)))
+returns-2 c = rw (← c .before .on .ensures, c .if1 .left)
 
 pub limit-of-spec : {M : Type 1} → statement M
-limit-of-spec = tie.close (tie.spec returns returns-2)
+limit-of-spec = tie.close (tie.spec (λ c κs. search needs) returns returns-2)

@@ -1,57 +1,44 @@
--- `survivors` meets its contract: the passes of the three rules, each over what the one before it left. Assumes nothing.
-use Prim.Native.Nat.{_-_}
-use native.Mathlib.Omega.{arith}
-use lib.ListN.{take, drop}
+-- `survivors` meets its contract: the passes of the three rules, each over what the one before it left.
 use borrow.Author.Needs.{needs}
-use Rattle.records.specs.Code.{records, dropAt}
-use Rattle.records.proofs.SiftLaws.{sifted-fewer}
-use Rattle.rivals.proofs.RivalLaws.{sifted-near-still}
-use Rattle.children.proofs.SurvivorLaws.{survivors-sifted}
+use Rattle.records.specs.Code.{records}
+use Rattle.children.specs.Code.{othersIn, farIn}
+use Rattle.children.proofs.SurvivorLaws.{spotted-still, survivors-sifted}
 use Rattle.children.proofs.survivors.survivors.Statement.{statement}
 use Rattle.children.proofs.survivors.survivors.Tie as tie
 
+-- the places before: the entry, seen from behind the first pass; each pass, seen from behind the next
+abbrev entry : tie.After-by-rule-1 → tie.Start
+entry c = c .before .before .before .before
+
+abbrev first : tie.After-by-rule-2 → tie.After-by-rule-1
+first c = c .before .before .before .before
+
+abbrev second : tie.After-by-rule-4 → tie.After-by-rule-2
+second c = c .before .before .before .before
+
 by-rule-1-requires : tie.Need-by-rule-1-requires
-by-rule-1-requires c κs = search needs
+by-rule-1-requires c κs = c .before .before .before .pre .few
 
 by-rule-2-requires : tie.Need-by-rule-2-requires
-by-rule-2-requires c κs =
-    let first = c .before .before .before .by-rule-1 .ensures in
-    let start = c .before .before .before .before .before .before .before in (
-      (omega (arith, sifted-fewer first, first .same-length), sifted-near-still (start .args .size) (start .args .base) first (start .pre .0 .1)),
-      omega arith,
-    )
+by-rule-2-requires c κs = let one = c .before .before .before in spotted-still (entry one .pre) (one .by-rule-1 .ensures)
 
 by-rule-4-requires : tie.Need-by-rule-4-requires
 by-rule-4-requires c κs =
-    let first = c .before .before .before .before .before .before .before .by-rule-1 .ensures in
-    let second = c .before .before .before .by-rule-2 .ensures in
-    let start = c .before .before .before .before .before .before .before .before .before .before .before in
-    let size = start .args .size in
-    let base = start .args .base in (
-      (
-        omega (arith, sifted-fewer first, first .same-length, sifted-fewer second, second .same-length),
-        sifted-near-still size base second (sifted-near-still size base first (start .pre .0 .1)),
-      ),
-      omega arith,
-    )
-
-same-length : tie.Need-same-length
-same-length c = search needs
+    let two = c .before .before .before in
+    let one = first two in
+    spotted-still (spotted-still (entry one .pre) (one .by-rule-1 .ensures)) (two .by-rule-2 .ensures)
 
 returns : tie.Need-returns
 returns c =
-    let args = c .before .before .before .before .before .before .before .before .before .before .before .before .before .before .args in
-    let recs = records (args .w .now) in
-    survivors-sifted
-    (args .rules)
-    (args .limit)
-    (dropAt (args .i) (take (args .a) recs))
-    (drop (args .count - args .held) recs)
-    (c .before .before .before .before .before .before .before .before .before .before .by-rule-1 .ensures)
-    (c .before .before .before .before .before .before .by-rule-2 .ensures)
-    (c .before .before .by-rule-4 .ensures)
+    let three = c .before .before in
+    let two = second three in
+    let one = first two in
+    let a = entry one .args in
+    let recs = records (a .w .now) in
+    survivors-sifted (a .setting .rules) (a .limit) (othersIn recs (a .spot .active) (a .spot .at)) (farIn recs (a .spot .far))
+    (one .by-rule-1 .ensures) (two .by-rule-2 .ensures) (three .by-rule-4 .ensures)
 
 pub survivors-spec : {M : Type 1} → statement M
 survivors-spec =
     tie.close
-    (tie.spec by-rule-1-requires by-rule-2-requires by-rule-4-requires same-length returns)
+    (tie.spec by-rule-1-requires by-rule-2-requires by-rule-4-requires (λ c. search needs) returns)

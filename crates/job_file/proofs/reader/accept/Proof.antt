@@ -1,4 +1,4 @@
--- `accept` meets its contract: what it has read is the file's job (`found`), and the checks answer for it. Assumes nothing.
+-- `accept` meets its contract: what it has read is what the file holds (`found`), and the checks answer for it.
 use mathlib.Core.Path.{sym, _∙_}
 use lib.Seq.{length-take-le}
 use native.Mathlib.Omega.{arith}
@@ -10,37 +10,19 @@ use Rattle.job_file.proofs.reader.accept.Tie as tie
 abbrev Read : tie.After-job-cause → Type 0
 Read c =
     let table = c .before .before .before in
-    let fourth = table .before .before in
-    let third = fourth .before .before in
-    let second = third .before .before in
-    let first = second .before .before in
-    let args = first .before .before .before .before .args in
-    Found
-    (args .file .now)
-    (args .trailer .now)
-    (args .n)
-    (table .before .area .result)
-    (table .table-of .result)
-    (first .wide .result)
-    (second .wide2 .result)
-    (third .wide3 .result)
-    (fourth .wide4 .result)
+    let wide = table .before .before in
+    let args = wide .before .before .before .before .args in
+    Found (args .file .now) (args .trailer .now) (args .job) (table .before .area .result) (table .table-of .result) (wide .wide .result)
 
 found : (c : tie.After-job-cause) → Read c
 found c =
     let table = c .before .before .before in
-    let fourth = table .before .before in
-    let third = fourth .before .before in
-    let second = third .before .before in
-    let first = second .before .before in
+    let wide = table .before .before in
     record {
-      laid = first .before .before .before .before .pre;
+      laid = wide .before .before .before .before .pre;
       square = table .before .area .ensures .0;
       numbers = table .table-of .ensures;
-      long = first .wide .ensures .0;
-      choice = second .wide2 .ensures .0;
-      sum = third .wide3 .ensures .0;
-      number = fourth .wide4 .ensures .0;
+      long = wide .wide .ensures .0;
     }
 
 shared-slice-read-wide : tie.Need-shared-slice-read-wide
@@ -48,24 +30,6 @@ shared-slice-read-wide c = omega arith
 
 wide-requires : tie.Need-wide-requires
 wide-requires c κs = omega arith
-
-shared-slice-read-wide-2 : tie.Need-shared-slice-read-wide-2
-shared-slice-read-wide-2 c = omega arith
-
-wide-requires-2 : tie.Need-wide-requires-2
-wide-requires-2 c κs = omega arith
-
-shared-slice-read-wide-3 : tie.Need-shared-slice-read-wide-3
-shared-slice-read-wide-3 c = omega arith
-
-wide-requires-3 : tie.Need-wide-requires-3
-wide-requires-3 c κs = omega arith
-
-shared-slice-read-wide-4 : tie.Need-shared-slice-read-wide-4
-shared-slice-read-wide-4 c = omega arith
-
-wide-requires-4 : tie.Need-wide-requires-4
-wide-requires-4 c κs = omega arith
 
 area-requires : tie.Need-area-requires
 area-requires c κs = omega arith
@@ -106,15 +70,15 @@ refused-requires c κs = omega arith
 returns : tie.Need-returns
 returns c =
     let checks = c .before .before in
-    c .refused .ensures ∙ accept-refuses _ _ _ _ _ _ _ _ _ (found checks) _ (checks .job-cause .ensures) (c .before .if1 .taken)
+    c .refused .ensures ∙ accept-refuses _ _ _ _ _ _ (found checks) _ (checks .job-cause .ensures) (c .before .if1 .taken)
 
 start-of-requires : tie.Need-start-of-requires
-start-of-requires c κs = found-short _ _ _ _ _ _ _ _ _ (found (c .before)) _ (c .before .job-cause .ensures) (c .if1 .left)
+start-of-requires c κs = found-short _ _ _ _ _ _ (found (c .before)) _ (c .before .job-cause .ensures) (c .if1 .left)
 
 returns-2 : tie.Need-returns-2
 returns-2 c =
     let checks = c .before .before in
-    accept-returns _ _ _ _ _ _ _ _ _ (found checks) _ (checks .job-cause .ensures) (c .before .if1 .left) _ (c .start-of .ensures)
+    accept-returns _ _ _ _ _ _ (found checks) _ (checks .job-cause .ensures) (c .before .if1 .left) _ (c .start-of .ensures)
 
 pub accept-spec : {M : Type 1} → statement M
 accept-spec =
@@ -122,12 +86,6 @@ accept-spec =
     (tie.spec
     shared-slice-read-wide
     wide-requires
-    shared-slice-read-wide-2
-    wide-requires-2
-    shared-slice-read-wide-3
-    wide-requires-3
-    shared-slice-read-wide-4
-    wide-requires-4
     area-requires
     table-of-requires
     mul-from

@@ -1,4 +1,4 @@
--- `misplaced` meets its contract, test by test. Assumes nothing.
+-- `misplaced` meets its contract, test by test.
 use mathlib.Core.Path.{sym, _∙_}
 use native.Mathlib.Omega.{arith}
 use Rattle.job_format.proofs.LayoutLaws.{table-elsewhere, start-elsewhere, other-length, layout-fits}
@@ -11,14 +11,14 @@ area-requires c κs = omega arith
 mul-place : tie.Need-mul-place
 mul-place c = omega arith
 
-number-at-requires : tie.Need-number-at-requires
-number-at-requires c κs = omega arith
+word-at-requires : tie.Need-word-at-requires
+word-at-requires c κs = omega arith
 
 returns : tie.Need-returns
-returns c = table-elsewhere _ _ _ (c .before .before .before .before .pre .1 .0) (λ e. c .if1 .taken (c .before .number-at .ensures ∙ e))
+returns c = table-elsewhere _ _ _ (c .before .before .before .before .pre .1 .0) (λ e. c .if1 .taken (c .before .word-at .ensures ∙ e))
 
-number-at-requires-2 : tie.Need-number-at-requires-2
-number-at-requires-2 c κs = omega arith
+word-at-requires-2 : tie.Need-word-at-requires-2
+word-at-requires-2 c κs = omega arith
 
 cast-if2 : tie.Need-cast-if2
 cast-if2 c = omega arith
@@ -26,7 +26,7 @@ cast-if2 c = omega arith
 returns-2 : tie.Need-returns-2
 returns-2 c =
     let area = c .before .before .before .before in
-    start-elsewhere _ _ _ (area .before .before .pre .1 .0) (λ e. c .if2 .taken (omega (arith, c .before .number-at2 .ensures, e, area .area .ensures .0)))
+    start-elsewhere _ _ _ (area .before .before .pre .1 .0) (λ e. c .if2 .taken (omega (arith, c .before .word-at2 .ensures, e, area .area .ensures .0)))
 
 shared-slice-read-wide : tie.Need-shared-slice-read-wide
 shared-slice-read-wide c = omega arith
@@ -45,7 +45,9 @@ add-if3-2 c = omega arith
 
 returns-3 : tie.Need-returns-3
 returns-3 c =
-    let area = c .before .before .before .before .before .before .before in
+    let second = c .before .before .before in
+    let first = second .before .before in
+    let area = first .before .before in
     other-length _ _ _ (area .before .before .pre .1 .0) (λ e. c .if3 .taken (omega (arith, e, c .before .wide .ensures, area .area .ensures .0)))
 
 returns-4 : tie.Need-returns-4
@@ -54,8 +56,8 @@ returns-4 c =
     let first = second .before .before in
     let area = first .before .before in
     layout-fits _ _ _ (area .before .before .pre .1 .0)
-    (sym (first .before .number-at .ensures) ∙ first .if1 .left)
-    (omega (arith, second .before .number-at2 .ensures, second .if2 .left, area .area .ensures .0))
+    (sym (first .before .word-at .ensures) ∙ first .if1 .left)
+    (omega (arith, second .before .word-at2 .ensures, second .if2 .left, area .area .ensures .0))
     (omega (arith, c .if3 .left, c .before .wide .ensures, area .area .ensures .0))
 
 pub misplaced-spec : {M : Type 1} → statement M
@@ -64,9 +66,9 @@ misplaced-spec =
     (tie.spec
     area-requires
     mul-place
-    number-at-requires
+    word-at-requires
     returns
-    number-at-requires-2
+    word-at-requires-2
     cast-if2
     returns-2
     shared-slice-read-wide

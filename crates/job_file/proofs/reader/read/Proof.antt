@@ -1,4 +1,4 @@
--- `read` meets its contract, test by test. Assumes nothing.
+-- `read` meets its contract, test by test.
 use mathlib.Core.Path.{_≡_, ap, sym, _∙_}
 use mathlib.Core.List.{List}
 use Prim.Native.Nat.{ℕ, _-_}
@@ -6,12 +6,15 @@ use native.Mathlib.Omega.{arith}
 use lib.ListN.{length, take, drop}
 use Rattle.stops.proofs.RowLaws.{part-from}
 use Rattle.answer.specs.Checks.{cause₁}
-use Rattle.job_format.specs.Job.{callFor, trailerLength}
-use Rattle.job_format.specs.Reader.{trailerFrom, jobBy}
+use Rattle.job_format.specs.Contents.{trailerLength}
+use Rattle.job_format.specs.Reader.{trailerFrom, contentsBy}
 use Rattle.job_file.specs.Promise.{returned}
 use Rattle.job_file.specs.Code.{checked}
-use Rattle.job_format.proofs.ReadLaws.{few-stops, short-file, wrong-stops, wrong-layout, right-layout, same-stops, length-last}
+use Rattle.answer.specs.declared.Job.{Job}
+use Rattle.checks.proofs.CauseLaws.{few-stops}
+use Rattle.job_format.proofs.ReadLaws.{short-file, wrong-stops, wrong-layout, right-layout, same-stops, length-last}
 use Rattle.job_file.proofs.AcceptLaws.{layout-laid}
+use borrow.Author.Needs.{needs}
 use Rattle.job_file.proofs.reader.read.Statement.{statement}
 use Rattle.job_file.proofs.reader.read.Tie as tie
 
@@ -25,12 +28,18 @@ trailer c = take (length (file c) - (length (file c) - trailerLength)) (drop (le
 last : (c : tie.Start) → trailer c ≡ drop (length (file c) - trailerLength) (file c)
 last c = part-from (length (file c) - trailerLength) (file c)
 
--- the answer to cause 1, as the file's job has it
-stops : (c : tie.After-wrong-n) → let s = c .before .before .before .before .before .before in
-    c .wrong-n .result ≡ cause₁ (callFor (jobBy (trailerFrom (trailer s)) (file s)))
+-- the function's entry, from where cause 1 is answered
+abbrev start : tie.After-wrong-n → tie.Start
+start c = c .before .before .before .before .before
+
+-- the n that was read, and the answer to cause 1
+stands : (c : tie.After-wrong-n) → c .before .job-of .result .n ≡ trailerFrom (trailer (start c)) .job .n
+stands c = ap (λ (j : Job). j .n) (c .before .job-of .ensures)
+
+stops : (c : tie.After-wrong-n) → let s = start c in c .wrong-n .result ≡ cause₁ (contentsBy (trailerFrom (trailer s)) (file s) .job .n)
 stops c =
-    let s = c .before .before .before .before .before .before in
-    c .wrong-n .ensures ∙ same-stops (file s) (trailer s) (last s) (omega arith) _ (c .before .wide .ensures .0)
+    let s = start c in
+    c .wrong-n .ensures ∙ same-stops (file s) (trailer s) (last s) (omega arith) _ (stands c)
 
 refused-requires : tie.Need-refused-requires
 refused-requires c κs = omega arith
@@ -50,11 +59,8 @@ part-trailer-start c = omega arith
 part-trailer-end : tie.Need-part-trailer-end
 part-trailer-end c = omega arith
 
-shared-slice-read-wide : tie.Need-shared-slice-read-wide
-shared-slice-read-wide c = omega arith
-
-wide-requires : tie.Need-wide-requires
-wide-requires c κs = omega arith
+job-of-requires : tie.Need-job-of-requires
+job-of-requires c κs = search needs
 
 wrong-n-requires : tie.Need-wrong-n-requires
 wrong-n-requires c κs = omega arith
@@ -65,14 +71,14 @@ refused-requires-2 c κs = omega arith
 returns-2 : tie.Need-returns-2
 returns-2 c =
     let w = c .before .before in
-    let s = w .before .before .before .before .before .before in
+    let s = start w in
     c .refused2 .ensures ∙ ap returned (wrong-stops (file s) (trailer s) (last s) (omega arith) (sym (stops w) ∙ c .before .if2 .taken))
 
 misplaced-requires : tie.Need-misplaced-requires
 misplaced-requires c κs =
     let w = c .before in
-    let s = w .before .before .before .before .before .before in
-    (length-last (file s) (trailer s) (last s) (omega arith), (w .before .wide .ensures .0, few-stops _ (sym (w .wrong-n .ensures) ∙ c .if2 .left)))
+    let s = start w in
+    (length-last (file s) (trailer s) (last s) (omega arith), (stands w, few-stops _ (sym (w .wrong-n .ensures) ∙ c .if2 .left)))
 
 refused-requires-3 : tie.Need-refused-requires-3
 refused-requires-3 c κs = omega arith
@@ -81,7 +87,7 @@ returns-3 : tie.Need-returns-3
 returns-3 c =
     let m = c .before .before in
     let w = m .before .before in
-    let s = w .before .before .before .before .before .before in
+    let s = start w in
     c .refused3 .ensures
     ∙ ap returned
     (wrong-layout (file s) (trailer s) (last s) (omega arith) (sym (stops w) ∙ m .before .if2 .left) (sym (m .misplaced .ensures) ∙ c .before .if3 .taken))
@@ -90,8 +96,8 @@ accept-requires : tie.Need-accept-requires
 accept-requires c κs =
     let m = c .before in
     let w = m .before .before in
-    let s = w .before .before .before .before .before .before in
-    layout-laid (file s) (trailer s) (last s) (omega arith) _ (w .before .wide .ensures .0)
+    let s = start w in
+    layout-laid (file s) (trailer s) (last s) (omega arith) _ (w .before .job-of .ensures)
     (sym (w .wrong-n .ensures) ∙ m .before .if2 .left)
     (sym (m .misplaced .ensures) ∙ c .if3 .left)
 
@@ -100,7 +106,7 @@ unfolding checked
 returns-4 c =
     let m = c .before .before in
     let w = m .before .before in
-    let s = w .before .before .before .before .before .before in
+    let s = start w in
     c .accept .ensures
     ∙ ap returned
     (right-layout (file s) (trailer s) (last s) (omega arith) (sym (stops w) ∙ m .before .if2 .left) (sym (m .misplaced .ensures) ∙ c .before .if3 .left))
@@ -115,8 +121,7 @@ read-spec =
     sub-trailer
     part-trailer-start
     part-trailer-end
-    shared-slice-read-wide
-    wide-requires
+    job-of-requires
     wrong-n-requires
     refused-requires-2
     returns-2

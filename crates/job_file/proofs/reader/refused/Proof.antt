@@ -1,4 +1,4 @@
--- `refused` meets its contract: each field is the one that `refusal` names. Assumes nothing.
+-- `refused` meets its contract: each field is the one that `refusal` names.
 use mathlib.Core.Path.{refl}
 use Rattle.records.specs.Records.{padded}
 use Rattle.job_format.specs.Reader.{refusal}

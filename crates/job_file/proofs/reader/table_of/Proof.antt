@@ -1,32 +1,32 @@
--- `table_of` meets its contract. The loop's invariant: the first k numbers stand at the front of the array, and zeros behind them. The
--- measure is how many are left. Assumes nothing.
+-- `table_of` meets its contract. The loop's invariant: the first k words stand at the front of the array, and zeros behind them. The
+-- measure is how many are left.
 use mathlib.Core.Path.{_≡_, refl, ap, sym, _∙_}
 use mathlib.Core.List.{[], _∷_, _++_}
 use Prim.Native.Nat.{ℕ, _-_, _≤_}
 use native.Mathlib.Omega.{arith}
+use Rattle.sizes.specs.Sizes.{tableNumbers}
 use Rattle.records.specs.Records.{padded}
-use Rattle.job_format.specs.Reader.{numbersIn}
-use Rattle.job_file.specs.Promise.{tablePlaces}
+use Rattle.job_format.specs.Reader.{wordsIn}
 use Rattle.records.proofs.Padded.{padded-one}
-use Rattle.job_format.proofs.ByteLaws.{numbers-next, length-numbers}
+use Rattle.job_format.proofs.ByteLaws.{words-next, length-words}
 use Rattle.job_file.proofs.reader.table_of.Statement.{statement}
 use Rattle.job_file.proofs.reader.table_of.Tie as tie
 
 abbrev Inv-loop : tie.InvT-loop
-Inv-loop file count table₀ k₀ table k = (k ≤ count) × (table ≡ padded tablePlaces (numbersIn k file))
+Inv-loop file count table₀ k₀ table k = (k ≤ count) × (table ≡ padded tableNumbers (wordsIn k file))
 
 abbrev μ-loop : tie.MeasureT-loop
 μ-loop file count table₀ k₀ table k = count - k
 
 loop-holds : tie.Need-loop-holds Inv-loop μ-loop
-unfolding padded numbersIn
+unfolding padded wordsIn
 loop-holds c = (omega arith, refl)
 
-mul-number-at : tie.Need-mul-number-at Inv-loop μ-loop
-mul-number-at c = omega arith
+mul-word-at : tie.Need-mul-word-at Inv-loop μ-loop
+mul-word-at c = omega arith
 
-number-at-requires : tie.Need-number-at-requires Inv-loop μ-loop
-number-at-requires c κs = omega arith
+word-at-requires : tie.Need-word-at-requires Inv-loop μ-loop
+word-at-requires c κs = omega arith
 
 mul-table : tie.Need-mul-table Inv-loop μ-loop
 mul-table c = omega arith
@@ -44,8 +44,8 @@ loop-again : tie.Need-loop-again Inv-loop μ-loop
 loop-again c =
     let at = c .before .before .loop in
     let file = c .before .before .before .before .args .file .now in
-    let next = numbers-next (at .k) file ∙ ap (λ (x : ℕ). numbersIn (at .k) file ++ (x ∷ [])) (sym (c .number-at .ensures)) in
-    (omega arith, rw (at .inv .1) (padded-one tablePlaces _ _ (at .k) _ (length-numbers (at .k) file) next (omega arith)))
+    let next = words-next (at .k) file ∙ ap (λ (x : ℕ). wordsIn (at .k) file ++ (x ∷ [])) (sym (c .word-at .ensures)) in
+    (omega arith, rw (at .inv .1) (padded-one tableNumbers _ _ (at .k) _ (length-words (at .k) file) next (omega arith)))
 
 returns : tie.Need-returns Inv-loop μ-loop
 returns c =
@@ -60,8 +60,8 @@ table-of-spec =
     Inv-loop
     μ-loop
     loop-holds
-    mul-number-at
-    number-at-requires
+    mul-word-at
+    word-at-requires
     mul-table
     array-write-table
     add-k

@@ -1,9 +1,14 @@
--- `put_file` meets its contract: the table, the starting order and the trailer, one behind the other. Assumes nothing.
+-- `put_file` meets its contract: the table, the starting order and the trailer, one behind the other.
 use mathlib.Core.Path.{refl}
 use native.Mathlib.Omega.{arith}
-use Rattle.job_file.proofs.WriterLaws.{table-small, parts-written}
+use borrow.Author.Needs.{needs}
+use Rattle.job_file.proofs.WriterLaws.{parts-written}
 use Rattle.job_file.proofs.writer.put_file.Statement.{statement}
 use Rattle.job_file.proofs.writer.put_file.Tie as tie
+
+-- the function's entry, from where the table is written
+abbrev start : tie.After-put-table → tie.Start
+start c = c .before .before .before .before .before
 
 mul-place : tie.Need-mul-place
 mul-place c = omega arith
@@ -26,6 +31,12 @@ part-put-bytes-end c = omega arith
 put-bytes-requires : tie.Need-put-bytes-requires
 put-bytes-requires c κs = omega arith
 
+cast-put-trailer : tie.Need-cast-put-trailer
+cast-put-trailer c = omega arith
+
+cast-put-trailer-2 : tie.Need-cast-put-trailer-2
+cast-put-trailer-2 c = omega arith
+
 sub-put-trailer : tie.Need-sub-put-trailer
 sub-put-trailer c = omega arith
 
@@ -35,28 +46,8 @@ part-put-trailer-start c = omega arith
 part-put-trailer-end : tie.Need-part-put-trailer-end
 part-put-trailer-end c = omega arith
 
-cast-put-trailer : tie.Need-cast-put-trailer
-cast-put-trailer c =
-    let start = c .before .before .before .before .before .before .before .before .before .before .before .before in
-    omega (arith, table-small (start .args .n) (start .args .table .now) (start .pre .few) (start .pre .square))
-
-cast-put-trailer-2 : tie.Need-cast-put-trailer-2
-cast-put-trailer-2 c = omega arith
-
-cast-put-trailer-3 : tie.Need-cast-put-trailer-3
-cast-put-trailer-3 c = omega arith
-
-cast-put-trailer-4 : tie.Need-cast-put-trailer-4
-cast-put-trailer-4 c = omega arith
-
-cast-put-trailer-5 : tie.Need-cast-put-trailer-5
-cast-put-trailer-5 c = omega arith
-
-cast-put-trailer-6 : tie.Need-cast-put-trailer-6
-cast-put-trailer-6 c = omega arith
-
 put-trailer-requires : tie.Need-put-trailer-requires
-put-trailer-requires c κs = omega arith
+put-trailer-requires c κs = search needs
 
 same-length : tie.Need-same-length
 same-length c = omega arith
@@ -66,8 +57,7 @@ returns c =
     let trailer = c .before .before in
     let bytes = trailer .before .before .before .before in
     let table = bytes .before .before .before .before in
-    let start = table .before .before .before .before .before in
-    parts-written _ _ _ _ _ _ _ (start .pre) _ _ _ _ (table .put-table .ensures) (bytes .put-bytes .ensures) refl (trailer .put-trailer .ensures)
+    parts-written _ _ _ _ (start table .pre) _ _ _ _ (table .put-table .ensures) (bytes .put-bytes .ensures) refl (trailer .put-trailer .ensures)
 
 pub put-file-spec : {M : Type 1} → statement M
 put-file-spec =
@@ -80,15 +70,11 @@ put-file-spec =
     part-put-bytes-start
     part-put-bytes-end
     put-bytes-requires
+    cast-put-trailer
+    cast-put-trailer-2
     sub-put-trailer
     part-put-trailer-start
     part-put-trailer-end
-    cast-put-trailer
-    cast-put-trailer-2
-    cast-put-trailer-3
-    cast-put-trailer-4
-    cast-put-trailer-5
-    cast-put-trailer-6
     put-trailer-requires
     same-length
     returns)

@@ -1,18 +1,18 @@
 -- `put_table` meets its contract. The loop's invariant: the first k numbers stand at the front of the buffer. The measure is how many are
--- left. Assumes nothing.
+-- left.
 use mathlib.Core.Path.{_≡_, refl, ap, _∙_}
 use Prim.Native.Nat.{_-_, _≤_}
 use native.Mathlib.Omega.{arith}
 use lib.ListN.{length, take}
 use lib.Seq.{length-sets, take-all}
 use Rattle.lists.specs.Lists.{each}
-use Rattle.job_format.specs.Bytes.{number, overwrite}
+use Rattle.job_format.specs.Bytes.{word, overwrite}
 use Rattle.job_format.proofs.ByteLaws.{overwrite-none, table-next}
 use Rattle.job_file.proofs.writer.put_table.Statement.{statement}
 use Rattle.job_file.proofs.writer.put_table.Tie as tie
 
 abbrev Inv-loop : tie.InvT-loop
-Inv-loop table buffer₀ k₀ buffer k = (k ≤ length table) × (length buffer ≡ length buffer₀) × (buffer ≡ overwrite (each number (take k table)) buffer₀)
+Inv-loop table buffer₀ k₀ buffer k = (k ≤ length table) × (length buffer ≡ length buffer₀) × (buffer ≡ overwrite (each word (take k table)) buffer₀)
 
 abbrev μ-loop : tie.MeasureT-loop
 μ-loop table buffer₀ k₀ buffer k = length table - k
@@ -20,17 +20,17 @@ abbrev μ-loop : tie.MeasureT-loop
 loop-holds : tie.Need-loop-holds Inv-loop μ-loop
 loop-holds c = (omega arith, refl, overwrite-none _)
 
-mul-put-number : tie.Need-mul-put-number Inv-loop μ-loop
-mul-put-number c = omega arith
+mul-put-word : tie.Need-mul-put-word Inv-loop μ-loop
+mul-put-word c = omega arith
 
-mul-put-number-2 : tie.Need-mul-put-number-2 Inv-loop μ-loop
-mul-put-number-2 c = omega arith
+mul-put-word-2 : tie.Need-mul-put-word-2 Inv-loop μ-loop
+mul-put-word-2 c = omega arith
 
-shared-slice-read-put-number : tie.Need-shared-slice-read-put-number Inv-loop μ-loop
-shared-slice-read-put-number c = omega arith
+shared-slice-read-put-word : tie.Need-shared-slice-read-put-word Inv-loop μ-loop
+shared-slice-read-put-word c = omega arith
 
-put-number-requires : tie.Need-put-number-requires Inv-loop μ-loop
-put-number-requires c κs = omega arith
+put-word-requires : tie.Need-put-word-requires Inv-loop μ-loop
+put-word-requires c κs = omega arith
 
 add-k : tie.Need-add-k Inv-loop μ-loop
 add-k c = omega arith
@@ -41,10 +41,11 @@ loop-less c = omega arith
 loop-again : tie.Need-loop-again Inv-loop μ-loop
 loop-again c =
     let stored = c .before .before in
-    let at = stored .before .before .before .before .loop in
-    let args = stored .before .before .before .before .before .before .before .args in
+    let turn = stored .before .before .before .before in
+    let at = turn .loop in
+    let args = turn .before .before .before .args in
     let next = table-next (args .table .now) (args .buffer .now) (at .k) (omega arith) (omega arith) in
-    (omega arith, omega (arith, simp length-sets at (ap length (stored .put-number .ensures))), stored .put-number .ensures ∙ rw (at .inv .2) next)
+    (omega arith, omega (arith, simp length-sets at (ap length (stored .put-word .ensures))), stored .put-word .ensures ∙ rw (at .inv .2) next)
 
 same-length : tie.Need-same-length Inv-loop μ-loop
 same-length c = c .before .loop .inv .1
@@ -61,10 +62,10 @@ put-table-spec =
     Inv-loop
     μ-loop
     loop-holds
-    mul-put-number
-    mul-put-number-2
-    shared-slice-read-put-number
-    put-number-requires
+    mul-put-word
+    mul-put-word-2
+    shared-slice-read-put-word
+    put-word-requires
     add-k
     loop-less
     loop-again

@@ -1,48 +1,48 @@
--- `write` meets its contract, test by test. Assumes nothing.
+-- `write` meets its contract, test by test.
 use mathlib.Core.Path.{_≡_, sym, _∙_}
 use Prim.Native.Nat.{_+_, _*_}
 use native.Mathlib.Omega.{arith}
 use lib.ListN.{length}
-use Rattle.answer.specs.Checks.{jobCause}
-use Rattle.job_format.specs.Job.{Job, callFor, trailerLength, bytesOf}
-use Rattle.job_file.specs.Promise.{jobOf}
+use Rattle.job_format.specs.Contents.{Contents, contentsOf, trailerLength, bytesOf}
+use Rattle.job_format.specs.Demands.{Passes}
 use Rattle.job_format.proofs.JobLaws.{Passed, passed, length-file}
 use Rattle.job_format.proofs.WriteLaws.{cause-refuses, buffer-refuses, file-written}
 use Rattle.job_file.proofs.WriterLaws.{table-small}
 use Rattle.job_file.proofs.writer.write.Statement.{statement}
 use Rattle.job_file.proofs.writer.write.Tie as tie
 
--- the job
-abbrev job : tie.Start → Job
-job c =
-    let a = c .args in
-    jobOf (a .n) (a .table .now) (a .selection) (a .rules) (a .bound) (a .start .now)
+-- what is to be written
+abbrev contents : tie.Start → Contents
+contents c = let a = c .args in contentsOf (a .job) (a .table .now) (a .start .now)
 
--- where the checks let it pass
-no-cause : (c : tie.Else1) → jobCause (callFor (job (c .before .before .before .before .before))) 0 ≡ 0
-unfolding jobOf callFor
+-- the function's entry, from where the checks let the contents pass
+abbrev entry : tie.Else1 → tie.Start
+entry c = c .before .before .before .before .before
+
+no-cause : (c : tie.Else1) → Passes (contents (entry c))
+unfolding contentsOf
 no-cause c = sym (c .before .job-cause .ensures) ∙ c .if1 .left
 
-sizes : (c : tie.Else1) → Passed (job (c .before .before .before .before .before))
+sizes : (c : tie.Else1) → Passed (contents (entry c))
 sizes c = passed _ (no-cause c)
 
 long :
-    (c : tie.Else1) → let s = c .before .before .before .before .before in
-    length (bytesOf (job s)) ≡ 4 * length (s .args .table .now) + length (s .args .start .now) + trailerLength
-unfolding jobOf
+    (c : tie.Else1) → let s = entry c in
+    length (bytesOf (contents s)) ≡ 4 * length (s .args .table .now) + length (s .args .start .now) + trailerLength
+unfolding contentsOf
 long c =
-    let s = c .before .before .before .before .before in
-    length-file (job s) (sizes c .square) ∙ rw (sizes c .square)
+    let s = entry c in
+    length-file (contents s) (sizes c .square) ∙ rw (sizes c .square)
 
 job-cause-requires : tie.Need-job-cause-requires
 job-cause-requires c κs = omega arith
 
 returns : tie.Need-returns
-unfolding jobOf callFor
+unfolding contentsOf
 returns c =
     let answered = c .before in
     let start = answered .before .before .before .before in
-    cause-refuses (job start) (start .args .buffer .now) _ (answered .job-cause .ensures) (c .if1 .taken)
+    cause-refuses (contents start) (start .args .buffer .now) _ (answered .job-cause .ensures) (c .if1 .taken)
 
 mul-length : tie.Need-mul-length
 mul-length c = omega arith
@@ -51,26 +51,30 @@ add-length : tie.Need-add-length
 add-length c = omega arith
 
 add-length-2 : tie.Need-add-length-2
-unfolding jobOf
+unfolding contentsOf
 add-length-2 c =
-    let s = c .before .before .before .before .before in
-    omega (arith, table-small (s .args .n) (s .args .table .now) (sizes c .few) (sizes c .square), sizes c .short)
+    let s = entry c in
+    omega (arith, table-small (s .args .job .n) (s .args .table .now) (sizes c .few) (sizes c .square), sizes c .short)
 
 returns-2 : tie.Need-returns-2
 returns-2 c =
-    let s = c .before .before .before .before .before .before in
-    buffer-refuses (job s) (s .args .buffer .now) (no-cause (c .before)) (omega (arith, long (c .before), c .if2 .taken))
+    let s = entry (c .before) in
+    buffer-refuses (contents s) (s .args .buffer .now) (no-cause (c .before)) (omega (arith, long (c .before), c .if2 .taken))
 
 put-file-requires : tie.Need-put-file-requires
-unfolding jobOf
+unfolding contentsOf
 put-file-requires c κs =
     let p = sizes (c .before .before) in
     record {
       few = p .few;
       square = p .square;
-      choice = omega (arith, p .selection);
-      sum = omega (arith, p .rules);
-      number = omega (arith, p .bound);
+      all = table-small _ (entry (c .before .before) .args .table .now) (p .few) (p .square);
+      small = record {
+        n = omega (arith, p .few);
+        selection = omega (arith, p .selection);
+        rules = omega (arith, p .rules);
+        bound = omega (arith, p .bound);
+      };
       short = p .short;
       room = omega (arith, c .before .if2 .left, p .square);
     }
@@ -82,8 +86,8 @@ returns-3 : tie.Need-returns-3
 returns-3 c =
     let put = c .before .before in
     let passing = put .before .before .before in
-    let s = passing .before .before .before .before .before in
-    file-written (job s) (s .args .buffer .now) (no-cause passing) _ _ (sym (long passing)) (put .before .before .if2 .left) (put .put-file .ensures)
+    let s = entry passing in
+    file-written (contents s) (s .args .buffer .now) (no-cause passing) _ _ (sym (long passing)) (put .before .before .if2 .left) (put .put-file .ensures)
 
 pub write-spec : {M : Type 1} → statement M
 write-spec =

@@ -1,9 +1,8 @@
--- `put_lines` meets its contract: the cost and the order, and behind them the counts. Assumes nothing.
+-- `put_lines` meets its contract: the cost and the order, and behind them the counts.
 use mathlib.Core.Path.{_≡_, sym}
 use native.Mathlib.Omega.{arith}
 use lib.ListN.{length}
 use lib.Seq.{length-take-le}
-use Rattle.planner.specs.Promise.{reportOf}
 use Rattle.printing.proofs.PutLaws.{put-then}
 use Rattle.printing.proofs.PrintedLaws.{seven-lines}
 use borrow.Author.Needs.{needs}
@@ -30,17 +29,13 @@ put-counts-requires c κs =
     let long = length-take-le _ (answer .before .before .before .before .before .args .r .order) (array-share-prefix-order (answer .before .before)) in
     omega (arith, answer .put-answer .ensures)
 
-same-length : tie.Need-same-length
-same-length c = search needs
-
 returns : tie.Need-returns
-unfolding reportOf
 returns c =
     let counts = c .before .before in
     let answer = counts .before .before .before .before in
     let start = answer .before .before .before .before .before in
     let long = length-take-le _ (start .args .r .order) (array-share-prefix-order (answer .before .before)) in (
-      rw (seven-lines (start .args .count) (reportOf (start .args .r))) (put-then (answer .put-answer .ensures .0) (counts .put-counts .ensures .0)),
+      rw (seven-lines (start .args .count) (start .args .r)) (put-then (answer .put-answer .ensures .0) (counts .put-counts .ensures .0)),
       omega (arith, answer .put-answer .ensures, counts .put-counts .ensures),
     )
 
@@ -52,5 +47,5 @@ put-lines-spec =
     slice-aggregate-put-answer
     put-answer-requires
     put-counts-requires
-    same-length
+    (λ c. search needs)
     returns)

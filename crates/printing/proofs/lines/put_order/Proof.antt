@@ -1,4 +1,4 @@
--- `put_order` meets its contract: the name, the stops and the line's end. Assumes nothing.
+-- `put_order` meets its contract: the name, the stops and the line's end.
 use native.Mathlib.Omega.{arith}
 use lib.ListN.{length-set}
 use Rattle.report_format.specs.Text.{line}
@@ -6,24 +6,6 @@ use Rattle.printing.proofs.PutLaws.{put-last, put-then}
 use borrow.Author.Needs.{needs}
 use Rattle.printing.proofs.lines.put_order.Statement.{statement}
 use Rattle.printing.proofs.lines.put_order.Tie as tie
-
-slice-aggregate-put-bytes : tie.Need-slice-aggregate-put-bytes
-slice-aggregate-put-bytes c = search needs
-
-put-bytes-requires : tie.Need-put-bytes-requires
-put-bytes-requires c κs = search needs
-
-put-stops-requires : tie.Need-put-stops-requires
-put-stops-requires c κs = search needs
-
-slice-write-buffer : tie.Need-slice-write-buffer
-slice-write-buffer c = search needs
-
-add-result : tie.Need-add-result
-add-result c = search needs
-
-same-length : tie.Need-same-length
-same-length c = simp length-set (omega arith)
 
 returns : tie.Need-returns
 unfolding line
@@ -36,10 +18,10 @@ pub put-order-spec : {M : Type 1} → statement M
 put-order-spec =
     tie.close
     (tie.spec
-    slice-aggregate-put-bytes
-    put-bytes-requires
-    put-stops-requires
-    slice-write-buffer
-    add-result
-    same-length
+    (λ c. search needs)
+    (λ c κs. search needs)
+    (λ c κs. search needs)
+    (λ c. search needs)
+    (λ c. search needs)
+    (λ c. simp length-set (omega arith))
     returns)

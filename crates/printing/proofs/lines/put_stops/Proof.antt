@@ -1,41 +1,26 @@
--- `put_stops` meets its contract. The loop's invariant: the first k stops are written. The measure is how many are left. Assumes nothing.
+-- `put_stops` meets its contract. The loop's invariant: the first k stops are written. The measure is how many are left.
 use mathlib.Core.Path.{_≡_, refl, ap, sym, _∙_}
 use mathlib.Core.List.{[], _∷_, _++_}
 use Prim.Native.Nat.{ℕ, _+_, _*_, _-_, _≤_}
 use native.Mathlib.Omega.{arith}
 use lib.ListN.{length, take}
 use lib.Seq.{take-all}
-use Rattle.report_format.specs.Text.{numbered}
-use Rattle.printing.specs.Code.{Put, numberRoom}
-use Rattle.printing.proofs.PutLaws.{put-none, put-then, put-length, numbered-next}
+use Rattle.report_format.specs.Text.{spaced}
+use Rattle.printing.specs.Code.{Put, decimalRoom}
+use Rattle.printing.proofs.PutLaws.{put-none, put-then, put-length, spaced-next}
 use Rattle.printing.proofs.lines.put_stops.Statement.{statement}
 use Rattle.printing.proofs.lines.put_stops.Tie as tie
 
 abbrev Inv-loop : tie.InvT-loop
 Inv-loop buffer₀ at stops end₀ k₀ buffer end k =
-    (k ≤ length stops) × (length buffer ≡ length buffer₀) × (end ≤ at + numberRoom * k) × Put buffer₀ at (numbered (take k stops)) buffer end
+    (k ≤ length stops) × (length buffer ≡ length buffer₀) × (end ≤ at + decimalRoom * k) × Put buffer₀ at (spaced (take k stops)) buffer end
 
 abbrev μ-loop : tie.MeasureT-loop
 μ-loop buffer₀ at stops end₀ k₀ buffer end k = length stops - k
 
 loop-holds : tie.Need-loop-holds Inv-loop μ-loop
-unfolding numbered
+unfolding spaced
 loop-holds c = (omega arith, refl, omega arith, put-none _ _ _ refl)
-
-shared-slice-read-wide : tie.Need-shared-slice-read-wide Inv-loop μ-loop
-shared-slice-read-wide c = omega arith
-
-wide-requires : tie.Need-wide-requires Inv-loop μ-loop
-wide-requires c κs = omega arith
-
-put-number-requires : tie.Need-put-number-requires Inv-loop μ-loop
-put-number-requires c κs = omega arith
-
-add-k : tie.Need-add-k Inv-loop μ-loop
-add-k c = omega arith
-
-loop-less : tie.Need-loop-less Inv-loop μ-loop
-loop-less c = omega arith
 
 loop-again : tie.Need-loop-again Inv-loop μ-loop
 loop-again c =
@@ -43,12 +28,9 @@ loop-again c =
     let stop = number .before in
     let at = stop .before .before .before .before .loop in
     let stops = stop .before .before .before .before .before .before .before .args .stops .now in
-    let put = put-then (at .inv .3) (number .put-number .ensures .0) in
-    let next = numbered-next stops (at .k) (omega arith) ∙ ap (λ (x : ℕ). numbered (take (at .k) stops) ++ numbered (x ∷ [])) (sym (stop .wide .ensures)) in
-    (omega arith, omega (arith, at .inv .1, put-length (number .put-number .ensures .0)), omega arith, rw (sym next) at put)
-
-same-length : tie.Need-same-length Inv-loop μ-loop
-same-length c = c .before .loop .inv .1
+    let put = put-then (at .inv .3) (number .put-decimal .ensures .0) in
+    let next = spaced-next stops (at .k) (omega arith) ∙ ap (λ (x : ℕ). spaced (take (at .k) stops) ++ spaced (x ∷ [])) (sym (stop .wide .ensures)) in
+    (omega arith, omega (arith, at .inv .1, put-length (number .put-decimal .ensures .0)), omega arith, rw (sym next) at put)
 
 returns : tie.Need-returns Inv-loop μ-loop
 returns c =
@@ -62,11 +44,11 @@ put-stops-spec =
     Inv-loop
     μ-loop
     loop-holds
-    shared-slice-read-wide
-    wide-requires
-    put-number-requires
-    add-k
-    loop-less
+    (λ c. omega arith)
+    (λ c κs. omega arith)
+    (λ c κs. omega arith)
+    (λ c. omega arith)
+    (λ c. omega arith)
     loop-again
-    same-length
+    (λ c. c .before .loop .inv .1)
     returns)

@@ -1,5 +1,5 @@
 -- `stops::bound::home` meets its contract. The loop's invariant: the least of what it has and of the legs home from the stops left is
--- the cheapest leg home. The measure is the set of the stops left, as a number. Assumes nothing.
+-- the cheapest leg home. The measure is the set of the stops left, as a number.
 use mathlib.Core.Path.{ap, _∙_}
 use Prim.Native.Nat.{min}
 use native.Mathlib.Omega.{arith}
@@ -46,9 +46,6 @@ loop-again c =
     let rest = first-later _ _ _ (n .next2 .ensures .0) (c .before .before .later2 .ensures) in
     lowered-again (n .next2 .result) (l .inv) (first-left n) rest (c .lesser .ensures ∙ ap (min (l .least)) (c .before .leg2 .ensures))
 
-returns : tie.Need-returns Inv-loop μ-loop
-returns c = lowered-ends (c .before .loop .inv) (omega arith)
-
 pub home-spec : {M : Type 1} → statement M
 home-spec =
     tie.close
@@ -65,4 +62,4 @@ home-spec =
     (λ c κs. search needs)
     loop-less
     loop-again
-    returns)
+    (λ c. lowered-ends (c .before .loop .inv) (omega arith)))

@@ -1,5 +1,5 @@
 -- `stops::bound::into` meets its contract. The loop's invariant: the least of what it has and of the legs from the stops left is the
--- cheapest leg into s. The measure is the set of the stops left, as a number. Assumes nothing.
+-- cheapest leg into s. The measure is the set of the stops left, as a number.
 use mathlib.Core.Path.{ap, _∙_}
 use mathlib.Core.List.{_∷_}
 use Prim.Native.Nat.{min}
@@ -41,9 +41,6 @@ loop-again c =
     let rest = first-later _ _ _ (n .next .ensures .0) (c .before .before .later .ensures) in
     lowered-again (n .next .result) (l .inv) (first n) rest (c .lesser .ensures ∙ ap (min (l .least)) (c .before .leg2 .ensures))
 
-returns : tie.Need-returns Inv-loop μ-loop
-returns c = lowered-ends (c .before .loop .inv) (omega arith)
-
 pub into-spec : {M : Type 1} → statement M
 into-spec =
     tie.close
@@ -58,4 +55,4 @@ into-spec =
     (λ c κs. search needs)
     loop-less
     loop-again
-    returns)
+    (λ c. lowered-ends (c .before .loop .inv) (omega arith)))

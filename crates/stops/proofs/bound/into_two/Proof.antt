@@ -1,9 +1,10 @@
--- `stops::bound::into_two` meets its contract. The loop's invariant is that of `into`, for each of the two stops. Assumes nothing.
+-- `stops::bound::into_two` meets its contract. The loop's invariant is that of `into`, for each of the two stops.
 use mathlib.Core.Path.{ap, _∙_}
 use mathlib.Core.List.{_∷_}
 use Prim.Native.Nat.{min}
 use native.Mathlib.Omega.{arith}
 use borrow.Author.Needs.{needs}
+use Rattle.sizes.specs.Sizes.{dearest}
 use Rattle.lists.specs.Lists.{least}
 use Rattle.stops.specs.Legs.{rowLeg}
 use Rattle.stops.specs.Code.{stopsIn}
@@ -19,6 +20,10 @@ Inv-loop t place others s u a₀ b₀ left₀ a b left =
 abbrev μ-loop : tie.MeasureT-loop
 μ-loop t place others s u a₀ b₀ left₀ a b left = left
 
+-- the call, seen from where both first values are known
+abbrev entry : tie.After-lesser2 Inv-loop μ-loop → tie.Start Inv-loop μ-loop
+entry c = let one = c .before .before .before in one .before .before .before
+
 -- what `next` gives is the first of the stops left
 first : (c : tie.After-next Inv-loop μ-loop) → First (c .before .before .loop .left) (c .next .result)
 first c =
@@ -28,7 +33,7 @@ first c =
 loop-holds : tie.Need-loop-holds Inv-loop μ-loop
 loop-holds c =
     let one = c .before .before .before in
-    let start = one .before .before .before in
+    let start = entry c in
     let a = start .args in (
       rw (one .lesser .ensures, one .before .before .leg .ensures, one .before .leg2 .ensures)
           (lowered-starts-two (λ p. rowLeg (a .t .now) p (a .s)) (a .place) (a .u) (a .others) (start .pre .1 .0)),
@@ -38,14 +43,16 @@ loop-holds c =
 
 loop-less : tie.Need-loop-less Inv-loop μ-loop
 loop-less c =
-    let n = c .before .before .before .before .before in
-    omega (arith, first n .less, first-later _ _ _ (n .next .ensures .0) (c .before .before .before .before .later .ensures))
+    let m = c .before .before .before .before in
+    let n = m .before in
+    omega (arith, first n .less, first-later _ _ _ (n .next .ensures .0) (m .later .ensures))
 
 loop-again : tie.Need-loop-again Inv-loop μ-loop
 loop-again c =
-    let n = c .before .before .before .before .before in
+    let m = c .before .before .before .before in
+    let n = m .before in
     let l = n .before .before .loop in
-    let rest = first-later _ _ _ (n .next .ensures .0) (c .before .before .before .before .later .ensures) in
+    let rest = first-later _ _ _ (n .next .ensures .0) (m .later .ensures) in
     let one = c .before .before in (
       lowered-again (n .next .result) (l .inv .0) (first n) rest (one .lesser3 .ensures ∙ ap (min (l .a)) (one .before .leg5 .ensures)),
       lowered-again (n .next .result) (l .inv .1) (first n) rest (c .lesser4 .ensures ∙ ap (min (l .b)) (c .before .leg6 .ensures)),
@@ -54,15 +61,15 @@ loop-again c =
 add-result : tie.Need-add-result Inv-loop μ-loop
 add-result c =
     let l = c .before .loop in
-    let start = c .before .before .before .before .before .before .before .before in
+    let start = entry (c .before .before) in
     let a = start .args in
     let t = a .t .now in
     omega (
       arith,
       lowered-ends (l .inv .0) (omega arith),
       lowered-ends (l .inv .1) (omega arith),
-      leg-small t 1000000 (a .s) (a .place ∷ a .u ∷ stopsIn (a .others)) (start .pre .1 .1 .1 .1),
-      leg-small t 1000000 (a .u) (a .place ∷ a .s ∷ stopsIn (a .others)) (start .pre .1 .1 .1 .1),
+      leg-small t dearest (a .s) (a .place ∷ a .u ∷ stopsIn (a .others)) (start .pre .1 .1 .1 .1),
+      leg-small t dearest (a .u) (a .place ∷ a .s ∷ stopsIn (a .others)) (start .pre .1 .1 .1 .1),
     )
 
 returns : tie.Need-returns Inv-loop μ-loop

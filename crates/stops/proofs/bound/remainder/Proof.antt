@@ -1,10 +1,11 @@
 -- `stops::bound::remainder` meets its contract. The loop's invariant: the sum so far and the cheapest legs into the stops left make the
 -- remainder, and the stops left are of the set. The remainder is at most 17,000,000, so no sum on the way wraps. The measure is the
--- set of the stops left, as a number. Assumes nothing.
+-- set of the stops left, as a number.
 use mathlib.Core.Path.{_≡_, refl, ap, _∙_}
 use Prim.Native.Nat.{ℕ, _+_, _-_, _^_, _≤_}
 use native.Mathlib.Omega.{arith}
 use borrow.Author.Needs.{needs}
+use Rattle.sizes.specs.Sizes.{dearest}
 use Rattle.lists.specs.Lists.{In}
 use Rattle.stops.specs.Legs.{legs}
 use Rattle.stops.specs.Bounds.{cheapestInto, remainder}
@@ -34,6 +35,13 @@ Inv-loop t place rest sum₀ left₀ sum left =
 abbrev μ-loop : tie.MeasureT-loop
 μ-loop t place rest sum₀ left₀ sum left = left
 
+-- the call, and the first of a pair of stops, seen from the turn of the loop
+abbrev entry : tie.After-next Inv-loop μ-loop → tie.Start Inv-loop μ-loop
+entry c = c .before .before .before .before
+
+abbrev turn : tie.After-next2 Inv-loop μ-loop → tie.After-next Inv-loop μ-loop
+turn c = c .before .before .before .before
+
 -- what `next` gives is the first of the stops left
 first : (c : tie.After-next Inv-loop μ-loop) → First (c .before .before .loop .left) (c .next .result)
 first c =
@@ -41,7 +49,7 @@ first c =
     first-out (l .left) (c .next .result) (omega arith) (l .inv .small) (c .next .ensures .0)
 
 -- it is a stop of the set
-first-in : (c : tie.After-next Inv-loop μ-loop) → In (c .next .result) (stopsIn (c .before .before .before .before .args .rest))
+first-in : (c : tie.After-next Inv-loop μ-loop) → In (c .next .result) (stopsIn (entry c .args .rest))
 first-in c = c .before .before .loop .inv .part (c .next .result) (first c .member)
 
 left-is : (c : tie.After-later Inv-loop μ-loop) → c .later .result ≡ c .before .before .before .loop .left - 2 ^ (c .before .next .result - 1)
@@ -50,12 +58,12 @@ left-is c = first-later _ _ _ (c .before .next .ensures .0) (c .later .ensures)
 -- what is left without it
 passed :
     (c : tie.After-later Inv-loop μ-loop) →
-    let a = c .before .before .before .before .before .args in
+    let a = entry (c .before) .args in
     let f = cheapestInto (legs (a .t .now)) (a .place) (stopsIn (a .rest)) in
     Summed f (a .rest) (remainder (legs (a .t .now)) (a .place) (stopsIn (a .rest))) (c .before .before .before .loop .sum + f (c .before .next .result)) (c .later .result)
 passed c =
     let n = c .before in
-    let a = c .before .before .before .before .before .args in
+    let a = entry (c .before) .args in
     let f = cheapestInto (legs (a .t .now)) (a .place) (stopsIn (a .rest)) in
     let l = n .before .before .loop in
     let more : l .sum + f (n .next .result) ≡ l .sum + f (n .next .result) = refl in
@@ -65,11 +73,11 @@ passed c =
 last-value :
     (c : tie.After-into Inv-loop μ-loop) →
     let n = c .before .before .before .before in
-    let a = n .before .before .before .before .args in
+    let a = entry n .args in
     c .into .result ≡ cheapestInto (legs (a .t .now)) (a .place) (stopsIn (a .rest)) (n .next .result)
 last-value c =
     let n = c .before .before .before .before in
-    let b = n .before .before .before .before in
+    let b = entry n in
     let a = b .args in
     let o = c .before .before .without in
     c .into .ensures ∙ into-set (a .t .now) (a .place) (a .rest) (o .result) (n .next .result) (b .pre .1 .1 .0) (first-in n) (o .ensures)
@@ -82,8 +90,8 @@ second c =
 
 pair :
     (c : tie.After-next2 Inv-loop μ-loop) →
-    let n = c .before .before .before .before in
-    let rest = n .before .before .before .before .args .rest in
+    let n = turn c in
+    let rest = entry n .args .rest in
     let s = n .next .result in
     let u = c .next2 .result in
     In u (stopsIn (rest - 2 ^ (s - 1))) × In s (stopsIn (rest - 2 ^ (u - 1)))
@@ -91,7 +99,7 @@ pair c =
     let q = c .before .before .before in
     let n = q .before in
     let l = n .before .before .loop in
-    let b = n .before .before .before .before in
+    let b = entry n in
     pair-in (b .args .rest) (l .left) (n .next .result) (c .next2 .result) (b .pre .1 .1 .0) (l .inv .small) (l .inv .part) (first n .member)
     (rw (← left-is q) (second c .member))
 
@@ -99,15 +107,15 @@ pair c =
 two-values :
     (c : tie.After-into-two Inv-loop μ-loop) →
     let d = c .before .before .before in
-    let n = d .before .before .before .before in
-    let a = n .before .before .before .before .args in
+    let n = turn d in
+    let a = entry n .args in
     let f = cheapestInto (legs (a .t .now)) (a .place) (stopsIn (a .rest)) in
     c .into-two .result ≡ f (n .next .result) + f (d .next2 .result)
 two-values c =
     let d = c .before .before .before in
     let q = d .before .before .before in
     let n = q .before in
-    let b = n .before .before .before .before in
+    let b = entry n in
     let a = b .args in
     let s = n .next .result in
     let u = d .next2 .result in
@@ -128,24 +136,18 @@ most c =
     let a = c .args in
     omega (
       arith,
-      remainder-small 1000000 (legs (a .t .now)) (c .pre .1 .1 .1) (a .place) (stopsIn (a .rest)),
+      remainder-small dearest (legs (a .t .now)) (c .pre .1 .1 .1) (a .place) (stopsIn (a .rest)),
       stopsIn-few (a .rest) (c .pre .1 .1 .0),
     )
-
-home-requires : tie.Need-home-requires Inv-loop μ-loop
-home-requires c κs = search needs
 
 loop-holds : tie.Need-loop-holds Inv-loop μ-loop
 unfolding legs remainder
 loop-holds c = summed-starts (c .before .pre .1 .1 .0) (rw (c .home .ensures))
 
-without-requires : tie.Need-without-requires Inv-loop μ-loop
-without-requires c κs = (c .before .before .before .before .before .pre .1 .1 .0, first-in (c .before))
-
 add-result : tie.Need-add-result Inv-loop μ-loop
 add-result c =
     let n = c .before .before .before .before in
-    omega (arith, last-value c, summed-most (n .before .before .loop .inv) (n .next .result) (first n), most (n .before .before .before .before))
+    omega (arith, last-value c, summed-most (n .before .before .loop .inv) (n .next .result) (first n), most (entry n))
 
 returns : tie.Need-returns Inv-loop μ-loop
 returns c =
@@ -156,19 +158,19 @@ without-requires-2 : tie.Need-without-requires-2 Inv-loop μ-loop
 without-requires-2 c κs =
     let d = c .before in
     let o = d .before .before in
-    let small = o .before .before .before .before .before .before .pre .1 .1 .0 in
+    let small = entry (o .before .before) .pre .1 .1 .0 in
     (omega (arith, o .without .ensures), rw (o .without .ensures) (pair d .0))
 
 into-two-requires : tie.Need-into-two-requires Inv-loop μ-loop
 into-two-requires c κs =
-    let b = c .before .before .before .before .before .before .before .before .before .before in
+    let b = entry (turn (c .before .before)) in
     (b .pre .0, (omega (arith, c .without2 .ensures, c .before .before .before .before .without .ensures), (omega arith, (omega arith, b .pre .1 .1 .1))))
 
 add-sum : tie.Need-add-sum Inv-loop μ-loop
 add-sum c =
     let d = c .before .before .before in
     let q = d .before .before .before in
-    omega (arith, two-values c, summed-most (passed q) (d .next2 .result) (second d), most (q .before .before .before .before .before))
+    omega (arith, two-values c, summed-most (passed q) (d .next2 .result) (second d), most (entry (q .before)))
 
 loop-less : tie.Need-loop-less Inv-loop μ-loop
 loop-less c =
@@ -189,20 +191,17 @@ loop-again c =
     let rest = first-later _ _ _ (d .next2 .ensures .0) (c .before .before .later2 .ensures) in
     summed-again (passed q) (d .next2 .result) (second d) rest (omega (arith, two-values c))
 
-returns-2 : tie.Need-returns-2 Inv-loop μ-loop
-returns-2 c = summed-ends (c .before .loop .inv) (omega arith)
-
 pub remainder-spec : {M : Type 1} → statement M
 remainder-spec =
     tie.close
     (tie.spec
     Inv-loop
     μ-loop
-    home-requires
+    (λ c κs. search needs)
     loop-holds
     (λ c κs. search needs)
     (λ c κs. search needs)
-    without-requires
+    (λ c κs. (entry (c .before) .pre .1 .1 .0, first-in (c .before)))
     (λ c κs. omega arith)
     add-result
     returns
@@ -213,4 +212,4 @@ remainder-spec =
     add-sum
     loop-less
     loop-again
-    returns-2)
+    (λ c. summed-ends (c .before .loop .inv) (omega arith)))

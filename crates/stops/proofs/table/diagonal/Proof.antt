@@ -1,5 +1,5 @@
 -- `stops::table::diagonal` meets its contract. The loop's invariant: whether some entry of the diagonal is not 0 lies with those from i
--- on. The measure is what is left of n + 1. Assumes nothing.
+-- on. The measure is what is left of n + 1.
 use mathlib.Core.Path.{refl}
 use Prim.Native.Nat.{suc, _≤_, _-_}
 use native.Mathlib.Omega.{arith}
@@ -22,34 +22,10 @@ inside c =
     let s = c .before .before in
     place-inside (s .args .n) (now (s .args .table)) (c .before .loop .i) (c .before .loop .i) (s .pre) (omega arith) (omega arith)
 
-loop-holds : tie.Need-loop-holds Inv-loop μ-loop
-loop-holds c = (omega arith, refl)
-
-add-if1 : tie.Need-add-if1 Inv-loop μ-loop
-add-if1 c = omega arith
-
-mul-if1 : tie.Need-mul-if1 Inv-loop μ-loop
-mul-if1 c = omega (arith, inside c)
-
-add-if1-2 : tie.Need-add-if1-2 Inv-loop μ-loop
-add-if1-2 c = omega (arith, inside c)
-
-mul-if1-2 : tie.Need-mul-if1-2 Inv-loop μ-loop
-mul-if1-2 c = omega (arith, inside c)
-
-shared-slice-read-if1 : tie.Need-shared-slice-read-if1 Inv-loop μ-loop
-shared-slice-read-if1 c = omega (arith, inside (c .before))
-
 returns : tie.Need-returns Inv-loop μ-loop
 returns c =
     let s = c .before .before .before in
     diagonal-finds (s .before .args .n) (now (s .before .args .table)) (s .loop .i) (s .loop .inv .1) (omega arith) (c .if1 .taken)
-
-add-i : tie.Need-add-i Inv-loop μ-loop
-add-i c = omega arith
-
-loop-less : tie.Need-loop-less Inv-loop μ-loop
-loop-less c = omega arith
 
 loop-again : tie.Need-loop-again Inv-loop μ-loop
 loop-again c =
@@ -68,14 +44,14 @@ diagonal-spec =
     (tie.spec
     Inv-loop
     μ-loop
-    loop-holds
-    add-if1
-    mul-if1
-    add-if1-2
-    mul-if1-2
-    shared-slice-read-if1
+    (λ c. (omega arith, refl))
+    (λ c. omega arith)
+    (λ c. omega (arith, inside c))
+    (λ c. omega (arith, inside c))
+    (λ c. omega (arith, inside c))
+    (λ c. omega (arith, inside (c .before)))
     returns
-    add-i
-    loop-less
+    (λ c. omega arith)
+    (λ c. omega arith)
     loop-again
     returns-2)

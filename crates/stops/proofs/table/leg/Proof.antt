@@ -1,4 +1,4 @@
--- `stops::table::leg` meets its contract. Assumes nothing.
+-- `stops::table::leg` meets its contract.
 use mathlib.Core.Path.{refl}
 use native.Mathlib.Omega.{arith}
 use Rattle.stops.specs.Legs.{rowLeg}

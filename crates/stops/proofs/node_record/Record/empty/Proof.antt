@@ -1,4 +1,4 @@
--- `Node::empty` meets its contract. Assumes nothing.
+-- `Record::empty` meets its contract.
 use mathlib.Core.Path.{refl}
 use Rattle.stops.specs.Code.{emptyRecord}
 use Rattle.stops.proofs.node_record.Record.empty.Statement.{statement}

@@ -1,0 +1,26 @@
+-- The lower bounds of a call that every check lets pass: they never fall, are exact at complete nodes, and close is never below plain.
+use mathlib.Core.Path.{ap}
+use native.Mathlib.Omega.{arith}
+use Rattle.days.specs.Days.{Day, problem, choices}
+use Rattle.days.proofs.Walk.{walk-closer}
+use Rattle.answer.specs.Answer.{dayOf, problemOf, choicesOf}
+use Rattle.answer.specs.Document01.{BoundNeverFalls, BoundExact, CloseNotBelowPlain}
+use Rattle.answer.proofs.Passes.{passes}
+use Rattle.answer.proofs.Instance.{one-day, call-walk, bound-laws}
+
+pub bound-never-falls : BoundNeverFalls
+unfolding problemOf problem
+bound-never-falls c e x y m = bound-laws c (passes c e) .grows x y m
+
+pub bound-is-cost : BoundExact
+unfolding problemOf problem
+bound-is-cost c e x whole = bound-laws c (passes c e) .exact x whole
+
+pub close-not-below-plain : CloseNotBelowPlain
+unfolding choicesOf choices
+close-not-below-plain a b one h e x =
+    omega (
+      arith,
+      ap (λ (D : Day). D .bound (a .job .bound) x) (one-day a b one),
+      walk-closer (call-walk b) (a .job .bound) (b .job .bound) h (passes b e .bound) x,
+    )

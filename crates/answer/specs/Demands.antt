@@ -1,0 +1,126 @@
+-- What the letter demands of a planner, a type for each of its sentences and in its order. A proof of a sentence is a theorem whose type is the
+-- sentence's name: of the written run (`written`) in proofs/ of this crate, of what the code of `plan` returns in proofs/ of crate `planner`.
+-- What document 01 says beside the run's definition is in `Document01`; what demands 1 and 2 say of files is in crate `job_format`.
+use mathlib.Core.Path.{_≡_}
+use mathlib.Core.List.{[]}
+use mathlib.Core.Logic.{_⊎_, _≢_, _↔_}
+use Prim.Native.Nat.{ℕ, _+_, _≤_}
+use lib.Dec.{T}
+use lib.ListN.{length}
+use Rattle.sizes.specs.Sizes.{orderPlaces}
+use Rattle.lists.specs.Lists.{In, padded, Distinct}
+use Rattle.search.specs.Step.{on}
+use Rattle.orders.specs.Orders.{Node, Order, orders, factorial}
+use Rattle.answer.specs.Call.{Call, Answer}
+use Rattle.answer.specs.declared.Job.{Job}
+use Rattle.answer.specs.declared.Report.{Report}
+use Rattle.answer.specs.Checks.{cause}
+use Rattle.answer.specs.Answer.{dayOf, answer}
+use Rattle.answer.specs.Ends.{NextDoesNotFit, ComesTo, FullAt, RefusedAt, orderIn, Ended}
+
+-- A planner as its callers see it: which answers it gives to a call. An answer is the report and the words that the pool holds afterwards.
+abbrev pub Planner : Type 1
+Planner = Call → Answer → Type 0
+
+-- the planner that document 01 writes out
+abbrev pub written : Planner
+written c a = a ≡ answer c
+
+-- DEMAND 1
+
+-- Every call is answered, ..
+abbrev pub EveryCallIsAnswered : Planner → Type 0
+EveryCallIsAnswered P = (c : Call) → (a : Answer) × P c a
+
+-- .. and ends with an order or with a numbered refusal.
+abbrev pub EveryCallEnds : Planner → Type 0
+EveryCallEnds P = (c : Call) (a : Answer) → P c a → Ended c a
+
+-- What a refusal gives and leaves is known beforehand: nothing but the call decides the answer, ..
+abbrev pub OneAnswer : Planner → Type 0
+OneAnswer P = (c : Call) (a b : Answer) → P c a → P c b → a ≡ b
+
+-- .. and where it is not number 0, it is one of these two.
+abbrev pub RefusalsFixed : Planner → Type 0
+RefusalsFixed P = (c : Call) (a : Answer) → P c a → a .report .number ≢ 0 → RefusedAt c a ⊎ FullAt c a
+
+-- DEMAND 2
+
+-- The run is the one that document 01 writes out: its order, cost, counts and pool.
+abbrev pub RunIsWritten : Planner → Type 0
+RunIsWritten P = (c : Call) (a : Answer) → P c a → a ≡ answer c
+
+-- Every generated node was branched, was eliminated or is active.
+abbrev pub CountsBalance : Planner → Type 0
+CountsBalance P = (c : Call) (a : Answer) → P c a → a .report .generated ≡ a .report .branched + a .report .eliminated + a .report .active
+
+-- The pool is called full when, and only when, the run comes to a step after which the nodes to keep outnumber the records.
+abbrev pub FullIff : Planner → Type 0
+FullIff P = (c : Call) (a : Answer) → P c a → (a .report .number ≡ 7) ↔ ComesTo c NextDoesNotFit
+
+-- DEMAND 3, the first half: two runs over one table that finish.
+
+pub record OneTable (a b : Call) : Type 0 where
+  pub n : a .job .n ≡ b .job .n
+  pub table : a .table ≡ b .table
+
+-- They report equal costs.
+abbrev pub OneCost : Planner → Type 0
+OneCost P =
+    (a b : Call) (x y : Answer) → P a x → P b y → OneTable a b → x .report .number ≡ 0 → y .report .number ≡ 0
+    → x .report .cost ≡ y .report .cost
+
+-- The cost is that of the order reported with it, and each of the n! orders of the stops costs at least as much.
+pub record Cheapest (c : Call) (r : Report) : Type 0 where
+  pub is-order : Order (c .job .n) (orderIn c r)
+  pub zeros-past-n : r .order ≡ padded orderPlaces (orderIn c r)
+  pub cost-is-its : r .cost ≡ dayOf c .cost (orderIn c r)
+  pub least : (y : Node) → In y (orders (c .job .n)) → r .cost ≤ dayOf c .cost y
+
+abbrev pub CheapestOfAll : Planner → Type 0
+CheapestOfAll P = (c : Call) (a : Answer) → P c a → a .report .number ≡ 0 → Cheapest c (a .report)
+
+-- The list of the orders has n! entries, none twice, and these are the orders of the n stops.
+pub record AllOrders (n : ℕ) : Type 0 where
+  pub entries : length (orders n) ≡ factorial n
+  pub once : Distinct (orders n)
+  pub just-these : (x : Node) → In x (orders n) ↔ Order n x
+
+abbrev pub OrdersAreAll : Type 0
+OrdersAreAll = (n : ℕ) → AllOrders n
+
+-- DEMAND 3, the second half: two jobs A and B over one table.
+
+-- A has B's bound or, under selections 2 and 3 (FIFO and LIFO), one that is at least as close: close (1) is as close as plain (0), and closer.
+abbrev pub AsClose : Job → Job → Type 0
+AsClose a b = (a .bound ≡ b .bound) ⊎ ((2 ≤ a .selection) × (b .bound ≤ a .bound))
+
+-- A stands to B as the letter asks.
+pub record Favours (a b : Call) : Type 0 where
+  -- one table
+  pub n : a .job .n ≡ b .job .n
+  pub table : a .table ≡ b .table
+  -- the same selection and dominance rules
+  pub selection : a .job .selection ≡ b .job .selection
+  pub rule-2 : on 2 (a .job .rules) ≡ on 2 (b .job .rules)
+  pub rule-4 : on 4 (a .job .rules) ≡ on 4 (b .job .rules)
+  pub rule-8 : on 8 (a .job .rules) ≡ on 8 (b .job .rules)
+  -- where B uses the upper-cost rule, A does
+  pub rule-1 : T (on 1 (b .job .rules)) → T (on 1 (a .job .rules))
+  -- B has no starting order, or A has one that is no dearer
+  pub start : (b .start ≡ []) ⊎ ((a .start ≢ []) × (dayOf a .cost (a .start) ≤ dayOf a .cost (b .start)))
+  pub bound : AsClose (a .job) (b .job)
+  -- a pool that is at least as large
+  pub pool : length (b .pool) ≤ length (a .pool)
+
+-- what A's report owes to B's
+pub record NoWorse (a b : Report) : Type 0 where
+  pub finishes : a .number ≡ 0
+  pub branched : a .branched ≤ b .branched
+  pub generated : a .generated ≤ b .generated
+  pub most : a .most ≤ b .most
+
+-- Where B finishes and the checks let A pass, its pool of whole records included, A finishes, with no higher counts.
+abbrev pub FavouredFinishes : Planner → Type 0
+FavouredFinishes P =
+    (a b : Call) (x y : Answer) → P a x → P b y → Favours a b → cause a ≡ 0 → y .report .number ≡ 0 → NoWorse (x .report) (y .report)

@@ -1,0 +1,87 @@
+-- What document 01 says of a run beside its definition, a type for each sentence, as in `Demands`; proofs/ has a theorem for each.
+--   FinishedIff, BranchedAreSteps, ContentsPlayNoPart    of a planner's answers
+--   StatesBalance, ActiveNeverEmpty                      of every state of a run
+--   TestedWithinU, TestsAgree                            of the finish test
+--   BoundNeverFalls, BoundExact, CloseNotBelowPlain      of the lower bounds
+use mathlib.Core.Path.{_≡_}
+use mathlib.Core.Bool.{Bool, not, _&&_, _||_}
+use mathlib.Core.List.{List}
+use mathlib.Core.Logic.{_↔_}
+use Prim.Native.Nat.{ℕ, _+_, _≤_}
+use lib.Dec.{T, eqb}
+use lib.ListN.{length}
+use Rattle.lists.specs.Lists.{In}
+use Rattle.search.specs.Problem.{State, upper}
+use Rattle.search.specs.Selection.{chosen, select, empty, finishes}
+use Rattle.orders.specs.Orders.{Node, complete, children}
+use Rattle.answer.specs.Call.{Call, callOf, Answer}
+use Rattle.answer.specs.Checks.{cause}
+use Rattle.answer.specs.Answer.{problemOf, choicesOf, StateOf}
+use Rattle.answer.specs.Ends.{made, FinishTestHolds, Ends, ComesTo}
+use Rattle.answer.specs.Demands.{Planner, OneTable}
+
+-- THE REPORT, THE POOL, ONE RUN
+
+-- Number 0 comes when, and only when, the run comes to a state where a node is chosen of which the finish test holds; so a finished run is
+-- never refused.
+abbrev pub FinishedIff : Planner → Type 0
+FinishedIff P = (c : Call) (a : Answer) → P c a → (a .report .number ≡ 0) ↔ ComesTo c FinishTestHolds
+
+-- `branched` is how many steps the run made to the state that ended it.
+abbrev pub BranchedAreSteps : Planner → Type 0
+BranchedAreSteps P = (c : Call) (a : Answer) → P c a → (end : ComesTo c Ends) → a .report .branched ≡ made (end .steps)
+
+-- What the pool holds before the run plays no part: the same job over a pool of the same length has the same report and, where no check refuses
+-- it, leaves the same words.
+abbrev pub ContentsPlayNoPart : Planner → Type 0
+ContentsPlayNoPart P =
+    (c : Call) (pool : List ℕ) (x y : Answer) → P c x → P (callOf (c .job) (c .table) (c .start) pool) y → length pool ≡ length (c .pool)
+    → (x .report ≡ y .report) × (cause c ≡ 0 → x .pool ≡ y .pool)
+
+-- At every state of every run each generated node was branched, was eliminated or is active.
+abbrev pub StatesBalance : Type 0
+StatesBalance =
+    (c : Call) → cause c ≡ 0 → (s : State Node) → StateOf c s
+    → s .generated ≡ length (s .branched) + s .eliminated + length (s .active)
+
+-- The active set is never empty.
+abbrev pub ActiveNeverEmpty : Type 0
+ActiveNeverEmpty = (c : Call) → cause c ≡ 0 → (s : State Node) → StateOf c s → (x : Node) × In x (s .active)
+
+-- the bound counts in the finish test: under selections 0 and 1 always, under 2 and 3 where b is the only active node
+abbrev pub BoundCounts : Call → List Node → Bool
+BoundCounts c rest = not (eqb (choicesOf c .selection) 2 || eqb (choicesOf c .selection) 3) || empty rest
+
+-- Where it counts, the bound tested never exceeds U.
+abbrev pub TestedWithinU : Type 0
+TestedWithinU =
+    (c : Call) → cause c ≡ 0 → (s : State Node) → StateOf c s → (b : Node) (rest : List Node)
+    → select (problemOf c) (choicesOf c) (s .active) ≡ chosen b rest → T (BoundCounts c rest)
+    → choicesOf c .bound b ≤ upper (problemOf c) (s .best)
+
+-- the finish test of document 000, which has "equal to U"
+abbrev pub finishesWhenEqual : Call → State Node → Node → List Node → Bool
+finishesWhenEqual c s b rest = eqb (upper (problemOf c) (s .best)) (choicesOf c .bound b) && BoundCounts c rest || problemOf c .complete b
+
+-- So the two tests agree on every run.
+abbrev pub TestsAgree : Type 0
+TestsAgree =
+    (c : Call) → cause c ≡ 0 → (s : State Node) → StateOf c s → (b : Node) (rest : List Node)
+    → select (problemOf c) (choicesOf c) (s .active) ≡ chosen b rest
+    → finishes (problemOf c) (choicesOf c) (s .best) b rest ≡ finishesWhenEqual c s b rest
+
+-- NODES: the lower bounds
+
+-- A bound never falls when a node is extended, ..
+abbrev pub BoundNeverFalls : Type 0
+BoundNeverFalls =
+    (c : Call) → cause c ≡ 0 → (x y : Node) → In y (children (c .job .n) x) → choicesOf c .bound x ≤ choicesOf c .bound y
+
+-- .. equals the order's cost at a complete node, ..
+abbrev pub BoundExact : Type 0
+BoundExact = (c : Call) → cause c ≡ 0 → (x : Node) → T (complete (c .job .n) x) → choicesOf c .bound x ≡ problemOf c .cost x
+
+-- .. and close (1) is never below plain (0).
+abbrev pub CloseNotBelowPlain : Type 0
+CloseNotBelowPlain =
+    (a b : Call) → OneTable a b → a .job .bound ≤ b .job .bound → cause b ≡ 0 → (x : Node) → choicesOf a .bound x ≤ choicesOf b .bound x

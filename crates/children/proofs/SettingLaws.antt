@@ -1,0 +1,106 @@
+-- What the crates above ask of a setting d and a table's rows t.
+--   setting-lawful, setting-bounds, setting-solvable, setting-weighs    the laws of the problem that the theory of crate `search` asks
+--   given-known, given-valid                 a starting order is a complete node of the tree, and a partial order
+--   encode-size, order-numbers               the record of a node has its size; that of an order has its cost and its words
+--   call-rows, call-problem, call-choices    a call's problem and choices are those of its job's setting and its table's rows
+--   call-words                               and its words are those of such nodes' records
+use mathlib.Core.Path.{_≡_, refl, ap, sym, subst}
+use mathlib.Core.List.{List, [], _∷_, _++_, map}
+use mathlib.Core.Logic.{_⊎_, inl, inr}
+use Prim.Native.Nat.{ℕ, _-_, _%_}
+use native.Mathlib.Omega.{arith}
+use lib.ListN.{length, take, drop, replicate}
+use Rattle.sizes.specs.Sizes.{recordWords, wordStops}
+use Rattle.search.specs.Problem.{State}
+use Rattle.search.specs.Run.{held}
+use Rattle.search.proofs.Laws.{Lawful, BoundLaws, Solvable, Weighs, KnownIn, unknown, known}
+use Rattle.search.proofs.Plain.{tree}
+use Rattle.search.proofs.Mapped.{ValidBest}
+use Rattle.orders.specs.Orders.{Node, Partial, Order, size, nodes}
+use Rattle.orders.proofs.Order.{order-complete, order-leads}
+use Rattle.days.specs.Days.{problem, choices}
+use Rattle.days.proofs.Walk.{bound-exact, walk-lawful, walk-bound, day-weighs, day-solvable}
+use Rattle.stops.specs.Tables.{rows}
+use Rattle.stops.specs.Stops.{dayOn}
+use Rattle.stops.specs.Code.{emptyRecord, Cheap}
+use Rattle.stops.proofs.StopsWalk.{rows-walk, order-below}
+use Rattle.records.specs.Records.{orderWord, poolWords}
+use Rattle.records.specs.Code.{records, encode}
+use Rattle.records.proofs.PoolWords.{pool-words}
+use Rattle.answer.specs.Call.{Call}
+use Rattle.answer.specs.Answer.{dayOf, given, wordsOf}
+use Rattle.answer.specs.Answer.{problemOf as callProblem, choicesOf as callChoices}
+use Rattle.answer.proofs.Passes.{Passes}
+use Rattle.answer.proofs.Instance.{call-cheap}
+use Rattle.children.specs.Code.{Table, Rows, settingOf, problemOf, choicesOf, encodeOf}
+use Rattle.children.specs.declared.setting.Setting.{Setting}
+
+module _ (d : Setting) (t : Table) where
+  pub setting-weighs : Weighs (problemOf d t) (λ x. nodes (d .n - size (d .n) x))
+  unfolding problemOf
+  setting-weighs = day-weighs (d .n) (dayOn (d .n) t)
+
+  pub given-known : (first : List ℕ) → (first ≡ []) ⊎ Order (d .n) first → KnownIn (problemOf d t) (given first)
+  unfolding problemOf problem
+  given-known [] h = unknown
+  given-known (s ∷ x) (inl e) = absurd (let z : _≡_ {A = ℕ} 0 1 = cc in omega arith)
+  given-known (s ∷ x) (inr o) = known (s ∷ x) (order-complete (d .n) (s ∷ x) o) (order-leads (d .n) (problemOf d t) (λ y. refl) (s ∷ x) o)
+
+  pub given-valid : (first : List ℕ) → (first ≡ []) ⊎ Order (d .n) first → ValidBest (Partial (d .n)) (problemOf d t) (given first)
+  unfolding problemOf problem
+  given-valid [] h = tt
+  given-valid (s ∷ x) (inl e) = absurd (let z : _≡_ {A = ℕ} 0 1 = cc in omega arith)
+  given-valid (s ∷ x) (inr o) = (record { once = o .once; only = o .only }, order-complete (d .n) (s ∷ x) o)
+
+  pub encode-size : (x : Node) → encodeOf d t x .size ≡ size (d .n) x
+  unfolding encodeOf encode
+  encode-size x = refl
+
+module _ {d : Setting} {t : Table} (ok : Rows d t) where
+  pub setting-lawful : Lawful (tree (problemOf d t)) (size (d .n)) (d .n)
+  unfolding problemOf
+  setting-lawful = walk-lawful (rows-walk (d .n) t) (ok .some)
+
+  pub setting-bounds : BoundLaws (tree (problemOf d t)) (choicesOf d t .bound)
+  unfolding problemOf choicesOf choices
+  setting-bounds = walk-bound (rows-walk (d .n) t) (d .bound) (ok .bound)
+
+  pub setting-solvable : Solvable (problemOf d t)
+  unfolding problemOf
+  setting-solvable = day-solvable (d .n) (dayOn (d .n) t) (order-below t (ok .cheap) (d .n) (ok .few))
+
+  pub order-numbers :
+      (x : Node) → Order (d .n) x
+      → (encodeOf d t x .bound ≡ problemOf d t .cost x)
+      × (encodeOf d t x .first ≡ orderWord (take wordStops x)) × (encodeOf d t x .second ≡ orderWord (drop wordStops x))
+  unfolding encodeOf encode problemOf problem
+  order-numbers x o = (bound-exact (rows-walk (d .n) t) (d .bound) (ok .bound) x (order-complete (d .n) x o), refl, refl)
+
+module _ (c : Call) {t : Table} (e : t ≡ rows (c .job .n) (c .table)) where
+  pub call-rows : Passes c → Rows (settingOf (c .job)) t
+  call-rows ok = record {
+    some = ok .some;
+    few = ok .few;
+    cheap = subst Cheap (sym e) (call-cheap c ok);
+    bound = ok .bound;
+  }
+
+  pub call-problem : problemOf (settingOf (c .job)) t ≡ callProblem c
+  unfolding problemOf callProblem dayOf
+  call-problem = ap (λ (u : Table). problem (c .job .n) (dayOn (c .job .n) u)) e
+
+  pub call-choices : choicesOf (settingOf (c .job)) t ≡ callChoices c
+  unfolding choicesOf callChoices dayOf
+  call-choices = ap (λ (u : Table). choices (dayOn (c .job .n) u) (c .job .selection) (c .job .rules) (c .job .bound)) e
+
+  -- a pool that has the records of the nodes to keep, and empty ones behind, has the call's words
+  pub call-words :
+      (s : State Node) (w : List ℕ) → length w ≡ length (c .pool) → length w % recordWords ≡ 0
+      → records w
+      ≡ map (encodeOf (settingOf (c .job)) t) (held (c .job .rules) s)
+      ++ replicate (length (records w) - length (held (c .job .rules) s)) emptyRecord
+      → w ≡ wordsOf c s
+  unfolding wordsOf poolWords dayOf encodeOf
+  call-words s w long whole layout =
+      rw (sym long)
+      (pool-words (c .job .n) (dayOf c) (c .job .bound) w (held (c .job .rules) s) whole (rw e at layout))

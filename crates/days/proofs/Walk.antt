@@ -1,0 +1,168 @@
+-- The laws of a day and its reckoning (`Walk`), and what follows from them: all that `search` asks of a problem, a bound and two bounds.
+--   alike-size, alike-trans        nodes of one set at one place
+--   walk-lawful                    the laws of a tree: dominance is sound and transitive
+--   bound-exact, walk-bound        the laws of a bound: it never falls, is the cost of an order, and is fair to dominance
+--   walk-closer                    a closer bound is at least the other
+--   day-weighs                     a node weighs more than its children together, so that a run ends
+--   day-solvable                   where every order is cheaper than "above every cost", one is known to be
+-- A node's like has the same set, is at the same place and has no more path cost: whatever completes the one completes the other, at the
+-- same further cost.
+use mathlib.Core.Path.{_≡_, refl, sym, ap, _∙_, subst}
+use mathlib.Core.List.{List, []}
+use mathlib.Core.Logic.{_⊎_}
+use Prim.Native.Nat.{ℕ, _+_, _-_, _≤_, _<_}
+use native.Mathlib.Omega.{arith}
+use lib.Dec.{T, eqb}
+use lib.ListN.{length}
+use Rattle.sizes.specs.Sizes.{aboveEveryCost}
+use Rattle.lists.specs.Lists.{In, without, Distinct}
+use Rattle.lists.proofs.Members.{distinct-from}
+use Rattle.search.proofs.Laws.{Leads, stay, down, Good, Lawful, BoundLaws, Weighs, Solvable}
+use Rattle.search.proofs.Plain.{tree}
+use Rattle.orders.specs.Orders.{Node, stops, setOf, left, size, complete, extend, children, Order, nodes}
+use Rattle.orders.proofs.Sets.{in-stops, stops-in, distinct-left, left-extend, child-extends, extend-child, set-same-left, set-extend-same}
+use Rattle.orders.proofs.Tree.{complete-size, complete-left, tree-sized, tree-weighs}
+use Rattle.orders.proofs.Partial.{partial-root, partial-size}
+use Rattle.orders.proofs.Order.{order-complete, order-leads}
+use Rattle.days.specs.Days.{Day, problem}
+use Rattle.days.specs.Code.{Reckoning}
+
+-- w has the set of x, is where x is, and has no more path cost
+pub record Alike (n : ℕ) (D : Day) (R : Reckoning) (w x : Node) : Type 0 where
+  pub stops : setOf n w ≡ setOf n x
+  pub place : R .place w ≡ R .place x
+  pub cheaper : D .path w ≤ D .path x
+
+-- The laws of a day of n stops whose bounds have the numbers 0 to most.
+pub record Walk (n most : ℕ) (D : Day) (R : Reckoning) : Type 0 where
+  -- e is at place 0, with no path cost
+  pub path-root : D .path [] ≡ 0
+  pub place-root : R .place [] ≡ 0
+  -- one stop more
+  pub path-extend : (x : Node) (s : ℕ) → In s (left n x) → D .path (extend x s) ≡ D .path x + R .further (R .place x) s
+  pub place-extend : (x : Node) (s : ℕ) → In s (left n x) → R .place (extend x s) ≡ R .after (R .place x) s
+  -- a bound is the path cost and what lies ahead; where no stop is to come that makes the cost, whatever the bound's number
+  pub bound-ahead : (k : ℕ) → k ≤ most → (x : Node) → D .bound k x ≡ D .path x + R .ahead k (R .place x) (left n x)
+  pub cost-ahead : (k : ℕ) → k ≤ most → (x : Node) → D .cost x ≡ D .path x + R .ahead k (R .place x) []
+  -- a stop lowers what lies ahead by at most what it adds to the path cost
+  pub ahead-grows :
+      (k : ℕ) → k ≤ most → (place s : ℕ) (rest : List ℕ) → Distinct rest → In s rest
+      → R .ahead k place rest ≤ R .further place s + R .ahead k (R .after place s) (without s rest)
+  pub ahead-closer : (j k : ℕ) → j ≤ k → k ≤ most → (place : ℕ) (rest : List ℕ) → R .ahead j place rest ≤ R .ahead k place rest
+  -- a dominator of x is like x; and what is like x is x or dominates it, but no node dominates itself
+  pub dominator-alike : (w x : Node) → T (D .dominates w x) → Alike n D R w x
+  pub alike-dominates : (w x : Node) → Alike n D R w x → (w ≡ x) ⊎ T (D .dominates w x)
+  pub irreflexive : (x : Node) → T (D .dominates x x) → ⊥
+
+pub alike-size : {n : ℕ} {D : Day} {R : Reckoning} {w x : Node} → Alike n D R w x → size n w ≡ size n x
+unfolding size
+alike-size a = ap length (a .stops)
+
+alike-trans : {n : ℕ} {D : Day} {R : Reckoning} {w x y : Node} → Alike n D R w x → Alike n D R x y → Alike n D R w y
+alike-trans a b = record { stops = a .stops ∙ b .stops; place = a .place ∙ b .place; cheaper = omega (arith, a .cheaper, b .cheaper) }
+
+module _ {n most : ℕ} {D : Day} {R : Reckoning} (walk : Walk n most D R) where
+  -- both leave the same stops, so that one can be extended as the other
+  alike-extend : (w x : Node) (s : ℕ) → In s (left n x) → Alike n D R w x → Alike n D R (extend w s) (extend x s)
+  alike-extend w x s m a =
+      let i : In s (left n w) = rw (set-same-left n w x (a .stops)) m in
+      record {
+        stops = set-extend-same n w x s (a .stops);
+        place = walk .place-extend w s i ∙ ap (λ (p : ℕ). R .after p s) (a .place) ∙ sym (walk .place-extend x s m);
+        cheaper = rw (walk .path-extend w s i, walk .path-extend x s m, a .place) (omega (arith, a .cheaper));
+      }
+
+  alike-complete : (w x : Node) → Alike n D R w x → complete n w ≡ complete n x
+  unfolding complete
+  alike-complete w x a = ap (λ (m : ℕ). eqb m n) (alike-size a)
+
+  alike-cost : (w x : Node) → Alike n D R w x → D .cost w ≤ D .cost x
+  alike-cost w x a =
+      rw (walk .cost-ahead 0 (omega arith) w, walk .cost-ahead 0 (omega arith) x, a .place) (omega (arith, a .cheaper))
+
+  alike-bound : (k : ℕ) → k ≤ most → (w x : Node) → Alike n D R w x → D .bound k w ≤ D .bound k x
+  alike-bound k h w x a =
+      rw (walk .bound-ahead k h w, walk .bound-ahead k h x, a .place, set-same-left n w x (a .stops)) (omega (arith, a .cheaper))
+
+  -- What is reached from x has its like among what is reached from w: a child of x is x extended by a stop that it leaves; w leaves
+  -- the same stops; and w extended by that stop is like that child.
+  leads-alike : {w x y : Node} → Alike n D R w x → Leads (problem n D) x y → (z : Node) × Leads (problem n D) w z × Alike n D R z y
+  unfolding problem
+  leads-alike {w} a stay = (w, stay, a)
+  leads-alike {w} {x} a (down {c} m l) =
+      let (s, i, e) = child-extends n x c m in
+      let k : Alike n D R (extend w s) c = subst (λ (z : Node). Alike n D R (extend w s) z) (sym e) (alike-extend w x s i a) in
+      let (z, j, b) = leads-alike k l in
+      (z, down (extend-child n w s (rw (set-same-left n w x (a .stops)) i)) j, b)
+
+  alike-good : (v : ℕ) (w x : Node) → Alike n D R w x → Good (problem n D) v x → Good (problem n D) v w
+  unfolding problem
+  alike-good v w x a g =
+      let (z, l, b) = leads-alike a (g .leads) in
+      record {
+        leaf = z;
+        leads = l;
+        whole = rw (alike-complete z (g .leaf) b) (g .whole);
+        cheap = omega (arith, alike-cost z (g .leaf) b, g .cheap);
+      }
+
+  pub walk-lawful : 1 ≤ n → Lawful (tree (problem n D)) (size n) n
+  unfolding problem
+  walk-lawful h = record {
+    sized = tree-sized n (problem n D) (λ x. refl) (λ x. refl);
+    unfinished = λ t. omega (arith, complete-size n [] t, partial-size n [] (partial-root n));
+    swap = λ v w x d g. alike-good v w x (walk .dominator-alike w x d) g;
+    trans = λ w x y d e. walk .alike-dominates w y (alike-trans (walk .dominator-alike w x d) (walk .dominator-alike x y e));
+    level = λ w x d. omega (arith, alike-size (walk .dominator-alike w x d));
+    rises = λ u v k. k;
+  }
+
+  -- bounds
+  bound-grows : (k : ℕ) → k ≤ most → (b c : Node) → In c (children n b) → D .bound k b ≤ D .bound k c
+  bound-grows k h b c m = let (s, i, e) = child-extends n b c m in rw e (go s i)
+    where
+      go : (s : ℕ) → In s (left n b) → D .bound k b ≤ D .bound k (extend b s)
+      go s i =
+          rw (
+            walk .bound-ahead k h b,
+            walk .bound-ahead k h (extend b s),
+            walk .path-extend b s i,
+            walk .place-extend b s i,
+            left-extend n b s,
+          ) (omega (arith, walk .ahead-grows k h (R .place b) s (left n b) (distinct-left n b) i))
+
+  pub bound-exact : (k : ℕ) → k ≤ most → (x : Node) → T (complete n x) → D .bound k x ≡ D .cost x
+  bound-exact k h x t =
+      walk .bound-ahead k h x
+      ∙ ap (λ (rest : List ℕ). D .path x + R .ahead k (R .place x) rest) (complete-left n x t)
+      ∙ sym (walk .cost-ahead k h x)
+
+  pub walk-bound : (k : ℕ) → k ≤ most → BoundLaws (tree (problem n D)) (D .bound k)
+  unfolding problem
+  walk-bound k h = record {
+    grows = bound-grows k h;
+    exact = bound-exact k h;
+    fair = λ w x d. alike-bound k h w x (walk .dominator-alike w x d);
+  }
+
+  pub walk-closer : (j k : ℕ) → j ≤ k → k ≤ most → (x : Node) → D .bound j x ≤ D .bound k x
+  walk-closer j k h i x =
+      rw (walk .bound-ahead j (omega arith) x, walk .bound-ahead k i x)
+      (omega (arith, walk .ahead-closer j k h i (R .place x) (left n x)))
+
+pub day-weighs : (n : ℕ) (D : Day) → Weighs (problem n D) (λ x. nodes (n - size n x))
+unfolding problem
+day-weighs n D = tree-weighs n (problem n D) (λ x. refl) (λ x. refl)
+
+-- the stops in ascending order are an order
+pub day-solvable : (n : ℕ) (D : Day) → ((x : Node) → Order n x → D .cost x < aboveEveryCost) → Solvable (problem n D)
+unfolding problem
+day-solvable n D below = (
+  stops n,
+  order-complete n (stops n) ascending,
+  order-leads n (problem n D) (λ x. refl) (stops n) ascending,
+  below (stops n) ascending,
+)
+  where
+    ascending : Order n (stops n)
+    ascending = record { once = distinct-from 1 n; only = in-stops n; every = stops-in n }

@@ -1,0 +1,33 @@
+-- What a day reckons with, and the search for its cheapest order: document 01, "Nodes" and "One run". The stops of a table are a day
+-- (crate `stops`).
+use mathlib.Core.Bool.{Bool}
+use mathlib.Core.List.{[]}
+use Prim.Native.Nat.{ℕ}
+use Rattle.sizes.specs.Sizes.{aboveEveryCost}
+use Rattle.search.specs.Problem.{Problem, Choices}
+use Rattle.orders.specs.Orders.{Node, complete, children}
+
+pub record Day : Type 0 where
+  -- the path cost of a node
+  pub path : Node → ℕ
+  -- the cost of an order
+  pub cost : Node → ℕ
+  -- a node's lower bound, by the bound's number
+  pub bound : ℕ → Node → ℕ
+  -- y dominates z: `dominates y z`
+  pub dominates : Node → Node → Bool
+
+-- the search for the cheapest order of n stops
+unfoldable pub problem : ℕ → Day → Problem Node
+problem n D = record {
+  root = [];
+  children = children n;
+  complete = complete n;
+  cost = D .cost;
+  dominates = D .dominates;
+  above = aboveEveryCost;
+}
+
+-- the choices of a caller, by their numbers: selection, sum of the rules, bound
+unfoldable pub choices : Day → ℕ → ℕ → ℕ → Choices Node
+choices D selection rules bound = record { selection = selection; rules = rules; bound = D .bound bound }

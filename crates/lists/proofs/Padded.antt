@@ -1,0 +1,16 @@
+-- A list with zeros behind it, written one element further (`padded-one`).
+use mathlib.Core.Path.{_≡_, sym, _∙_}
+use mathlib.Core.List.{List, [], _∷_, _++_}
+use Prim.Native.Nat.{ℕ, suc, _-_, _<_}
+use native.Mathlib.Omega.{arith}
+use lib.ListN.{length, set, replicate, length-append}
+use lib.Seq.{set-at, append-snoc}
+use Rattle.lists.specs.Lists.{padded}
+
+pub padded-one :
+    (n : ℕ) (xs zs : List ℕ) (k y : ℕ) → length xs ≡ k → zs ≡ xs ++ (y ∷ []) → k < n → set (padded n xs) k y ≡ padded n zs
+unfolding padded
+padded-one n xs zs k y e f h =
+    let room : n - length xs ≡ suc (n - suc k) = omega arith in
+    let less : n - length (xs ++ (y ∷ [])) ≡ n - suc k = omega (arith, length-append xs (y ∷ [])) in
+    rw (f, room, less) (set-at xs 0 (replicate (n - suc k) 0) y k e ∙ sym (append-snoc xs y (replicate (n - suc k) 0)))

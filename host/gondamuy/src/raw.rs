@@ -1,0 +1,160 @@
+//! The calls as C has them: plain numbers go in, and plain structs, whose layout is C's, come out. They are safe, and
+//! nothing is asked of a number: what does not fit is refused. What they answer is, over all inputs, that of `answer`
+//! (crates/answer/specs/Answer.antt), of `read` and of `write` (crates/job_format/specs/Reader.antt and Writer.antt).
+//!
+//! ```
+//! use gondamuy::raw::{plan, Job};
+//!
+//! let job = Job { n: 2, selection: 0, rules: 16, bound: 0 };
+//! assert_eq!(plan(job, &[0; 9], &[], &mut [0; 6]).number, 4); // rules are 15 at most
+//! ```
+
+mod border;
+mod layout;
+
+use std::slice;
+
+use crate::sizes::{ORDER_PLACES, RECORD_WORDS, TABLE_NUMBERS};
+
+/// What a caller chooses: how many stops, which selection, which rules and which bound.
+#[repr(C)]
+#[derive(Clone, Copy, Debug, Default, PartialEq, Eq)]
+pub struct Job {
+    /// How many stops.
+    pub n: u32,
+    /// 0 to 3: see [`Selection`](crate::Selection).
+    pub selection: u32,
+    /// A sum of 1, 2, 4 and 8: see [`Rules`](crate::Rules).
+    pub rules: u32,
+    /// 0 or 1: see [`Bound`](crate::Bound).
+    pub bound: u32,
+}
+
+/// An order (number 0) or a refusal (number 1 to 7).
+#[repr(C)]
+#[derive(Clone, Copy, Debug, Default, PartialEq, Eq)]
+pub struct Report {
+    /// 0, or the number of the refusal: 1 to 6 come with zeros, 7 with the counts.
+    pub number: u32,
+    /// The cost of the order.
+    pub cost: u32,
+    /// The stops as they are flown, zeros past n.
+    pub order: [u8; ORDER_PLACES],
+    /// See [`Counts`](crate::Counts).
+    pub branched: u64,
+    /// See [`Counts`](crate::Counts).
+    pub generated: u64,
+    /// See [`Counts`](crate::Counts).
+    pub eliminated: u64,
+    /// See [`Counts`](crate::Counts).
+    pub active: u64,
+    /// See [`Counts`](crate::Counts).
+    pub most: u64,
+}
+
+/// What a file holds (number 0) or a refusal (number 8, 1, 9, 3, 4 or 5) and zeros.
+#[repr(C)]
+#[derive(Clone, Copy, Debug, PartialEq, Eq)]
+pub struct Reading {
+    /// 0, or the number of the refusal.
+    pub number: u32,
+    /// The job.
+    pub job: Job,
+    /// (n+1) squared legs, row by row, and zeros behind.
+    pub table: [u32; TABLE_NUMBERS],
+    /// The starting order, and zeros behind.
+    pub start: [u8; ORDER_PLACES],
+    /// How many stops the starting order has: 0 or n.
+    pub stops: u32,
+}
+
+impl Reading {
+    /// The legs, as `plan` and `write` take them; none of a refusal.
+    pub fn table(&self) -> &[u32] {
+        let side = if self.number == 0 { self.job.n as usize + 1 } else { 0 };
+        &self.table[..side * side]
+    }
+
+    /// The starting order, as `plan` and `write` take it.
+    pub fn start(&self) -> &[u8] {
+        &self.start[..self.stops as usize]
+    }
+}
+
+/// A file's length (number 0) or a refusal (number 1 to 5 or 10) and 0.
+#[repr(C)]
+#[derive(Clone, Copy, Debug, PartialEq, Eq)]
+pub struct Written {
+    /// 0, or the number of the refusal.
+    pub number: u32,
+    /// The file's length, 0 beside a refusal.
+    pub length: usize,
+}
+
+/// A record of the pool, six words in a row: a node, the stops that are flown first.
+#[repr(C)]
+#[derive(Clone, Copy, Debug, Default, PartialEq, Eq)]
+pub struct Record {
+    /// How many stops.
+    pub size: u32,
+    /// Stop s adds 2 to the power s-1.
+    pub set: u32,
+    /// The cost of the legs flown.
+    pub path: u32,
+    /// What its whole orders cost at least.
+    pub bound: u32,
+    /// s-1 in four bits each, the first eight stops, first stop lowest.
+    pub first: u32,
+    /// The others.
+    pub second: u32,
+}
+
+/// Puts the stops 1 to n into the cheapest order: [`crate::plan`] of any numbers.
+pub fn plan(job: Job, table: &[u32], start: &[u8], pool: &mut [u32]) -> Report {
+    // SAFETY: the slices are valid for their lengths, and `pool`, lent as mutable, overlaps neither of the others.
+    unsafe {
+        border::gondamuy_plan(
+            job,
+            table.as_ptr(),
+            table.len(),
+            start.as_ptr(),
+            start.len(),
+            pool.as_mut_ptr(),
+            pool.len(),
+        )
+    }
+}
+
+/// `plan` with a pool of records: the same call over the same memory. No record is a part record, so number 6 comes
+/// from an empty pool alone.
+pub fn plan_records(job: Job, table: &[u32], start: &[u8], pool: &mut [Record]) -> Report {
+    plan(job, table, start, words(pool))
+}
+
+/// The memory of some records as the pool's words.
+pub fn words(pool: &mut [Record]) -> &mut [u32] {
+    // SAFETY: a record is six words in a row (`layout`), each of which may hold any number, and the borrow goes over.
+    unsafe { slice::from_raw_parts_mut(pool.as_mut_ptr().cast(), pool.len() * RECORD_WORDS) }
+}
+
+/// Reads a job file: [`crate::read`] with its number.
+pub fn read(file: &[u8]) -> Reading {
+    // SAFETY: the slice is valid for its length.
+    unsafe { border::gondamuy_read(file.as_ptr(), file.len()) }
+}
+
+/// Writes a job's file at the front of a buffer: [`crate::write`] of any numbers.
+pub fn write(job: Job, table: &[u32], start: &[u8], buffer: &mut [u8]) -> Written {
+    // SAFETY: as for `plan`, with `buffer` lent as mutable.
+    unsafe {
+        border::gondamuy_write(
+            job,
+            table.as_ptr(),
+            table.len(),
+            start.as_ptr(),
+            start.len(),
+            buffer.as_mut_ptr(),
+            buffer.len(),
+        )
+    }
+}

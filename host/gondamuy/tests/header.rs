@@ -1,0 +1,73 @@
+//! The header and the wrapper name the same numbers and say the same words.
+
+use std::collections::HashMap;
+use std::fs;
+use std::path::Path;
+
+use gondamuy::{raw, Bound, Job, Refusal, Rules, Selection, DEAREST_LEG, MOST_STOPS, RECORD_WORDS, VERSION};
+
+/// The lines of include/gondamuy.h.
+fn header() -> Vec<String> {
+    let path = Path::new(env!("CARGO_MANIFEST_DIR")).join("../../include/gondamuy.h");
+    fs::read_to_string(path).unwrap().lines().map(|line| line.trim().to_string()).collect()
+}
+
+/// A name with a number: `#define NAME 7` or `NAME = 7,` of an enum.
+fn named(line: &str) -> Option<(String, u32)> {
+    let words: Vec<&str> = line.split_whitespace().collect();
+    let (name, digits) = match words[..] {
+        ["#define", name, digits, ..] => (name, digits),
+        [name, "=", digits, ..] => (name, digits.trim_end_matches(',')),
+        _ => return None,
+    };
+    Some((name.strip_prefix("GONDAMUY_")?.to_string(), digits.parse().ok()?))
+}
+
+#[test]
+fn the_same_numbers() {
+    let rules = |rules| raw::Job::from(Job { n: 1, selection: Selection::Fifo, rules, bound: Bound::Plain }).rules;
+    let told = [
+        ("VERSION", VERSION),
+        ("MOST_STOPS", MOST_STOPS as u32),
+        ("DEAREST_LEG", DEAREST_LEG),
+        ("RECORD_WORDS", RECORD_WORDS as u32),
+        ("SELECTION_LEAST_BOUND_EARLIEST", Selection::LeastBoundEarliest as u32),
+        ("SELECTION_LEAST_BOUND_LATEST", Selection::LeastBoundLatest as u32),
+        ("SELECTION_FIFO", Selection::Fifo as u32),
+        ("SELECTION_LIFO", Selection::Lifo as u32),
+        ("RULES_NONE", rules(Rules::NONE)),
+        ("RULE_UPPER_COST", rules(Rules::UPPER_COST)),
+        ("RULE_BY_ACTIVE", rules(Rules::BY_ACTIVE)),
+        ("RULE_BY_BRANCHED", rules(Rules::BY_BRANCHED)),
+        ("RULE_BY_CHILD", rules(Rules::BY_CHILD)),
+        ("RULES_ALL", rules(Rules::ALL)),
+        ("BOUND_PLAIN", Bound::Plain as u32),
+        ("BOUND_CLOSE", Bound::Close as u32),
+        ("NOT_REFUSED", 0),
+        ("REFUSED_STOPS", Refusal::Stops as u32),
+        ("REFUSED_TABLE_LENGTH", Refusal::TableLength as u32),
+        ("REFUSED_LEG", Refusal::Leg as u32),
+        ("REFUSED_CHOICE", Refusal::Choice as u32),
+        ("REFUSED_START", Refusal::Start as u32),
+        ("REFUSED_POOL", Refusal::Pool as u32),
+        ("REFUSED_FULL", Refusal::Full as u32),
+        ("REFUSED_SHORT_FILE", Refusal::ShortFile as u32),
+        ("REFUSED_LAYOUT", Refusal::Layout as u32),
+        ("REFUSED_SHORT_BUFFER", Refusal::ShortBuffer as u32),
+    ];
+    let told: HashMap<String, u32> = told.into_iter().map(|(name, number)| (name.to_string(), number)).collect();
+    let found: HashMap<String, u32> = header().iter().filter_map(|line| named(line)).collect();
+    assert_eq!(found, told);
+}
+
+/// What a refusal says stands in the line above its name.
+#[test]
+fn the_same_words() {
+    let header = header();
+    for number in 1..=10 {
+        let refusal = Refusal::of(number).unwrap();
+        let is_it = |line: &String| named(line).is_some_and(|(name, k)| name.starts_with("REFUSED_") && k == number);
+        let at = header.iter().position(is_it).unwrap();
+        assert!(header[at - 1].starts_with(&format!("/* {}.", refusal.words())), "{refusal}: {}", header[at - 1]);
+    }
+}
