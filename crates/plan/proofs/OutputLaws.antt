@@ -11,8 +11,8 @@ use Prim.Native.Nat.{ℕ, zero, suc, _≤_, _<_}
 use native.Mathlib.Omega.{arith}
 use lib.ListN.{length, take, replicate, length-append}
 use borrow.Author.Tests.{lt-ltb, le-ltb}
-use Rattle.records.specs.Records.{padded}
 use Rattle.sizes.specs.Sizes.{orderPlaces}
+use Rattle.lists.specs.Lists.{padded}
 use Rattle.answer.specs.Call.{Answer, callOf}
 use Rattle.answer.specs.declared.Report.{Report}
 use Rattle.answer.specs.Answer.{answer}
