@@ -1,12 +1,12 @@
--- What the pool and the counts show after a step (`stage-shown`): the active records at the front, b in front of those held at the far
--- end, and each count as the written step has it. Assumes nothing.
+-- What the pool and the counts show after a step (`stage-shown`): the active records at the front, b in front of those at the far end,
+-- and each count as the written step has it.
 use mathlib.Core.Path.{_≡_, refl, sym, _∙_, ap, ap₂}
 use mathlib.Core.Bool.{Bool, true, false, cond}
-use mathlib.Core.List.{List, [], _∷_, _++_, reverse, reverse-append}
-use Prim.Native.Nat.{ℕ, suc, _+_, _-_, _≤_, _<_, min, max}
+use mathlib.Core.List.{List, _∷_, [], _++_, reverse, reverse-append}
+use Prim.Native.Nat.{ℕ, suc, _+_, _-_, _≤_, _<_, max}
 use native.Mathlib.Omega.{arith}
 use lib.Dec.{eqb}
-use lib.ListN.{length, take, drop, set, length-append, length-reverse, length-set, length-take, length-drop, drop-of-length-le}
+use lib.ListN.{length, take, drop, set, length-append, length-reverse, length-set, drop-of-length-le}
 use lib.Seq.{take-set-le, drop-cons, drop-set-lt, getD-set-same}
 use borrow.Author.Tests.{ne-eqb}
 use Rattle.search.specs.Problem.{State}
@@ -14,127 +14,122 @@ use Rattle.search.specs.Step.{on, children₁, best₂, active₇, step}
 use Rattle.stops.specs.Code.{emptyRecord}
 use Rattle.stops.specs.declared.node_record.Record.{Record}
 use Rattle.records.specs.Code.{records, dropAt}
-use Rattle.children.specs.Code.{Table, recProblem}
-use Rattle.replacement.specs.Code.{stayingOf, heldWith}
-use Rattle.step.specs.Code.{farOf, Ready, Shown, stepOf}
-use Rattle.children.specs.declared.best.Best.{Best}
+use Rattle.children.specs.Code.{Table, recProblem, farIn}
+use Rattle.children.specs.declared.setting.Setting.{Setting}
+use Rattle.replacement.specs.Code.{Replaced, farWith}
+use Rattle.replacement.proofs.ReplaceLaws.{dropped-length}
+use Rattle.step.specs.Code.{farOf, Ready, Shown, Expansion, spotOf, changeOf, farAfter, stepOf, runAfter}
+use Rattle.step.specs.declared.Expanded.{Expanded}
 use Rattle.step.specs.declared.Run.{Run}
 use Rattle.step.proofs.StepLaws.{Bounded, eliminated-are}
-use Rattle.step.proofs.StepShown.{Stage, stage-active, active-number}
+use Rattle.step.proofs.StepShown.{stayingAfter, stage-active, active-count}
 
-pub dropped-length : (i : ℕ) (xs : List Record) → i < length xs → length (dropAt i xs) ≡ length xs - 1
-unfolding dropAt
-dropped-length i xs h = length-append (take i xs) (drop (suc i) xs) ∙ (let p : length (take i xs) ≡ min i (length xs) = length-take i xs in omega (arith, length-drop (suc i) xs))
-
--- the front is not where b is held
-held-front : (recs : List Record) (count now-held j : ℕ) (b : Record) → j ≤ count - now-held → take j (heldWith recs count now-held b) ≡ take j recs
-unfolding heldWith
-held-front recs count now-held j b h = go (eqb now-held 0)
+-- the front is not where b is put
+far-front : (recs : List Record) (capacity far j : ℕ) (b : Record) → j ≤ capacity - far → take j (farWith recs capacity far b) ≡ take j recs
+unfolding farWith
+far-front recs capacity far j b h = go (eqb far 0)
   where
-    go : (none : Bool) → take j (cond none recs (set recs (count - now-held) b)) ≡ take j recs
+    go : (none : Bool) → take j (cond none recs (set recs (capacity - far) b)) ≡ take j recs
     go true = refl
-    go false = take-set-le j recs (count - now-held) b h
+    go false = take-set-le j recs (capacity - far) b h
 
-held-length : (recs : List Record) (count now-held : ℕ) (b : Record) → length (heldWith recs count now-held b) ≡ length recs
-unfolding heldWith
-held-length recs count now-held b = go (eqb now-held 0)
+far-length : (recs : List Record) (capacity far : ℕ) (b : Record) → length (farWith recs capacity far b) ≡ length recs
+unfolding farWith
+far-length recs capacity far b = go (eqb far 0)
   where
-    go : (none : Bool) → length (cond none recs (set recs (count - now-held) b)) ≡ length recs
+    go : (none : Bool) → length (cond none recs (set recs (capacity - far) b)) ≡ length recs
     go true = refl
-    go false = length-set recs (count - now-held) b
+    go false = length-set recs (capacity - far) b
 
--- b stands in front of those that were held
-held-far :
-    (recs : List Record) (count h : ℕ) (b : Record) → length recs ≡ count → h + 1 ≤ count
-    → drop (count - (h + 1)) (heldWith recs count (h + 1) b) ≡ b ∷ drop (count - h) recs
-unfolding heldWith
-held-far recs count h b e room =
-    ap (λ (none : Bool). drop (count - (h + 1)) (cond none recs (set recs (count - (h + 1)) b))) (ne-eqb (h + 1) 0 (λ z. omega arith))
-    ∙ drop-cons (set recs (count - (h + 1)) b) (count - (h + 1)) emptyRecord (omega (arith, length-set recs (count - (h + 1)) b))
-    ∙ ap₂ (λ (x : Record) (xs : List Record). x ∷ xs) (getD-set-same recs (count - (h + 1)) b emptyRecord (omega arith))
-    (drop-set-lt (suc (count - (h + 1))) recs (count - (h + 1)) b (omega arith)
-    ∙ ap (λ (j : ℕ). drop j recs) (let q : suc (count - (h + 1)) ≡ count - h = omega arith in q))
+-- b stands in front of those that were there
+far-more :
+    (recs : List Record) (capacity h : ℕ) (b : Record) → length recs ≡ capacity → h + 1 ≤ capacity
+    → drop (capacity - (h + 1)) (farWith recs capacity (h + 1) b) ≡ b ∷ drop (capacity - h) recs
+unfolding farWith
+far-more recs capacity h b e room =
+    ap (λ (none : Bool). drop (capacity - (h + 1)) (cond none recs (set recs (capacity - (h + 1)) b))) (ne-eqb (h + 1) 0 (λ z. omega arith))
+    ∙ drop-cons (set recs (capacity - (h + 1)) b) (capacity - (h + 1)) emptyRecord (omega (arith, length-set recs (capacity - (h + 1)) b))
+    ∙ ap₂ (λ (x : Record) (xs : List Record). x ∷ xs) (getD-set-same recs (capacity - (h + 1)) b emptyRecord (omega arith))
+    (drop-set-lt (suc (capacity - (h + 1))) recs (capacity - (h + 1)) b (omega arith)
+    ∙ ap (λ (j : ℕ). drop j recs) (let q : suc (capacity - (h + 1)) ≡ capacity - h = omega arith in q))
 
 module _
-    {n : ℕ} {t : Table} {k rules : ℕ} {w : List ℕ} {i : ℕ} {b : Record} {r : Run} {m : ℕ} {best : Best} {limit : ℕ} {kids : List Record}
-    {left taking now-held : ℕ} (stage : Stage n t k rules w i b r m best limit kids left taking now-held) (small : Bounded (records w))
-    (ready : Ready n t k rules w i b r) (s : State Record) (shown : Shown rules w r s)
-    (w′ : List ℕ) (recs : List Record) (active : ℕ)
-    (fits : length (stayingOf (records w) (r .active) i limit kids taking) + left + now-held ≤ length (records w))
-    (front : take active recs ≡ stayingOf (records w) (r .active) i limit kids taking ++ take left kids)
-    (number : active ≡ length (stayingOf (records w) (r .active) i limit kids taking) + left)
-    (behind : (j : ℕ) → r .active ≤ j → active ≤ j → drop j recs ≡ drop j (records w))
+    {d : Setting} {t : Table} {w : List ℕ} {i : ℕ} {b : Record} {r : Run} {e : Expanded} {kids : List Record}
+    (made : Expansion d t w i b r e kids) (small : Bounded (records w)) (ready : Ready d t w i b r)
+    (s : State Record) (shown : Shown d w r s) (w′ : List ℕ) (recs : List Record) (active : ℕ)
+    (fits : length (stayingAfter d w i b r e kids) + e .left + farAfter d r ≤ length (records w))
+    (put : Replaced (records w) (spotOf w i b r) (changeOf d r e) kids recs active)
     (same : length recs ≡ length (records w))
-    (holds : records w′ ≡ heldWith recs (length (records w)) now-held b)
+    (holds : records w′ ≡ farWith recs (length (records w)) (farAfter d r) b)
   where
-    whole : length (records w′) ≡ length (records w)
-    whole = ap length holds ∙ held-length recs (length (records w)) now-held b ∙ same
+    abbrev capacity : ℕ
+    capacity = length (records w)
 
-    shown-active : take active (records w′) ≡ stepOf n t k rules i b s .active
+    -- how many branched records stand at the far end afterwards
+    abbrev far : ℕ
+    far = farAfter d r
+
+    whole : length (records w′) ≡ capacity
+    whole = ap length holds ∙ far-length recs capacity far b ∙ same
+
+    shown-active : take active (records w′) ≡ stepOf d t i b s .active
     shown-active =
         ap (take active) holds
-        ∙ held-front recs (length (records w)) now-held active b (omega arith)
-        ∙ front ∙ sym (stage-active stage small ready s shown)
+        ∙ far-front recs capacity far active b (omega (arith, put .count))
+        ∙ put .front ∙ sym (stage-active made small ready s shown)
 
-    shown-far : drop (length (records w′) - now-held) (records w′) ≡ farOf (on 4 rules) (stepOf n t k rules i b s .branched)
+    count-active : active ≡ length (stepOf d t i b s .active)
+    count-active = put .count ∙ sym (active-count made small ready s shown)
+
+    shown-far : farIn (records w′) far ≡ farOf (on 4 (d .rules)) (stepOf d t i b s .branched)
     unfolding stepOf step
-    shown-far = go (on 4 rules) (stage .holds) (shown .held-number) (shown .far)
+    shown-far = go (on 4 (d .rules)) refl (shown .far-count) (shown .far)
       where
         go :
-            (rule : Bool) → now-held ≡ cond rule (r .held + 1) 0 → r .held ≡ length (farOf rule (s .branched))
-            → drop (length (records w) - r .held) (records w) ≡ farOf rule (s .branched)
-            → drop (length (records w′) - now-held) (records w′) ≡ farOf rule (s .branched ++ (b ∷ []))
-        go true e h f =
-            ap₂ (λ (j : ℕ) (l : List Record). drop j l) (let q : length (records w′) - now-held ≡ length (records w) - (r .held + 1) = omega (arith, whole) in q)
-            (holds ∙ ap (λ (j : ℕ). heldWith recs (length (records w)) j b) e)
-            ∙ held-far recs (length (records w)) (r .held) b same (omega arith)
-            ∙ ap (λ (l : List Record). b ∷ l) (behind (length (records w) - r .held) (omega (arith, shown .fits)) (omega arith) ∙ f)
+            (rule : Bool) → far ≡ cond rule (r .far + 1) 0 → r .far ≡ length (farOf rule (s .branched))
+            → farIn (records w) (r .far) ≡ farOf rule (s .branched) → farIn (records w′) far ≡ farOf rule (s .branched ++ (b ∷ []))
+        go true q h f =
+            ap₂ (λ (j : ℕ) (l : List Record). drop j l)
+            (let g : length (records w′) - far ≡ capacity - (r .far + 1) = omega (arith, whole) in g)
+            (holds ∙ ap (λ (j : ℕ). farWith recs capacity j b) q)
+            ∙ far-more recs capacity (r .far) b same (omega arith)
+            ∙ ap (λ (l : List Record). b ∷ l)
+            (put .behind (capacity - r .far) (omega (arith, shown .fits)) (omega (arith, put .count)) ∙ f)
             ∙ sym (reverse-append (s .branched) (b ∷ []))
-        go false e h f = drop-of-length-le (records w′) {i = length (records w′) - now-held} (omega (arith, whole))
+        go false q h f = drop-of-length-le (records w′) {i = length (records w′) - far} (omega (arith, whole))
 
-    pub stage-shown :
-        Shown rules w′
-        (record {
-          active = active;
-          held = now-held;
-          best = best;
-          branched = r .branched + 1;
-          generated = r .generated + m;
-          eliminated = r .eliminated + (r .active - 1 + m - active);
-          most = max (r .most) active;
-        })
-        (stepOf n t k rules i b s)
-    unfolding stepOf step best₂ children₁ recProblem active₇
+    pub stage-shown : Shown d w′ (runAfter r (e .best) (e .generated) active (farAfter d r)) (stepOf d t i b s)
+    unfolding runAfter stepOf step best₂ children₁ recProblem active₇
     stage-shown = record {
       active = shown-active;
-      number = number ∙ sym (active-number stage small ready s shown);
+      active-count = count-active;
       far = shown-far;
-      held-number = far-number (on 4 rules) (stage .holds) (shown .held-number);
-      fits = omega (arith, whole);
-      best = stage .expansion .learnt (s .best) (shown .best);
+      far-count = count-far (on 4 (d .rules)) refl (shown .far-count);
+      fits = omega (arith, whole, put .count);
+      best = made .learnt (s .best) (shown .best);
       branched = omega (arith, shown .branched, length-append (s .branched) (b ∷ []));
-      generated = omega (arith, shown .generated, stage .expansion .number);
-      eliminated = eliminated-number;
-      most = ap₂ max (shown .most) (number ∙ sym (active-number stage small ready s shown));
+      generated = omega (arith, shown .generated, made .generated);
+      eliminated = count-eliminated;
+      most = ap₂ max (shown .most) count-active;
     }
       where
-        far-number :
-            (rule : Bool) → now-held ≡ cond rule (r .held + 1) 0 → r .held ≡ length (farOf rule (s .branched))
-            → now-held ≡ length (farOf rule (s .branched ++ (b ∷ [])))
-        far-number true e h =
+        count-far :
+            (rule : Bool) → far ≡ cond rule (r .far + 1) 0 → r .far ≡ length (farOf rule (s .branched))
+            → far ≡ length (farOf rule (s .branched ++ (b ∷ [])))
+        count-far true q h =
             let g : length (reverse (s .branched)) ≡ length (s .branched) = length-reverse (s .branched) in
             let f : length (reverse (s .branched ++ (b ∷ []))) ≡ length (s .branched ++ (b ∷ [])) = length-reverse (s .branched ++ (b ∷ [])) in
             omega (arith, length-append (s .branched) (b ∷ []))
-        far-number false e h = e
+        count-far false q h = q
 
-        eliminated-number : r .eliminated + (r .active - 1 + m - active) ≡ stepOf n t k rules i b s .eliminated
-        eliminated-number =
+        count-eliminated : r .eliminated + (r .active - 1 + e .generated - active) ≡ stepOf d t i b s .eliminated
+        count-eliminated =
             omega (
               arith,
-              eliminated-are n t k rules s b (dropAt i (s .active)),
-              active-number stage small ready s shown,
+              eliminated-are d t s b (dropAt i (s .active)),
+              count-active,
               shown .eliminated,
-              dropped-length i (s .active) (let q : i < length (s .active) = omega (arith, ready .inside, shown .number) in q),
-              shown .number,
-              stage .expansion .number,
+              dropped-length i (s .active) (let q : i < length (s .active) = omega (arith, ready .inside, shown .active-count) in q),
+              shown .active-count,
+              made .generated,
             )

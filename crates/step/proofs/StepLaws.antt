@@ -1,7 +1,6 @@
 -- What the code of a step computes is the written step on records: the passes of the rules, one after the other, are its parts 3 to 7,
 -- and the one subtraction that counts the eliminated nodes is the sum over its parts.
---   limit      the largest bound that rule 1 keeps: U, or the largest number of 32 bits where rule 1 is off
--- Assumes nothing.
+--   limit      the largest bound that rule 1 keeps: U, or any where rule 1 is off
 use mathlib.Core.Path.{_≡_, refl, sym, _∙_, ap, ap₂}
 use mathlib.Core.Bool.{Bool, true, false, not, _&&_, _||_, cond}
 use mathlib.Core.List.{List, [], _∷_, _++_, reverse, reverse-cons, List·Memᴰ·tail}
@@ -9,6 +8,7 @@ use Prim.Native.Nat.{ℕ, _+_, _-_, _≤_}
 use native.Mathlib.Omega.{arith}
 use lib.Dec.{T, leb, ltb, le→leb, not-T}
 use lib.ListN.{length, length-append}
+use Rattle.sizes.specs.Sizes.{noLimit}
 use Rattle.lists.specs.Lists.{In, keep, any, put}
 use Rattle.lists.proofs.Tests.{to-true, same-tests, tests}
 use Rattle.lists.proofs.Members.{in-head}
@@ -17,11 +17,11 @@ use Rattle.lists.proofs.Numbers.{keep-parts}
 use Rattle.search.specs.Problem.{Problem, Choices, State, upper}
 use Rattle.search.specs.Step.{on, children₁, best₂, over₃, children₃, rest₃, dominated₄, children₄, dominated₅, children₅, dominated₆, rest₆, step}
 use Rattle.stops.specs.Code.{recDominates}
-use Rattle.stops.specs.Stops.{aboveEveryCost}
 use Rattle.stops.specs.declared.node_record.Record.{Record}
 use Rattle.passes.specs.Code.{isWithin, isStaying}
 use Rattle.rivals.specs.Code.{isFree}
 use Rattle.children.specs.Code.{Table, recProblem, recChoices, childrenOf, survivorsOf, passing}
+use Rattle.children.specs.declared.setting.Setting.{Setting}
 use Rattle.step.specs.Code.{farOf}
 
 -- any over a part, and over a list turned around
@@ -51,15 +51,15 @@ any-same p q (x ∷ xs) h = ap₂ _||_ (h x in-head) (any-same p q xs (λ y m. h
 
 -- no bound is above the largest number
 abbrev pub Bounded : List Record → Type 0
-Bounded xs = (x : Record) → In x xs → x .bound ≤ aboveEveryCost
+Bounded xs = (x : Record) → In x xs → x .bound ≤ noLimit
 
 -- dominators up to a limit that no bound passes are all of them
-free-any : (ys : List Record) → Bounded ys → (x : Record) → isFree aboveEveryCost ys x ≡ not (any (λ w. recDominates w x) ys)
+free-any : (ys : List Record) → Bounded ys → (x : Record) → isFree noLimit ys x ≡ not (any (λ w. recDominates w x) ys)
 unfolding isFree
 free-any ys small x =
     ap not
-    (any-same (λ y. leb (y .bound) aboveEveryCost && recDominates y x) (λ w. recDominates w x) ys
-    (λ y m. ap (λ (k : Bool). k && recDominates y x) (to-true (leb (y .bound) aboveEveryCost) (le→leb (y .bound) aboveEveryCost (small y m)))))
+    (any-same (λ y. leb (y .bound) noLimit && recDominates y x) (λ w. recDominates w x) ys
+    (λ y m. ap (λ (k : Bool). k && recDominates y x) (to-true (leb (y .bound) noLimit) (le→leb (y .bound) noLimit (small y m)))))
 
 -- a test under a rule, and the rule's pass
 off-keeps : (rule : Bool) (test passes : Record → Bool) (xs : List Record)
@@ -71,16 +71,19 @@ within-limit : (u : ℕ) (x : Record) → not (ltb u (x .bound)) ≡ isWithin u 
 unfolding isWithin
 within-limit u x = same-tests (not (ltb u (x .bound))) (leb (x .bound) u) (λ h. omega (arith, tests)) (λ h. not-T (ltb u (x .bound)) (λ g. omega (arith, tests)))
 
-module _ (n : ℕ) (t : Table) (k rules : ℕ) (s : State Record) (b : Record) (rest : List Record) where
+module _ (d : Setting) (t : Table) (s : State Record) (b : Record) (rest : List Record) where
+  abbrev rules : ℕ
+  rules = d .rules
+
   abbrev Q : Problem Record
-  Q = recProblem n t k
+  Q = recProblem d t
 
   abbrev D : Choices Record
-  D = recChoices 0 rules
+  D = recChoices d
 
   -- the limit of rule 1
   abbrev limit : ℕ
-  limit = cond (on 1 rules) (upper Q (best₂ Q D s b rest)) aboveEveryCost
+  limit = cond (on 1 rules) (upper Q (best₂ Q D s b rest)) noLimit
 
   by-rule-1 : (xs : List Record) → keep (λ x. not (over₃ Q D s b rest x)) xs ≡ passing (on 1 rules) (isWithin limit) xs
   unfolding over₃ recChoices
@@ -89,13 +92,13 @@ module _ (n : ℕ) (t : Table) (k rules : ℕ) (s : State Record) (b : Record) (
       u : ℕ
       u = upper Q (best₂ Q D s b rest)
 
-      within : (x : Record) (rule : Bool) → T rule → not (ltb u (x .bound)) ≡ isWithin (cond rule u aboveEveryCost) x
+      within : (x : Record) (rule : Bool) → T rule → not (ltb u (x .bound)) ≡ isWithin (cond rule u noLimit) x
       within x true h = within-limit u x
       within x false h = absurd h
 
-  by-rule-1-children : children₃ Q D s b rest ≡ passing (on 1 rules) (isWithin limit) (childrenOf n t k b)
+  by-rule-1-children : children₃ Q D s b rest ≡ passing (on 1 rules) (isWithin limit) (childrenOf d t b)
   unfolding children₃ children₁ recProblem
-  by-rule-1-children = by-rule-1 (childrenOf n t k b)
+  by-rule-1-children = by-rule-1 (childrenOf d t b)
 
   by-rule-1-rest : rest₃ Q D s b rest ≡ passing (on 1 rules) (isWithin limit) rest
   unfolding rest₃
@@ -111,13 +114,13 @@ module _ (n : ℕ) (t : Table) (k rules : ℕ) (s : State Record) (b : Record) (
 
       go :
           (rule : Bool)
-          → any (λ w. recDominates w x) (passing rule (isWithin (cond rule u aboveEveryCost)) rest)
-          ≡ any (λ y. leb (y .bound) (cond rule u aboveEveryCost) && recDominates y x) rest
+          → any (λ w. recDominates w x) (passing rule (isWithin (cond rule u noLimit)) rest)
+          ≡ any (λ y. leb (y .bound) (cond rule u noLimit) && recDominates y x) rest
       go true = any-keep (λ w. recDominates w x) (isWithin u) rest
       go false =
           sym
-          (any-same (λ y. leb (y .bound) aboveEveryCost && recDominates y x) (λ w. recDominates w x) rest
-          (λ y m. ap (λ (e : Bool). e && recDominates y x) (to-true (leb (y .bound) aboveEveryCost) (le→leb (y .bound) aboveEveryCost (small y m)))))
+          (any-same (λ y. leb (y .bound) noLimit && recDominates y x) (λ w. recDominates w x) rest
+          (λ y m. ap (λ (e : Bool). e && recDominates y x) (to-true (leb (y .bound) noLimit) (le→leb (y .bound) noLimit (small y m)))))
 
   by-rule-2 : Bounded rest → children₄ Q D s b rest ≡ passing (on 2 rules) (isFree limit rest) (children₃ Q D s b rest)
   unfolding children₄ dominated₄ recProblem recChoices isFree
@@ -127,24 +130,24 @@ module _ (n : ℕ) (t : Table) (k rules : ℕ) (s : State Record) (b : Record) (
 
   by-rule-4 :
       (far : List Record) → Bounded far → far ≡ farOf (on 4 rules) (s .branched)
-      → children₅ Q D s b rest ≡ passing (on 4 rules) (isFree aboveEveryCost far) (children₄ Q D s b rest)
+      → children₅ Q D s b rest ≡ passing (on 4 rules) (isFree noLimit far) (children₄ Q D s b rest)
   unfolding children₅ dominated₅ recProblem recChoices
   by-rule-4 far small e =
-      off-keeps (on 4 rules) (λ x. any (λ w. recDominates w x) (s .branched)) (isFree aboveEveryCost far) (children₄ Q D s b rest)
+      off-keeps (on 4 rules) (λ x. any (λ w. recDominates w x) (s .branched)) (isFree noLimit far) (children₄ Q D s b rest)
       (λ x m h. go (on 4 rules) e h x)
     where
-      go : (rule : Bool) → far ≡ farOf rule (s .branched) → T rule → (x : Record) → not (any (λ w. recDominates w x) (s .branched)) ≡ isFree aboveEveryCost far x
+      go : (rule : Bool) → far ≡ farOf rule (s .branched) → T rule → (x : Record) → not (any (λ w. recDominates w x) (s .branched)) ≡ isFree noLimit far x
       go true q h x = ap not (sym (ap (any (λ w. recDominates w x)) q ∙ any-reverse (λ w. recDominates w x) (s .branched))) ∙ sym (free-any far small x)
       go false q h x = absurd h
 
   -- parts 3 to 5: what survives of the children
   pub survivors-are :
       (far : List Record) → Bounded rest → Bounded far → far ≡ farOf (on 4 rules) (s .branched)
-      → children₅ Q D s b rest ≡ survivorsOf rules limit rest far (childrenOf n t k b)
+      → children₅ Q D s b rest ≡ survivorsOf (d .rules) limit rest far (childrenOf d t b)
   unfolding survivorsOf
   survivors-are far small small-far e =
       by-rule-4 far small-far e
-      ∙ ap (passing (on 4 rules) (isFree aboveEveryCost far))
+      ∙ ap (passing (on 4 rules) (isFree noLimit far))
       (by-rule-2 small ∙ ap (passing (on 2 rules) (isFree limit rest)) by-rule-1-children)
 
   -- part 6: what stays of the active nodes, with the children that take part in rule 8
@@ -161,17 +164,17 @@ module _ (n : ℕ) (t : Table) (k rules : ℕ) (s : State Record) (b : Record) (
       u : ℕ
       u = upper Q (best₂ Q D s b rest)
 
-      fit : (x : Record) → In x rest → (e : Bool) → e ≡ (leb (x .bound) aboveEveryCost && e)
-      fit x m e = ap (λ (f : Bool). f && e) (sym (to-true (leb (x .bound) aboveEveryCost) (le→leb (x .bound) aboveEveryCost (small x m))))
+      fit : (x : Record) → In x rest → (e : Bool) → e ≡ (leb (x .bound) noLimit && e)
+      fit x m e = ap (λ (f : Bool). f && e) (sym (to-true (leb (x .bound) noLimit) (le→leb (x .bound) noLimit (small x m))))
 
       go :
           (one eight : Bool)
-          → keep (λ x. not (eight && any (λ w. recDominates w x) kids)) (passing one (isWithin (cond one u aboveEveryCost)) rest)
-          ≡ keep (isStaying (cond one u aboveEveryCost) (cond eight kids [])) rest
+          → keep (λ x. not (eight && any (λ w. recDominates w x) kids)) (passing one (isWithin (cond one u noLimit)) rest)
+          ≡ keep (isStaying (cond one u noLimit) (cond eight kids [])) rest
       go true true = keep-keep (λ x. not (any (λ w. recDominates w x) kids)) (isWithin u) rest
       go true false = keep-keep (λ x. true) (isWithin u) rest
-      go false true = keep-same (λ x. not (any (λ w. recDominates w x) kids)) (isStaying aboveEveryCost kids) rest (λ x m. fit x m (not (any (λ w. recDominates w x) kids)))
-      go false false = keep-same (λ x. true) (isStaying aboveEveryCost []) rest (λ x m. fit x m true)
+      go false true = keep-same (λ x. not (any (λ w. recDominates w x) kids)) (isStaying noLimit kids) rest (λ x m. fit x m (not (any (λ w. recDominates w x) kids)))
+      go false false = keep-same (λ x. true) (isStaying noLimit []) rest (λ x m. fit x m true)
 
   -- parts 3 to 6 together: what was eliminated is what is neither left nor new
   pub eliminated-are :

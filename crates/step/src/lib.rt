@@ -2,30 +2,40 @@
 // what its functions compute, and proofs/ shows that these are the written step of crate `search`. The functions are public for the crate
 // above and not for hosts; what they require, that crate meets.
 ghost use mathlib.Core.Path.{_≡_};
-ghost use Prim.Native.Nat.{_+_, _-_, _^_, _≤_, _<_, max};
+ghost use Prim.Native.Nat.{_+_, _-_, _^_, _≤_, _<_};
 ghost use lib.ListN.{length};
+ghost use Rattle.sizes.specs.Sizes.{mostStops};
 ghost use Rattle.search.specs.Problem.{State};
 ghost use Rattle.stops.specs.declared.node_record.Record.{Record};
 ghost use Rattle.records.specs.Code.{records};
-ghost use Rattle.step.specs.Code.{Ready, Shown, Stepping, Expansion};
+ghost use Rattle.step.specs.Code.{Ready, Shown, Stepping, Expansion, spotOf, runAfter};
 use children::best::Best;
 use children::best::learn;
 use children::family::family;
+use children::setting::Setting;
+use children::spot::Spot;
 use children::survivors::limit_of;
 use children::survivors::survivors;
+use replacement::Change;
 use replacement::all_stay;
 use replacement::fits;
 use replacement::hold;
 use replacement::holding;
 use replacement::replace;
 use replacement::taking_of;
+use sizes::ORDER_PLACES;
+use sizes::PLACES;
+use sizes::RECORD_WORDS;
 use stops::node_record::Record;
+
+// Words for the records of one node's children.
+const FAMILY_WORDS: usize = ORDER_PLACES * RECORD_WORDS;
 
 // Where a run stands beside the pool: how many active records stand at its front and how many branched ones at its far end, U with
 // its order, and the counts.
 pub struct Run {
     pub active: usize,
-    pub held: usize,
+    pub far: usize,
     pub best: Best,
     pub branched: u64,
     pub generated: u64,
@@ -39,30 +49,45 @@ pub enum After {
     Go(Run),
 }
 
-// The counts after a step that generated m children and left some active.
-fn counted(r: Run, best: Best, m: usize, active: usize, held: usize) -> Run
-    requires { ⌜ (1 ≤ r .active) × ((r .active + m < 2 ^ 62) × ((active ≤ r .active - 1 + m) × (r .generated + r .eliminated + r .branched < 2 ^ 62))) ⌝ }
-    ensures { λ q. ⌜ q ≡ record { active = active; held = held; best = best; branched = r .branched + 1; generated = r .generated + m; eliminated = r .eliminated + (r .active - 1 + m - active); most = max (r .most) active } ⌝ }
+// The counts after a step that generated some children and left some nodes active.
+fn counted(r: Run, best: Best, generated: usize, active: usize, far: usize) -> Run
+    requires { ⌜ (1 ≤ r .active) × ((r .active + generated < 2 ^ 62) × ((active ≤ r .active - 1 + generated) × (r .generated + r .eliminated + r .branched < 2 ^ 62))) ⌝ }
+    ensures { λ q. ⌜ q ≡ runAfter r best generated active far ⌝ }
 {
-    let gone = r.active - 1 + m - active;
+    let gone = r.active - 1 + generated - active;
     let mut most = r.most;
     if most < active as u64 {
         most = active as u64;
     }
     Run {
         active: active,
-        held: held,
+        far: far,
         best: best,
         branched: r.branched + 1,
-        generated: r.generated + m as u64,
+        generated: r.generated + generated as u64,
         eliminated: r.eliminated + gone as u64,
         most: most,
     }
 }
 
+// Where b stands, which is record i.
+fn spot_of(w: &[u32], i: usize, b: Record, r: Run) -> Spot
+    requires { ⌜ b .size < mostStops ⌝ }
+    ensures { λ p. ⌜ p ≡ spotOf (now (w .entry)) i b r ⌝ }
+{
+    Spot {
+        capacity: w.len() / RECORD_WORDS,
+        active: r.active,
+        at: i,
+        far: r.far,
+        size: b.size + 1,
+        base: b.set,
+    }
+}
+
 // What parts 1 to 5 of a step give: how many children there are and how many of them survive, the limit of rule 1, and U.
 struct Expanded {
-    count: usize,
+    generated: usize,
     left: usize,
     limit: u32,
     best: Best,
@@ -70,30 +95,25 @@ struct Expanded {
 
 // Parts 1 to 5 of the step of b, which stands at i: the survivors stand at the front of kids.
 fn expand(
-    t: [[u32; 17]; 17],
-    n: u32,
-    rules: u32,
-    number: u32,
+    setting: Setting,
+    t: [[u32; PLACES]; PLACES],
     w: &[u32],
     i: usize,
     b: Record,
     r: Run,
     kids: &mut [u32],
 ) -> Expanded
-    requires { ⌜ Ready n t number rules (now w) i b r × (16 ≤ length (records (now kids))) ⌝ }
-    ensures { λ e. ⌜ Expansion n t number rules (now (w .entry)) i b r (e .count) (e .best) (e .limit) (records (now (kids .exit))) (e .left) ⌝ }
+    requires { ⌜ Ready setting t (now w) i b r × (mostStops ≤ length (records (now kids))) ⌝ }
+    ensures { λ e. ⌜ Expansion setting t (now (w .entry)) i b r e (records (now (kids .exit))) ⌝ }
 {
-    let records = w.len() / 6;
-    let a = r.active;
-    let far = r.held;
+    let spot = spot_of(w, i, b, r);
     let known = r.best;
-    let m = family(t, n, number, b, kids);
-    let size = b.size + 1;
-    let best = learn(kids, m, n, size, known);
-    let limit = limit_of(rules, best.upper);
-    let left = survivors(kids, m, w, records, a, i, far, size, b.set, rules, limit);
+    let m = family(setting, t, b, kids);
+    let best = learn(setting, kids, m, spot.size, known);
+    let limit = limit_of(setting.rules, best.upper);
+    let left = survivors(setting, kids, m, w, spot, limit);
     Expanded {
-        count: m,
+        generated: m,
         left: left,
         limit: limit,
         best: best,
@@ -102,35 +122,34 @@ fn expand(
 
 // The step of b, which stands at i. Nothing is written to the pool before it is known that the step fits.
 pub fn step(
-    t: [[u32; 17]; 17],
-    n: u32,
-    rules: u32,
-    number: u32,
+    setting: Setting,
+    t: [[u32; PLACES]; PLACES],
     w: &mut [u32],
     i: usize,
     b: Record,
     r: Run,
 ) -> After
-    requires { ⌜ Ready n t number rules (now w) i b r ⌝ }
-    ensures { λ q. ⌜ ((s : State Record) → Shown rules (now (w .entry)) r s → Stepping n t number rules i b (now (w .entry)) (now (w .exit)) s q) ⌝ }
+    requires { ⌜ Ready setting t (now w) i b r ⌝ }
+    ensures { λ q. ⌜ ((s : State Record) → Shown setting (now (w .entry)) r s → Stepping setting t i b (now (w .entry)) (now (w .exit)) s q) ⌝ }
 {
-    let cap = w.len() / 6;
-    let a = r.active;
-    let far = r.held;
     let known = r.best;
-    let mut kids = [0u32; 96];
-    let e = expand(t, n, rules, number, w, i, b, r, &mut kids);
-    let left = e.left;
-    let top = e.limit;
+    let mut kids = [0u32; FAMILY_WORDS];
+    let e = expand(setting, t, w, i, b, r, &mut kids);
     let best = e.best;
-    let part = taking_of(rules, left);
-    let held = holding(rules, far);
-    let all = all_stay(rules, known.upper, best.upper, part);
-    let size = b.size + 1;
-    if !fits(w, cap, a, i, top, size, b.set, &kids, left, part, held, all) {
+    let taking = taking_of(setting.rules, e.left);
+    let far = holding(setting.rules, r.far);
+    let all = all_stay(setting.rules, known.upper, best.upper, taking);
+    let spot = spot_of(w, i, b, r);
+    let change = Change {
+        limit: e.limit,
+        left: e.left,
+        taking: taking,
+        all: all,
+    };
+    if !fits(w, spot, change, far, &kids) {
         return After::Full;
     }
-    let active = replace(w, a, i, top, size, b.set, &kids, left, part, all);
-    hold(w, cap, held, b);
-    After::Go(counted(r, best, e.count, active, held))
+    let active = replace(w, spot, change, &kids);
+    hold(w, spot.capacity, far, b);
+    After::Go(counted(r, best, e.generated, active, far))
 }

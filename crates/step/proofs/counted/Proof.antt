@@ -1,9 +1,10 @@
--- `counted` meets its contract: `most` is the larger of the two. Assumes nothing.
+-- `counted` meets its contract: `most` is the larger of the two.
 use mathlib.Core.Path.{_≡_, sym, _∙_}
 use mathlib.Core.Logic.{⊎-elim}
 use Prim.Native.Nat.{_≤_, max}
 use native.Mathlib.Nat.{max-eq-left, max-eq-right}
 use native.Mathlib.Omega.{arith}
+use Rattle.step.specs.Code.{runAfter}
 use Rattle.step.proofs.counted.Statement.{statement}
 use Rattle.step.proofs.counted.Tie as tie
 
@@ -16,6 +17,7 @@ most-is c =
     (c .if1 .came)
 
 returns : tie.Need-returns
+unfolding runAfter
 returns c = rw (most-is (c .before .before .before))
 
 pub counted-spec : {M : Type 1} → statement M
