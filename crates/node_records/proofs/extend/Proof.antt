@@ -57,7 +57,7 @@ use Rattle.inspection.specs.Code.{ofSix}
 use Rattle.inspection.specs.declared.extend.Added.{Added}
 use Rattle.inspection.proofs.extend.Added as D
 use Rattle.inspection.proofs.extend.Added.Laws as D′
-use Rattle.node_records.proofs.Walk.{value, frees-all, hears, spelled, own-u32, val, vals, typed}
+use Rattle.node_records.proofs.Walk.{local, part, places, frees-all, hears, spelled, own-u32, val, vals, typed}
 use Rattle.node_records.proofs.Indices.{offset-fits, extended-inside, extended-outside}
 use Rattle.inspection.proofs.extend.extended_of as callee
 use Rattle.inspection.proofs.extend.extended_of.Symbol as callee-def
@@ -169,12 +169,6 @@ module _
       (ap (λ (m : ℕ). sliceVal (b, o) m ∷ []) (sym e), subst (Room T.the-row) (sym e) room) $ fjoin ! $ fjoin ! $ frame ! $
       owned ! R.the-row (Is R.the-row) (LL.makes R.the-type R′.the-plain 𝓤 H A) r (mach r ∷ []) is $ done !
 
-  -- the places of the locals' rooms at the end, the last local's first
-  abbrev rooms-at : List ℕ
-  rooms-at =
-      34 ∷ 35 ∷ 32 ∷ 33 ∷ 30 ∷ 31 ∷ 28 ∷ 29 ∷ 26 ∷ 27 ∷ 24 ∷ 25 ∷ 22 ∷ 23 ∷ 20 ∷ 21 ∷ 18 ∷ 19 ∷ 16 ∷ 17 ∷ 14 ∷ 15 ∷ 12 ∷ 13
-      ∷ 10 ∷ 11 ∷ 8 ∷ 9 ∷ 6 ∷ 7 ∷ []
-
   module _ (C : Calls 𝓤 H) (Λ : Loops 𝓤 H) (fm : FmC 𝓤 H (W .laws) C) (known : Triple 𝓤 (C #callee) (Callee 𝓤 H A mem run)) where
     walk :
         Room T.the-row (length ys) → i < 2 ^ 64 → s < 2 ^ 32 → leg < 2 ^ 32
@@ -190,14 +184,14 @@ module _
         pass1 ! (init ! 22 refl (tt, record { fits = gs })) $ pass1 ! (init ! 20 refl (tt, record { fits = gl })) $ pass0 ! $
         move ! (31 ∷ []) $ fsplit ! $ fsplit ! $ move ! (1 ∷ []) $ fsplit ! $ move ! (34 ∷ []) $ split ! $ move ! (2 ∷ 3 ∷ 0 ∷ 5 ∷ []) $
         -- [obs; the borrow; the token; what i, the stop and the leg own; true; the slice's fact; _14; …; _0; …]
-        assigns ! (of-opd ! (load ! (from ! (fld ! refl (stop !))) (look-in ! 32 (sub ! 1 refl (whole !))))) (from ! (stop !))
+        assigns ! (of-opd ! (part ! 6 14 refl refl (whole !))) (from ! (stop !))
         (init ! 20 refl (tt, record { fits = room .0 })) $
-        assigns ! (bin ! (value ! 30 refl) (value ! 20 refl) tt) (from ! (stop !)) (init ! 18 refl (tt, tt)) $
-        first ! $ branches ! (value ! 18 refl)
+        assigns ! (bin ! (local ! 6 14 refl) (local ! 6 14 refl) tt) (from ! (stop !)) (init ! 18 refl (tt, tt)) $
+        first ! $ branches ! (local ! 6 14 refl)
         (λ inside.
-        assigns ! (bin ! (value ! 30 refl) (lit ! tt) (record { fits = fits inside })) (from ! (stop !))
+        assigns ! (bin ! (local ! 6 14 refl) (lit ! tt) (record { fits = fits inside })) (from ! (stop !))
         (init ! 16 refl (tt, record { fits = fits inside })) $
-        assigns ! (bin ! (load ! (from ! (fld ! refl (stop !))) (look-in ! 32 (sub ! 0 refl (whole !)))) (value ! 16 refl) tt)
+        assigns ! (bin ! (part ! 6 14 refl refl (whole !)) (local ! 6 14 refl) tt)
         (from ! (stop !)) (init ! 14 refl (tt, tt)) $
         rewrite ! 14 (λ (p : ℕ). ‵ (fat fullShare tyPtr l₁₀ 0 (vptr b p))) (sym (place-is 24 o i)) refl $
         opens-slice ! tt T.the-row ys b o $
@@ -206,18 +200,18 @@ module _
         -- [record i; what it owns; the others; the open borrow; obs; auth; what i, .. own; true; the slice's fact; _14; …; _0; …]
         assigns ! (of-opd ! (load ! (from ! (hop ! (look ! 17 refl) (stop !))) (look-raw ! 0 refl))) (from ! (stop !))
         (init ! 15 refl (typed 𝓤 H A W x is)) $
-        assigns ! (of-opd ! (value ! 15 refl)) (from ! (stop !)) (init ! 27 refl (typed 𝓤 H A W x is)) $
-        assigns ! (agg ! (and-then ! (value ! 31 refl) (and-then ! (value ! 29 refl) (no-more !)))) (from ! (stop !))
+        assigns ! (of-opd ! (local ! 9 14 refl)) (from ! (stop !)) (init ! 27 refl (typed 𝓤 H A W x is)) $
+        assigns ! (agg ! (and-then ! (local ! 9 14 refl) (and-then ! (local ! 9 14 refl) (no-more !)))) (from ! (stop !))
         (init ! 13 refl (LL.lawful D.the-type D′.the-laws 𝓤 H A W .typed (added s leg) _ (is-added s leg gs gl) .0)) $
         use0 W (raw (Callee 𝓤 H A mem run .pre (to 𝓤 H A mem run x s leg))) (asked 𝓤 H A mem run x s leg W gs gl is) $
         calls-at ! fm (Callee 𝓤 H A mem run) known (to 𝓤 H A mem run x s leg)
-        (and-then ! (load ! (from ! (fld ! refl (stop !))) (look-in ! 28 (sub ! 0 refl (whole !))))
-        (and-then ! (load ! (from ! (fld ! refl (stop !))) (look-in ! 28 (sub ! 1 refl (whole !))))
-        (and-then ! (load ! (from ! (fld ! refl (stop !))) (look-in ! 28 (sub ! 2 refl (whole !))))
-        (and-then ! (load ! (from ! (fld ! refl (stop !))) (look-in ! 28 (sub ! 3 refl (whole !))))
-        (and-then ! (load ! (from ! (fld ! refl (stop !))) (look-in ! 28 (sub ! 4 refl (whole !))))
-        (and-then ! (load ! (from ! (fld ! refl (stop !))) (look-in ! 28 (sub ! 5 refl (whole !))))
-        (and-then ! (value ! 14 refl) (no-more !))))))))
+        (and-then ! (part ! 10 14 refl refl (whole !))
+        (and-then ! (part ! 10 14 refl refl (whole !))
+        (and-then ! (part ! 10 14 refl refl (whole !))
+        (and-then ! (part ! 10 14 refl refl (whole !))
+        (and-then ! (part ! 10 14 refl refl (whole !))
+        (and-then ! (part ! 10 14 refl refl (whole !))
+        (and-then ! (local ! 10 14 refl) (no-more !))))))))
         (λ u. hears ! tt R.the-row (‵ ftrue) (Ensured 𝓤 H A mem run x s leg) (λ w. w ≡ answer 𝓤 H A mem run x s leg)
         (said 𝓤 H A mem run x s leg) u (id⊢ 𝓤 _) (λ w f is′. drop ! $ drop ! $
         (let e = LL.tells R.the-type R′.the-laws w (u ∷ []) is′ in
@@ -225,33 +219,33 @@ module _
         let isn = LL.owed R.the-type R′.the-laws w _ isw .1 .1 .0 in
         spelled e (
         land ! (from ! (stop !)) (init ! 25 refl (LL.lawful R.the-type R′.the-laws 𝓤 H A W .typed w _ isw .0)) $
-        assigns ! (bin ! (value ! 33 refl) (lit ! tt) (record { fits = fits inside })) (from ! (stop !))
+        assigns ! (bin ! (local ! 9 14 refl) (lit ! tt) (record { fits = fits inside })) (from ! (stop !))
         (store ! 19 refl (tt, record { fits = fits inside })) $
-        assigns ! (bin ! (load ! (from ! (fld ! refl (stop !))) (look-in ! 35 (sub ! 0 refl (whole !)))) (value ! 19 refl) tt)
+        assigns ! (bin ! (part ! 9 14 refl refl (whole !)) (local ! 9 14 refl) tt)
         (from ! (stop !)) (init ! 11 refl (tt, tt)) $
         rewrite ! 11 (λ (p : ℕ). ‵ (fat fullShare tyPtr l₁₃ 0 (vptr b p))) (sym (place-is 24 o i)) refl $
-        assigns ! (of-opd ! (load ! (from ! (fld ! refl (stop !))) (look-in ! 25 (sub ! 2 refl (whole !)))))
+        assigns ! (of-opd ! (part ! 9 14 refl refl (whole !)))
         (from ! (hop ! (look ! 11 refl) (stop !))) (store-raw ! 0 refl (typed 𝓤 H A W (w .node) isn)) $
         move ! (1 ∷ []) $ drop ! $ owned ! T.the-row (Is T.the-row) (LL.makes T.the-type T′.the-plain 𝓤 H A) (w .node) (vals (w .node)) isn $
         move ! (1 ∷ 0 ∷ []) $
         elem-put ! T.the-row fullShare ys i (w .node) (vals (w .node)) b o (ltb→lt i (length ys) inside) $
         closes-slice ! tt T.the-row ys (set ys i (w .node)) (length-set ys i (w .node)) b o $
-        assigns ! (of-opd ! (value ! 22 refl)) (from ! (stop !))
+        assigns ! (of-opd ! (local ! 6 14 refl)) (from ! (stop !))
         (init ! 34 refl (LL.lawful R.the-type R′.the-laws 𝓤 H A W .typed w _ isw .0)) $
         returns-within ! Post refl (look ! 34 refl) $ forget ! 8 refl $ forget ! 10 refl $ forget ! 12 refl $ forget ! 14 refl $
         forget ! 16 refl $ forget ! 18 refl $ forget ! 20 refl $ forget ! 22 refl $ forget ! 24 refl $ forget ! 26 refl $ forget ! 28 refl $
         forget ! 30 refl $ forget ! 32 refl $ forget ! 34 refl $
-        move ! rooms-at $ frees-all ! $ keep ! (0 ∷ 1 ∷ 2 ∷ 3 ∷ []) $
+        move ! (places 6 14) $ frees-all ! $ keep ! (0 ∷ 1 ∷ 2 ∷ 3 ∷ []) $
         by ! (exits w (set ys i (w .node)) isw (length-set ys i (w .node)) room (extended-inside ys i s leg w inside f))))))))
         (λ outside. skips ! $ exec ! C Λ _ none (atRet _ Post) $
         assigns ! (agg ! (and-then ! (lit ! tt) (and-then ! (lit ! tt)
         (and-then ! (lit ! tt) (and-then ! (lit ! tt) (and-then ! (lit ! tt) (and-then ! (lit ! tt) (no-more !)))))))) (from ! (stop !))
         (init ! 6 refl (typed 𝓤 H A W noRecord zeros)) $
-        assigns ! (agg ! (and-then ! (false-lit !) (and-then ! (false-lit !) (and-then ! (value ! 6 refl) (no-more !))))) (from ! (stop !))
+        assigns ! (agg ! (and-then ! (false-lit !) (and-then ! (false-lit !) (and-then ! (local ! 6 14 refl) (no-more !))))) (from ! (stop !))
         (init ! 34 refl (LL.lawful R.the-type R′.the-laws 𝓤 H A W .typed nothing-extended _ is-nothing .0)) $
         returns ! (look ! 34 refl) $ forget ! 6 refl $ forget ! 18 refl $ forget ! 20 refl $ forget ! 26 refl $ forget ! 28 refl $
         forget ! 30 refl $ forget ! 32 refl $ forget ! 34 refl $
-        move ! rooms-at $
+        move ! (places 6 14) $
         free1 ! $ free1 ! $ free1 ! $ free1 ! $ free1 ! $ free1 ! $ free1 ! $ free1 ! $ free1 ! $ free1 ! $ free1 ! $ free1 ! $ free1 ! $
         free1 ! $ free1 ! $ free0 ! $ keep ! (0 ∷ 1 ∷ 2 ∷ 3 ∷ []) $
         by ! (exits nothing-extended ys is-nothing refl room (extended-outside ys i s leg outside))))))))))))))))))
