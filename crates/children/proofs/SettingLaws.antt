@@ -1,5 +1,7 @@
 -- What the crates above ask of a setting d and a table's rows t.
---   setting-lawful, setting-bounds, setting-solvable, setting-weighs    the laws of the problem that the theory of crate `search` asks
+--   setting-lawful, setting-bounds, setting-solvable    the laws of the problem that the theory of crate `search` asks
+--   setting-counts                           no count of a run is above the number of all nodes
+--   choice-selection, choice-rules           the caller's choices are the setting's
 --   given-known, given-valid                 a starting order is a complete node of the tree, and a partial order
 --   encode-size, order-numbers               the record of a node has its size; that of an order has its cost and its words
 --   call-rows, call-problem, call-choices    a call's problem and choices are those of its job's setting and its table's rows
@@ -7,16 +9,19 @@
 use mathlib.Core.Path.{_≡_, refl, ap, sym, subst}
 use mathlib.Core.List.{List, [], _∷_, _++_, map}
 use mathlib.Core.Logic.{_⊎_, inl, inr}
-use Prim.Native.Nat.{ℕ, _-_, _%_}
+use mathlib.Core.Option.{Option}
+use Prim.Native.Nat.{ℕ, _-_, _%_, _≤_}
 use native.Mathlib.Omega.{arith}
 use lib.ListN.{length, take, drop, replicate}
 use Rattle.sizes.specs.Sizes.{recordWords, wordStops}
-use Rattle.search.specs.Problem.{State}
-use Rattle.search.specs.Run.{held}
+use Rattle.search.specs.Problem.{State, start}
+use Rattle.search.specs.Run.{held, Steps}
+use Rattle.search.proofs.Bounded.{Bounded, counts-bounded}
 use Rattle.search.proofs.Laws.{Lawful, BoundLaws, Solvable, Weighs, KnownIn, unknown, known}
 use Rattle.search.proofs.Plain.{tree}
 use Rattle.search.proofs.Mapped.{ValidBest}
 use Rattle.orders.specs.Orders.{Node, Partial, Order, size, nodes}
+use Rattle.orders.proofs.Partial.{partial-root, partial-size}
 use Rattle.orders.proofs.Order.{order-complete, order-leads}
 use Rattle.days.specs.Days.{problem, choices}
 use Rattle.days.proofs.Walk.{bound-exact, walk-lawful, walk-bound, day-weighs, day-solvable}
@@ -36,9 +41,27 @@ use Rattle.children.specs.Code.{Table, Rows, settingOf, problemOf, choic
 use Rattle.children.specs.declared.setting.Setting.{Setting}
 
 module _ (d : Setting) (t : Table) where
-  pub setting-weighs : Weighs (problemOf d t) (λ x. nodes (d .n - size (d .n) x))
+  pub choice-selection : choicesOf d t .selection ≡ d .selection
+  unfolding choicesOf choices
+  choice-selection = refl
+
+  pub choice-rules : choicesOf d t .rules ≡ d .rules
+  unfolding choicesOf choices
+  choice-rules = refl
+
+  setting-weighs : Weighs (problemOf d t) (λ x. nodes (d .n - size (d .n) x))
   unfolding problemOf
   setting-weighs = day-weighs (d .n) (dayOn (d .n) t)
+
+  pub setting-counts :
+      (capacity : ℕ) (best : Option Node) → d .selection ≤ 3 → {s : State Node}
+      → Steps (problemOf d t) (choicesOf d t) capacity (start (problemOf d t) best) s → Bounded (nodes (d .n)) s
+  unfolding problemOf problem
+  setting-counts capacity best selects {s} steps =
+      let e : size (d .n) [] ≡ 0 = partial-size (d .n) [] (partial-root (d .n)) in
+      let whole : d .n - size (d .n) [] ≡ d .n = omega arith in
+      subst (λ (m : ℕ). Bounded (nodes m) s) whole
+      (counts-bounded (problemOf d t) (choicesOf d t) capacity setting-weighs best (rw choice-selection selects) steps)
 
   pub given-known : (first : List ℕ) → (first ≡ []) ⊎ Order (d .n) first → KnownIn (problemOf d t) (given first)
   unfolding problemOf problem

@@ -2,7 +2,7 @@
 --   found       record i
 --   verdict     whether record i is a node's at all, for n stops
 --   flownAt     its stops in flown order, zeros behind
---   figures     its path cost and its bound by a job's number, against a table; the number is that of the first of causes 1 to 4 that applies
+--   figures     its path cost and its bound, against a job and its table; the number is that of the first of causes 1 to 4 that applies
 --   fits        whether a stop and its leg can be added to a record
 --   longer      the record with these added
 --   extension   record i with these added where they fit

@@ -14,8 +14,8 @@ use Rattle.records.specs.Records.{stopAt}
 use Rattle.answer.specs.Checks.{cause₁, cause₂, cause₃, cause₄, cause₅, jobCause}
 use Rattle.answer.specs.declared.Job.{Job}
 use Rattle.node_answers.specs.Nodes.{flownStops, isRecordOf, isNode}
-use Rattle.node_answers.specs.Answers.{isInside, noRecord, recordAt, found, verdict, flownAt, noFigures, figuresBy, figures, fits, longer}
-use Rattle.node_answers.specs.Answers.{extension, extendAt}
+use Rattle.node_answers.specs.Answers.{isInside, noRecord, recordAt, found, verdict, flownAt, noFigures, figuresBy, figures}
+use Rattle.node_answers.specs.Answers.{fits, longer, extension, extendAt}
 
 -- the record of 21: two stops, bits 0 and 1, path cost 7 + 8; stop 2 stands in the lowest four bits, stop 1 in the next
 twoOne : Record

@@ -4,7 +4,7 @@
 --   settle-ready      what `settle` asks
 --   finish-answers    the state is finished: number 0, U and its order
 --   full-answers      the next step does not fit: number 7, cost and order zero
--- Assumes nothing.
+--   never-refused     no other selection is left, since the call passed
 use mathlib.Core.Path.{_≡_, refl, ap, ap₂, sym, _∙_}
 use mathlib.Core.Bool.{Bool, true, false}
 use mathlib.Core.List.{List, [], _++_, map, map-append, reverse, reverse-reverse, append-assoc}
@@ -12,74 +12,51 @@ use mathlib.Core.Option.{Option, some}
 use Prim.Native.Nat.{ℕ, _+_, _-_, _/_, _%_, _≤_}
 use native.Mathlib.Omega.{arith}
 use lib.ListN.{length, take, drop, replicate, length-map, length-append, length-reverse}
-use Rattle.lists.specs.Lists.{from}
-use Rattle.search.specs.Problem.{State, upper}
+use Rattle.sizes.specs.Sizes.{orderPlaces, recordWords, wordStops}
+use Rattle.lists.specs.Lists.{from, padded}
+use Rattle.search.specs.Problem.{Problem, Choices, State, upper}
 use Rattle.search.specs.Step.{on}
-use Rattle.search.specs.Run.{withBranched, held, Next, finish, next, finished, Overflows}
+use Rattle.search.specs.Run.{withBranched, held, finish, next, finished, Overflows}
 use Rattle.search.proofs.Outcome.{next-overflows}
 use Rattle.orders.specs.Orders.{Node}
-use Rattle.orders.proofs.Order.{order-complete}
-use Rattle.stops.specs.Legs.{legs, rows, cost}
-use Rattle.stops.specs.Stops.{problem, choices}
+use Rattle.stops.specs.Tables.{rows}
 use Rattle.stops.specs.Code.{emptyRecord}
 use Rattle.stops.specs.declared.node_record.Record.{Record}
-use Rattle.stops.proofs.Bounds.{bound-exact}
-use Rattle.records.specs.Records.{padded, poolWords, recordsIn, orderWord, stopAt}
-use Rattle.records.specs.Code.{records, encode}
+use Rattle.records.specs.Records.{recordsIn, orderWord, stopAt}
+use Rattle.records.specs.Code.{records}
 use Rattle.records.proofs.ViewLaws.{length-records}
 use Rattle.records.proofs.OrderStops.{order-stops}
-use Rattle.records.proofs.PoolWords.{pool-words}
-use Rattle.sizes.specs.Sizes.{orderPlaces}
 use Rattle.answer.specs.Call.{Call}
 use Rattle.answer.specs.declared.Report.{Report}
 use Rattle.answer.specs.Checks.{cause}
-use Rattle.answer.specs.Answer.{legsOf, problemOf, choicesOf, outcome, StateOf, stopsOf, reportWith, wordsOf, ending, respond, answer}
-use Rattle.children.specs.Code.{Table, IsBest}
-use Rattle.step.specs.Code.{farOf, Shown}
-use Rattle.planner.specs.Code.{Running, Turned, recordsOf}
-use Rattle.step.specs.declared.Run.{Run}
-use Rattle.planner.specs.declared.run.Turn.the-variants.{Finish, Full}
+use Rattle.answer.specs.Answer.{problemOf, choicesOf, outcome, StateOf, stopsOf, reportWith, wordsOf, ending, respond, answer}
 use Rattle.answer.proofs.Passes.{passes}
 use Rattle.answer.proofs.Instance.{overflow-outcome, finish-outcome}
 use Rattle.answer.proofs.Ending.{Finished}
 use Rattle.answer.proofs.Demand3.{Solved, solved}
-use Rattle.planner.proofs.SearchLaws.{records-kept}
+use Rattle.children.specs.Code.{Table, settingOf, encodeOf, farIn, IsBest}
+use Rattle.children.specs.declared.setting.Setting.{Setting}
+use Rattle.children.proofs.SettingLaws.{call-problem, call-choices, call-words, order-numbers}
+use Rattle.step.specs.Code.{farOf, Shown}
+use Rattle.step.specs.declared.Run.{Run}
+use Rattle.step.proofs.ExpandLaws.{same-records}
+use Rattle.planner.specs.Code.{Running, Turned, Ended, recordsOf, nextOf, reported}
+use Rattle.planner.specs.declared.run.Turn.the-variants.{Finish, Full, Refused}
 
 pub record Stands (c : Call) (t : Table) (w : List ℕ) (r : Run) : Type 0 where
   pub passed : cause c ≡ 0
-  pub table : t ≡ rows (c .n) (c .table)
+  pub table : t ≡ rows (c .job .n) (c .table)
   pub long : length w ≡ length (c .pool)
   pub state : State Node
-  pub running : Running (c .n) t (c .selection) (c .rules) (c .bound) (c .start) w r state
+  pub running : Running (settingOf (c .job)) t (c .start) w r state
 
--- w′ is what `settle` makes of w; count is the number of its records
-pub record Settled (count : ℕ) (w : List ℕ) (r : Run) (w′ : List ℕ) : Type 0 where
+-- w′ is what `settle` makes of w
+pub record Settled (capacity : ℕ) (w : List ℕ) (r : Run) (w′ : List ℕ) : Type 0 where
   pub kept : length w′ ≡ length w
   pub layout :
       records w′
       ≡ take (r .active) (records w)
-      ++ (reverse (drop (count - r .held) (records w)) ++ replicate (count - (r .active + r .held)) emptyRecord)
-
--- the report of a run that has ended, with a number, a cost and an order's places
-abbrev pub reported : ℕ → ℕ → List ℕ → Run → Report
-reported number cost order r = record {
-  number = number;
-  cost = cost;
-  order = order;
-  branched = r .branched;
-  generated = r .generated;
-  eliminated = r .eliminated;
-  active = r .active;
-  most = r .most;
-}
-
--- the record of a node of a call
-abbrev recordOf : Call → Node → Record
-recordOf c = encode (c .n) (legsOf c) (c .bound)
-
--- what comes next of a state, by the table's rows
-abbrev nextOf : Call → Table → ℕ → State Node → Next Node
-nextOf c t count s = next (problem (c .n) (legs t)) (choices (c .n) (legs t) (c .selection) (c .rules) (c .bound)) count s
+      ++ (reverse (drop (capacity - r .far) (records w)) ++ replicate (capacity - (r .active + r .far)) emptyRecord)
 
 -- active and far records are those of the nodes to keep
 module _ {N : Type 0} (f : N → Record) (active branched : List N) where
@@ -102,68 +79,73 @@ module _ {c : Call} {t : Table} {w : List ℕ} {r : Run} (here : Stands c t w r)
   abbrev s : State Node
   s = here .state
 
-  number-same : length (records w) ≡ recordsIn (c .pool)
+  abbrev d : Setting
+  d = settingOf (c .job)
+
+  -- the record of a node
+  abbrev f : Node → Record
+  f = encodeOf (settingOf (c .job)) t
+
+  abbrev shown : Shown (settingOf (c .job)) w r (recordsOf (settingOf (c .job)) t s)
+  shown = here .running .shows
+
+  count-same : length (records w) ≡ recordsIn (c .pool)
   unfolding recordsIn
-  number-same = length-records w ∙ ap (λ (m : ℕ). m / 6) (here .long)
+  count-same = length-records w ∙ ap (λ (m : ℕ). m / recordWords) (here .long)
 
   pub settle-ready :
       (w₁ : List ℕ) → length w₁ ≡ length w
-      → (recordsIn (c .pool) ≡ length (records w₁)) × (r .active + r .held ≤ recordsIn (c .pool))
-  settle-ready w₁ kept = omega (arith, number-same, records-kept w₁ w kept, here .running .shows .fits)
+      → (recordsIn (c .pool) ≡ length (records w₁)) × (r .active + r .far ≤ recordsIn (c .pool))
+  settle-ready w₁ kept = omega (arith, count-same, same-records w w₁ kept, shown .fits)
 
   state-of : StateOf c s
-  unfolding problemOf choicesOf legsOf
-  state-of = rw (sym number-same, sym (here .table)) (here .running .steps)
+  state-of =
+      rw (← count-same, ← call-problem c (here .table), ← call-choices c (here .table)) (here .running .steps)
 
   -- what comes next, in words of the call
-  next-same : nextOf c t (length (records w)) s ≡ next (problemOf c) (choicesOf c) (recordsIn (c .pool)) s
-  unfolding problemOf choicesOf legsOf
-  next-same = ap (λ (m : ℕ). nextOf c t m s) number-same ∙ ap (λ (u : Table). nextOf c u (recordsIn (c .pool)) s) (here .table)
-
-  shown : Shown (c .rules) w r (recordsOf (c .n) (rows (c .n) (c .table)) (c .bound) s)
-  shown = rw (here .table) at (here .running .shows)
+  next-same : nextOf d t w s ≡ next (problemOf c) (choicesOf c) (recordsIn (c .pool)) s
+  next-same =
+      ap₂ (λ (P : Problem Node) (C : Choices Node). next P C (length (records w)) s) (call-problem c (here .table)) (call-choices c (here .table))
+      ∙ ap (λ (m : ℕ). next (problemOf c) (choicesOf c) m s) count-same
 
   settled-words : (w₁ w₂ : List ℕ) → w₁ ≡ w → Settled (recordsIn (c .pool)) w₁ r w₂ → w₂ ≡ wordsOf c s
-  unfolding wordsOf poolWords legsOf held recordsOf
-  settled-words w₁ w₂ same settled =
-      rw (sym (here .long), sym (ap length same), sym (settled .kept))
-      (pool-words (c .n) (legsOf c) (c .bound) w₂ (held (c .rules) s) whole layout)
+  unfolding held recordsOf
+  settled-words w₁ w₂ same settled = call-words c (here .table) s w₂ long (rw long (passes c (here .passed) .whole)) layout
     where
-      whole : length w₂ % 6 ≡ 0
-      whole = rw (settled .kept, same, here .long) (passes c (here .passed) .whole)
+      long : length w₂ ≡ length (c .pool)
+      long = settled .kept ∙ ap length same ∙ here .long
 
-      free : recordsIn (c .pool) - (r .active + r .held) ≡ length (records w₂) - length (held (c .rules) s)
+      free : recordsIn (c .pool) - (r .active + r .far) ≡ length (records w₂) - length (held (c .job .rules) s)
       free =
           omega (
             arith,
-            number-same,
-            records-kept w₂ w (settled .kept ∙ ap length same),
-            held-count (recordOf c) (s .active) (s .branched) (on 4 (c .rules)),
-            shown .number,
-            shown .held-number,
+            count-same,
+            same-records w w₂ (settled .kept ∙ ap length same),
+            held-count f (s .active) (s .branched) (on 4 (c .job .rules)),
+            shown .active-count,
+            shown .far-count,
           )
 
       layout :
-          records w₂
-          ≡ map (recordOf c) (held (c .rules) s) ++ replicate (length (records w₂) - length (held (c .rules) s)) emptyRecord
+          records w₂ ≡ map f (held (c .job .rules) s) ++ replicate (length (records w₂) - length (held (c .job .rules) s)) emptyRecord
       layout =
           settled .layout
-          ∙ rw (same, free, sym number-same, shown .active, shown .far)
-          (held-records (recordOf c) (s .active) (s .branched) (on 4 (c .rules))
-          (replicate (length (records w₂) - length (held (c .rules) s)) emptyRecord))
+          ∙ rw (same, free, ← count-same, shown .active, shown .far)
+          (held-records f (s .active) (s .branched) (on 4 (c .job .rules))
+          (replicate (length (records w₂) - length (held (c .job .rules) s)) emptyRecord))
 
   counts-reported :
       (number cost : ℕ) (places order : List ℕ) → places ≡ padded orderPlaces order
       → reported number cost places r ≡ reportWith number cost order s
-  unfolding reportWith recordsOf legsOf
+  unfolding reported reportWith recordsOf
   counts-reported number cost places order e = λ i. record {
     number = number;
     cost = cost;
     order = e i;
-    branched = (shown .branched ∙ length-map (s .branched) (recordOf c)) i;
+    branched = (shown .branched ∙ length-map (s .branched) f) i;
     generated = shown .generated i;
     eliminated = shown .eliminated i;
-    active = (shown .number ∙ length-map (s .active) (recordOf c)) i;
+    active = (shown .active-count ∙ length-map (s .active) f) i;
     most = shown .most i;
   }
 
@@ -184,35 +166,30 @@ module _ {c : Call} {t : Table} {w : List ℕ} {r : Run} (here : Stands c t w r)
 
     -- the numbers that stand for U's order are its cost and its words
     numbers-known :
-        (r .best .upper ≡ cost (legsOf c) x) × (r .best .first ≡ orderWord (take 8 x)) × (r .best .second ≡ orderWord (drop 8 x))
-    unfolding recordsOf encode legsOf
-    numbers-known = (best .0 ∙ exact, best .1, best .2)
-      where
-        best : IsBest (r .best) (some (recordOf c x))
-        best = rw (order-known .best) at (shown .best)
-
-        exact : recordOf c x .bound ≡ cost (legsOf c) x
-        exact = bound-exact (c .bound) (passes c (here .passed) .bound) (c .n) (legsOf c) x (order-complete (c .n) x (order-known .order))
+        (r .best .upper ≡ problemOf c .cost x) × (r .best .first ≡ orderWord (take wordStops x)) × (r .best .second ≡ orderWord (drop wordStops x))
+    unfolding recordsOf
+    numbers-known =
+        let best : IsBest (r .best) (some (f x)) = rw (order-known .best) at (shown .best) in
+        let (cost, one, two) = order-numbers (here .running .rows) x (order-known .order) in
+        (best .0 ∙ cost ∙ ap (λ (P : Problem Node). P .cost x) (call-problem c (here .table)), best .1 ∙ one, best .2 ∙ two)
 
     known-reported : reportWith 0 (r .best .upper) x s ≡ reportWith 0 (upper (problemOf c) (s .best)) (stopsOf (s .best)) s
-    unfolding problemOf problem
     known-reported =
         ap (λ (u : ℕ). reportWith 0 u x s) (numbers-known .0)
         ∙ ap (λ (b : Option Node). reportWith 0 (upper (problemOf c) b) (stopsOf b) s) (sym (order-known .best))
 
   pub finish-answers :
-      {w₁ w₂ : List ℕ} → Turned (c .n) t (c .selection) (c .rules) (c .bound) w w₁ s Finish → Settled (recordsIn (c .pool)) w₁ r w₂
-      → (places : List ℕ)
-      → places ≡ padded 16 (map (stopAt (r .best .first) (r .best .second)) (from 0 (c .n)))
-      → (q : Report) → q ≡ reported 0 (r .best .upper) places r → record { report = q; pool = w₂ } ≡ ending c (outcome c)
+      {w₁ w₂ : List ℕ} → Turned (settingOf (c .job)) t w w₁ (here .state) Finish → Settled (recordsIn (c .pool)) w₁ r w₂
+      → (places : List ℕ) → places ≡ padded orderPlaces (map (stopAt (r .best .first) (r .best .second)) (from 0 (c .job .n)))
+      → (q : Report) → q ≡ reported 0 (r .best .upper) places r → Ended c q w₂
   unfolding ending
   finish-answers {w₁} {w₂} turned settled places stops q e =
       ap₂ (λ (a : Report) (p : List ℕ). record { report = a; pool = p })
       (e
       ∙ counts-reported 0 (r .best .upper) places (x end)
       (stops
-      ∙ ap (padded 16)
-      (order-stops (c .n) (passes c (here .passed) .few) (x end) (order-known end .order) _ _ (numbers-known end .1) (numbers-known end .2)))
+      ∙ ap (padded orderPlaces)
+      (order-stops (c .job .n) (passes c (here .passed) .few) (x end) (order-known end .order) _ _ (numbers-known end .1) (numbers-known end .2)))
       ∙ known-reported end)
       (settled-words w₁ w₂ (turned .1) settled)
       ∙ ap (ending c) (sym (ran end))
@@ -221,14 +198,17 @@ module _ {c : Call} {t : Table} {w : List ℕ} {r : Run} (here : Stands c t w r)
       end = sym next-same ∙ turned .0
 
   pub full-answers :
-      {w₁ w₂ : List ℕ} → Turned (c .n) t (c .selection) (c .rules) (c .bound) w w₁ s Full → Settled (recordsIn (c .pool)) w₁ r w₂
-      → (q : Report) → q ≡ reported 7 0 (replicate 16 0) r → record { report = q; pool = w₂ } ≡ ending c (outcome c)
+      {w₁ w₂ : List ℕ} → Turned (settingOf (c .job)) t w w₁ (here .state) Full → Settled (recordsIn (c .pool)) w₁ r w₂
+      → (q : Report) → q ≡ reported 7 0 (replicate orderPlaces 0) r → Ended c q w₂
   unfolding ending padded
   full-answers {w₁} {w₂} turned settled q e =
       ap₂ (λ (a : Report) (p : List ℕ). record { report = a; pool = p })
-      (e ∙ counts-reported 7 0 (replicate 16 0) [] refl)
+      (e ∙ counts-reported 7 0 (replicate orderPlaces 0) [] refl)
       (settled-words w₁ w₂ (turned .1) settled)
       ∙ ap (ending c) (sym (overflow-outcome c state-of over))
     where
       over : Overflows (problemOf c) (choicesOf c) (recordsIn (c .pool)) s
       over = next-overflows (problemOf c) (choicesOf c) (recordsIn (c .pool)) (sym next-same ∙ turned .0)
+
+  pub never-refused : {w₁ : List ℕ} {number : ℕ} → Turned (settingOf (c .job)) t w w₁ (here .state) (Refused number) → ⊥
+  never-refused turned = omega (arith, here .running .selects)

@@ -1,57 +1,50 @@
-// The planner: `plan` is open to a caller; every other function is public for this crate alone, and what it requires its callers meet.
+// The planner: `plan` is open to a caller; the functions of `run` are this crate's own, and what they require `plan` meets.
 // specs/Answer of crate `answer` says what `plan` answers; specs/Code is the code's own.
 ghost use mathlib.Core.Path.{_≡_};
 ghost use Rattle.answer.specs.Call.{callOf};
 ghost use Rattle.answer.specs.Checks.{cause};
 ghost use Rattle.planner.specs.Promise.{Promised};
 
-pub mod run;
+mod run;
 
-use crate::run::Report;
 use crate::run::refused;
 use crate::run::search;
+use answer::Job;
+use answer::Report;
 use checks::job_cause;
+use children::setting::Setting;
+use sizes::RECORD_WORDS;
 
 // The number of the first of causes 1 to 6 that applies to a call, 0 if none does.
-fn cause_of(
-    n: u32,
-    table: &[u32],
-    selection: u32,
-    rules: u32,
-    bound: u32,
-    start: &[u8],
-    pool: &[u32],
-) -> u32
-    ensures { λ r. ⌜ r ≡ cause (callOf n (now (table .entry)) selection rules bound (now (start .entry)) (now (pool .entry))) ⌝ }
+fn cause_of(job: Job, table: &[u32], start: &[u8], pool: &[u32]) -> u32
+    ensures { λ r. ⌜ r ≡ cause (callOf job (now (table .entry)) (now (start .entry)) (now (pool .entry))) ⌝ }
 {
-    let number = job_cause(n, table, selection, rules, bound, start);
+    let number = job_cause(job, table, start);
     if number != 0 {
         return number;
     }
-    if pool.len() < 6 {
+    if pool.len() < RECORD_WORDS {
         return 6;
     }
-    if pool.len() % 6 != 0 {
+    if pool.len() % RECORD_WORDS != 0 {
         return 6;
     }
     0
 }
 
 // Puts the stops 1 to n into the cheapest order. The report and the pool's words are what document 01's run gives, over all inputs.
-pub fn plan(
-    n: u32,
-    table: &[u32],
-    selection: u32,
-    rules: u32,
-    bound: u32,
-    start: &[u8],
-    pool: &mut [u32],
-) -> Report
-    ensures { λ r. ⌜ Promised (callOf n (now (table .entry)) selection rules bound (now (start .entry)) (now (pool .entry))) r (now (pool .exit)) ⌝ }
+pub fn plan(job: Job, table: &[u32], start: &[u8], pool: &mut [u32]) -> Report
+    ensures { λ r. ⌜ Promised (callOf job (now (table .entry)) (now (start .entry)) (now (pool .entry))) r (now (pool .exit)) ⌝ }
 {
-    let number = cause_of(n, table, selection, rules, bound, start, pool);
+    let number = cause_of(job, table, start, pool);
     if number != 0 {
         return refused(number);
     }
-    search(n, table, selection, rules, bound, start, pool)
+    let setting = Setting {
+        n: job.n,
+        selection: job.selection,
+        rules: job.rules,
+        bound: job.bound,
+    };
+    search(setting, table, start, pool)
 }

@@ -3,114 +3,102 @@ ghost use mathlib.Core.Path.{_≡_};
 ghost use mathlib.Core.Bool.{not, _&&_, _||_};
 ghost use mathlib.Core.List.{List, []};
 ghost use mathlib.Core.Logic.{_⊎_};
-ghost use Prim.Native.Nat.{ℕ, _≤_, _<_};
+ghost use Prim.Native.Nat.{ℕ, _≤_};
 ghost use lib.Dec.{leb, eqb};
-ghost use lib.ListN.{length};
+ghost use lib.ListN.{length, take};
 ghost use Rattle.search.specs.Problem.{State, start};
 ghost use Rattle.orders.specs.Orders.{Node, Order};
-ghost use Rattle.stops.specs.Legs.{legs};
-ghost use Rattle.stops.specs.Stops.{problem};
 ghost use Rattle.records.specs.Code.{records};
+ghost use Rattle.selection.specs.Code.{Chosen};
 ghost use Rattle.answer.specs.Call.{callOf, refusal};
 ghost use Rattle.answer.specs.Checks.{cause};
-ghost use Rattle.answer.specs.Answer.{given, outcome, ending};
-ghost use Rattle.children.specs.Code.{Rows};
+ghost use Rattle.answer.specs.Answer.{given};
+ghost use Rattle.children.specs.Code.{jobOf, Rows, problemOf};
 ghost use Rattle.step.specs.Code.{Shown};
-ghost use Rattle.planner.specs.Code.{Running, Turned, recordsOf};
-ghost use Rattle.planner.specs.Promise.{reportOf};
+ghost use Rattle.planner.specs.Code.{Running, Turned, Ended, recordsOf, reported};
+use answer::Report;
 use children::best::started;
+use children::family::root;
+use children::setting::Setting;
 use pool::settle::settle;
 use records::load;
 use records::order::stops_of;
 use records::store;
 use selection::Place;
 use selection::choose;
+use sizes::ORDER_PLACES;
+use sizes::PLACES;
+use sizes::RECORD_WORDS;
 use step::After;
 use step::Run;
 use step::step;
-use stops::bound::ahead;
 use stops::node_record::Record;
 use stops::table::rows;
-
-// What a call answers.
-#[repr(C)]
-pub struct Report {
-    pub number: u32,
-    pub cost: u32,
-    pub order: [u8; 16],
-    pub branched: u64,
-    pub generated: u64,
-    pub eliminated: u64,
-    pub active: u64,
-    pub most: u64,
-}
 
 // What comes next of a state.
 pub enum Turn {
     Finish,
     Full,
+    Refused(u32),
     Go(Run),
 }
 
 // The finish test, on the chosen node.
-fn finishes(n: u32, selection: u32, b: Record, upper: u32, active: usize) -> bool
-    requires { ⌜ selection ≤ 3 ⌝ }
-    ensures { λ r. ⌜ r ≡ (leb upper (b .bound) && (not (eqb selection 2 || eqb selection 3) || eqb active 1) || eqb (b .size) n) ⌝ }
+fn finishes(setting: Setting, b: Record, upper: u32, active: usize) -> bool
+    requires { ⌜ setting .selection ≤ 3 ⌝ }
+    ensures { λ r. ⌜ r ≡ (leb upper (b .bound) && (not (eqb (setting .selection) 2 || eqb (setting .selection) 3) || eqb active 1) || eqb (b .size) (setting .n)) ⌝ }
 {
-    if b.size == n {
+    if b.size == setting.n {
         return true;
     }
     if b.bound < upper {
         return false;
     }
-    if selection < 2 {
+    if setting.selection < 2 {
         return true;
     }
     active == 1
 }
 
-// One turn: the selection, the finish test, the step.
-fn take_turn(
-    t: [[u32; 17]; 17],
-    n: u32,
-    selection: u32,
-    rules: u32,
-    number: u32,
-    w: &mut [u32],
-    r: Run,
-) -> Turn
-    requires { ⌜ ((first : List ℕ) × (s : State Node) × Running n t selection rules number first (now w) r s) ⌝ }
-    ensures { λ q. ⌜ ((first : List ℕ) (s : State Node) → Running n t selection rules number first (now (w .entry)) r s → Turned n t selection rules number (now (w .entry)) (now (w .exit)) s q) ⌝ }
+// The turn of the node at i, which the selection picked: the finish test, the step.
+fn turn_at(setting: Setting, t: [[u32; PLACES]; PLACES], w: &mut [u32], i: usize, r: Run) -> Turn
+    requires { ⌜ Chosen (setting .n) (take (r .active) (records (now w))) (setting .selection) i × ((first : List ℕ) × (s : State Node) × Running setting t first (now w) r s) ⌝ }
+    ensures { λ q. ⌜ ((first : List ℕ) (s : State Node) → Running setting t first (now (w .entry)) r s → Turned setting t (now (w .entry)) (now (w .exit)) s q) ⌝ }
 {
-    let a = r.active;
-    let place = choose(w, a, n, selection);
-    let Place::At(i) = place else {
-        return Turn::Finish;
-    };
     let b = load(w, i);
     let best = r.best;
-    if finishes(n, selection, b, best.upper, a) {
+    if finishes(setting, b, best.upper, r.active) {
         return Turn::Finish;
     }
-    let after = step(t, n, rules, number, w, i, b, r);
+    let after = step(setting, t, w, i, b, r);
     let After::Go(next) = after else {
         return Turn::Full;
     };
     Turn::Go(next)
 }
 
-// The start: e in the pool, and the starting order as the best known.
-fn begun(t: [[u32; 17]; 17], n: u32, number: u32, start: &[u8], w: &mut [u32]) -> Run
-    requires { ⌜ Rows n t number × (((now start ≡ []) ⊎ Order n (now start)) × (1 ≤ length (records (now w)))) ⌝ }
-    ensures { λ r. ⌜ ((rules : ℕ) → Shown rules (now (w .exit)) r (recordsOf n t number (Rattle.search.specs.Problem.start (problem n (legs t)) (given (now (start .entry)))))) ⌝ }
+// One turn: the selection, then the turn of the node that it picks. A selection that there is not is refused by its number.
+fn take_turn(setting: Setting, t: [[u32; PLACES]; PLACES], w: &mut [u32], r: Run) -> Turn
+    requires { ⌜ ((first : List ℕ) × (s : State Node) × Running setting t first (now w) r s) ⌝ }
+    ensures { λ q. ⌜ ((first : List ℕ) (s : State Node) → Running setting t first (now (w .entry)) r s → Turned setting t (now (w .entry)) (now (w .exit)) s q) ⌝ }
 {
-    let best = started(t, n, start);
-    let mut e = Record::empty();
-    e.bound = ahead(&t, number, 0, (1u32 << n) - 1);
-    store(w, 0, e);
+    let place = choose(w, r.active, setting.n, setting.selection);
+    match place {
+        Place::At(i) => turn_at(setting, t, w, i, r),
+        Place::Refused(number) => Turn::Refused(number),
+    }
+}
+
+// The start: e in the pool, and the starting order as the best known.
+fn begun(setting: Setting, t: [[u32; PLACES]; PLACES], start: &[u8], w: &mut [u32]) -> Run
+    requires { ⌜ Rows setting t × (((now start ≡ []) ⊎ Order (setting .n) (now start)) × (1 ≤ length (records (now w)))) ⌝ }
+    ensures { λ r. ⌜ Shown setting (now (w .exit)) r (recordsOf setting t (Rattle.search.specs.Problem.start (problemOf setting t) (given (now (start .entry))))) ⌝ }
+{
+    let best = started(setting, t, start);
+    store(w, 0, root(setting, t));
     Run {
         active: 1,
-        held: 0,
+        far: 0,
         best: best,
         branched: 0,
         generated: 1,
@@ -121,12 +109,12 @@ fn begun(t: [[u32; 17]; 17], n: u32, number: u32, start: &[u8], w: &mut [u32]) -
 
 // A refusal: its number, and zeros.
 pub fn refused(number: u32) -> Report
-    ensures { λ r. ⌜ reportOf r ≡ refusal number ⌝ }
+    ensures { λ r. ⌜ r ≡ refusal number ⌝ }
 {
     Report {
         number: number,
         cost: 0,
-        order: [0u8; 16],
+        order: [0u8; ORDER_PLACES],
         branched: 0,
         generated: 0,
         eliminated: 0,
@@ -136,8 +124,8 @@ pub fn refused(number: u32) -> Report
 }
 
 // The report of a run that has ended.
-fn ended(number: u32, cost: u32, order: [u8; 16], r: Run) -> Report
-    ensures { λ q. ⌜ reportOf q ≡ record { number = number; cost = cost; order = order; branched = r .branched; generated = r .generated; eliminated = r .eliminated; active = r .active; most = r .most } ⌝ }
+fn ended(number: u32, cost: u32, order: [u8; ORDER_PLACES], r: Run) -> Report
+    ensures { λ q. ⌜ q ≡ reported number cost order r ⌝ }
 {
     Report {
         number: number,
@@ -152,35 +140,35 @@ fn ended(number: u32, cost: u32, order: [u8; 16], r: Run) -> Report
 }
 
 // The run of a call that every check let pass.
-pub fn search(
-    n: u32,
-    table: &[u32],
-    selection: u32,
-    rules: u32,
-    number: u32,
-    start: &[u8],
-    w: &mut [u32],
-) -> Report
-    requires { ⌜ cause (callOf n (now table) selection rules number (now start) (now w)) ≡ 0 ⌝ }
-    ensures { λ q. ⌜ record { report = reportOf q; pool = now (w .exit) } ≡ ending (callOf n (now (table .entry)) selection rules number (now (start .entry)) (now (w .entry))) (outcome (callOf n (now (table .entry)) selection rules number (now (start .entry)) (now (w .entry)))) ⌝ }
+pub fn search(setting: Setting, table: &[u32], start: &[u8], w: &mut [u32]) -> Report
+    requires { ⌜ cause (callOf (jobOf setting) (now table) (now start) (now w)) ≡ 0 ⌝ }
+    ensures { λ q. ⌜ Ended (callOf (jobOf setting) (now (table .entry)) (now (start .entry)) (now (w .entry))) q (now (w .exit)) ⌝ }
 {
-    let t = rows(n as usize, table);
-    let count = w.len() / 6;
-    let mut r = begun(t, n, number, start, w);
+    let t = rows(setting.n as usize, table);
+    let capacity = w.len() / RECORD_WORDS;
+    let mut r = begun(setting, t, start, w);
     loop {
-        let next = take_turn(t, n, selection, rules, number, w, r);
+        let next = take_turn(setting, t, w, r);
         match next {
             Turn::Go(q) => {
                 r = q;
             }
             Turn::Finish => {
-                settle(w, count, r.active, r.held);
+                settle(w, capacity, r.active, r.far);
                 let best = r.best;
-                return ended(0, best.upper, stops_of(n, best.first, best.second), r);
+                return ended(
+                    0,
+                    best.upper,
+                    stops_of(setting.n, best.first, best.second),
+                    r,
+                );
             }
             Turn::Full => {
-                settle(w, count, r.active, r.held);
-                return ended(7, 0, [0u8; 16], r);
+                settle(w, capacity, r.active, r.far);
+                return ended(7, 0, [0u8; ORDER_PLACES], r);
+            }
+            Turn::Refused(number) => {
+                return refused(number);
             }
         }
     }

@@ -1,11 +1,11 @@
--- `ended` meets its contract: each field is what was passed. Assumes nothing.
+-- `ended` meets its contract: each field is what was passed.
 use mathlib.Core.Path.{refl}
-use Rattle.planner.specs.Promise.{reportOf}
+use Rattle.planner.specs.Code.{reported}
 use Rattle.planner.proofs.run.ended.Statement.{statement}
 use Rattle.planner.proofs.run.ended.Tie as tie
 
 returns : tie.Need-returns
-unfolding reportOf
+unfolding reported
 returns c = refl
 
 pub ended-spec : {M : Type 1} → statement M

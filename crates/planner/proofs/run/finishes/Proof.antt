@@ -1,5 +1,4 @@
 -- `finishes` meets its contract: each of its tests decides one part of the finish test. Past the third test the selection is 2 or 3.
--- Assumes nothing.
 use mathlib.Core.Path.{_≡_, refl}
 use mathlib.Core.Bool.{true, _||_, or-true, or-false}
 use Prim.Native.Nat.{ℕ, zero, suc, _≤_}
@@ -16,29 +15,43 @@ last-two (suc (suc zero)) h l = refl
 last-two (suc (suc (suc zero))) h l = refl
 last-two (suc (suc (suc (suc k)))) h l = absurd (omega arith)
 
+-- the function's entry, from where the first test has chosen, and the third
+abbrev entry : tie.Else1 → tie.Start
+entry c = c .before .before .before
+
+abbrev late : tie.Else2 → tie.Else1
+late c = c .before .before
+
 returns : tie.Need-returns
 returns c =
-    let a = c .before .before .args in
-    rw (eq-eqb (a .b .size) (a .n) (c .if1 .taken), or-true)
+    let a = c .before .before .before .args in
+    rw (eq-eqb (a .b .size) (a .setting .n) (c .if1 .taken), or-true)
 
 returns-2 : tie.Need-returns-2
 returns-2 c =
-    let a = c .before .before .before .before .args in
-    rw (ne-eqb (a .b .size) (a .n) (c .before .before .if1 .left), lt-leb (a .upper) (a .b .bound) (c .if2 .taken))
+    let first = c .before .before in
+    let a = entry first .args in
+    rw (ne-eqb (a .b .size) (a .setting .n) (first .if1 .left), lt-leb (a .upper) (a .b .bound) (c .if2 .taken))
 
 returns-3 : tie.Need-returns-3
 returns-3 c =
-    let a = c .before .before .before .before .before .args in
-    rw (le-leb (a .upper) (a .b .bound) (omega arith), ne-eqb (a .selection) 2 (λ e. omega arith), ne-eqb (a .selection) 3 (λ e. omega arith))
+    let second = c .before .before in
+    let a = entry (late second) .args in
+    rw (
+      le-leb (a .upper) (a .b .bound) (second .if2 .left),
+      ne-eqb (a .setting .selection) 2 (λ e. omega arith),
+      ne-eqb (a .setting .selection) 3 (λ e. omega arith),
+    )
 
 returns-4 : tie.Need-returns-4
 returns-4 c =
-    let start = c .before .before .before .before .before in
+    let second = c .before .before in
+    let start = entry (late second) in
     let a = start .args in
     rw (
-      ne-eqb (a .b .size) (a .n) (c .before .before .before .if1 .left),
-      le-leb (a .upper) (a .b .bound) (omega arith),
-      last-two (a .selection) (omega arith) (start .pre),
+      ne-eqb (a .b .size) (a .setting .n) (late second .if1 .left),
+      le-leb (a .upper) (a .b .bound) (second .if2 .left),
+      last-two (a .setting .selection) (c .if3 .left) (start .pre),
       or-false,
     )
 

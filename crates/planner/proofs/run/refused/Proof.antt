@@ -1,12 +1,11 @@
--- `refused` meets its contract: each field is the one that `refusal` names. Assumes nothing.
+-- `refused` meets its contract: each field is the one that `refusal` names.
 use mathlib.Core.Path.{refl}
 use Rattle.answer.specs.Call.{refusal}
-use Rattle.planner.specs.Promise.{reportOf}
 use Rattle.planner.proofs.run.refused.Statement.{statement}
 use Rattle.planner.proofs.run.refused.Tie as tie
 
 returns : tie.Need-returns
-unfolding reportOf refusal
+unfolding refusal
 returns c = refl
 
 pub refused-spec : {M : Type 1} → statement M
