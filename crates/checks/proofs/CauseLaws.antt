@@ -14,7 +14,7 @@ use Rattle.sizes.specs.Sizes.{mostStops, dearest}
 use Rattle.lists.specs.Lists.{any, from}
 use Rattle.lists.proofs.Tests.{both-false}
 use Rattle.orders.specs.Orders.{isOrder}
-use Rattle.stops.specs.Legs.{entry}
+use Rattle.stops.specs.Tables.{entry}
 use Rattle.answer.specs.declared.Job.{Job}
 use Rattle.answer.specs.Checks.{cause₁, cause₂, cause₃, cause₄, cause₅, isEmpty, orLater, jobCause}
 use Rattle.answer.proofs.JobCause.{First, first-later, first-or}

@@ -1,5 +1,4 @@
 -- The figures of a record: what the checks that a job passes say of its table, and the bound from the set of a node's record.
---
 use mathlib.Core.Path.{_≡_, refl, sym, _∙_}
 use mathlib.Core.Bool.{Bool, true, false, not, _||_}
 use mathlib.Core.List.{List, []}
@@ -16,12 +15,12 @@ use Rattle.lists.proofs.Tests.{to-true, not-either, twice-not}
 use Rattle.lists.proofs.Members.{in-any}
 use Rattle.orders.specs.Orders.{size}
 use Rattle.orders.proofs.Sets.{size-left}
-use Rattle.stops.specs.Legs.{Legs, entry, rows, legs, path, last}
-use Rattle.stops.specs.Bounds.{boundBy}
-use Rattle.stops.specs.Code.{stopsIn, ahead, Within}
+use Rattle.stops.specs.Tables.{entry, rows}
+use Rattle.stops.specs.Stops.{dayOn}
+use Rattle.stops.specs.Code.{stopsIn, reckonOn, Cheap}
 use Rattle.stops.specs.declared.node_record.Record.{Record}
-use Rattle.stops.proofs.LegTable.{legs-within}
-use Rattle.stops.proofs.Bounds.{bound-ahead}
+use Rattle.stops.proofs.LegTable.{rows-cheap}
+use Rattle.stops.proofs.StopsWalk.{rows-walk}
 use Rattle.records.proofs.Mask.{mask-stops, rest-left}
 use Rattle.answer.specs.Checks.{cause₁, cause₂, cause₃, cause₄, cause₅, orLater, jobCause}
 use Rattle.answer.specs.declared.Job.{Job}
@@ -59,12 +58,12 @@ module _ (job : Job) (table : List ℕ) (none : jobCause job table [] 0 ≡ 0) w
       let area : ℕ = suc n * suc n in
       eqb→eq (length table) area (twice-not (eqb (length table) area) (passed .1))
 
-  pub job-within : Within dearest (legs (rows (job .n) table))
+  pub job-cheap : Cheap (rows (job .n) table)
   unfolding cause₃
-  job-within =
+  job-cheap =
       let cheap : T (not (any (ltb dearest) table)) =
       not-either (any (ltb dearest) table) (any (λ i. not (eqb (entry n table i i) 0)) (from 0 (suc n))) (passed .2) .0 in
-      legs-within n table dearest
+      rows-cheap n table
       (λ w m. nltb→le dearest w (not-T (ltb dearest w) (λ h. T-not (any (ltb dearest) table) cheap (in-any (ltb dearest) table w m h))))
 
   pub job-bound : job .bound ≤ 1
@@ -74,7 +73,7 @@ module _ (job : Job) (table : List ℕ) (none : jobCause job table [] 0 ≡ 0) w
 -- all stops of n, and one more, as a shift gives it
 pub one-shifted : (n : ℕ) → n ≤ mostStops → (1 * 2 ^ n) % 4_294_967_296 ≡ 2 ^ n
 one-shifted n few =
-    let k : 2 ^ n ≤ 2 ^ 16 = pow-mono {i = n} {j = 16} few in
+    let k : 2 ^ n ≤ 2 ^ mostStops = pow-mono {i = n} {j = mostStops} few in
     mod-eq-of-lt {n = 1 * 2 ^ n} (omega arith) ∙ (let e : 1 * 2 ^ n ≡ 2 ^ n = omega arith in e)
 
 module _ (n : ℕ) (x : Record) (node : T (isNode n x)) where
@@ -89,17 +88,19 @@ module _ (n : ℕ) (x : Record) (node : T (isNode n x)) where
   set-within = omega (arith, q .set-is, mask-stops n (flownStops x))
 
   pub bound-sum :
-      (L : Legs) (bound : ℕ) → bound ≤ 1
-      → path L (flownStops x) + ahead bound L (last (flownStops x)) (stopsIn (2 ^ n - 1 - x .set)) ≡ boundBy bound n L (flownStops x)
-  bound-sum L bound h = rw (rest-left n (q .few) (flownStops x) (x .set) (q .set-is)) (sym (bound-ahead bound h n L (flownStops x)))
+      (t : List (List ℕ)) (bound : ℕ) → bound ≤ 1
+      → dayOn n t .path (flownStops x) + reckonOn t .ahead bound (reckonOn t .place (flownStops x)) (stopsIn (2 ^ n - 1 - x .set))
+      ≡ dayOn n t .bound bound (flownStops x)
+  bound-sum t bound h =
+      rw (rest-left n (q .few) (flownStops x) (x .set) (q .set-is)) (sym (rows-walk n t .bound-ahead bound h (flownStops x)))
 
 -- the figures of a node's record, from a path cost, a last place and what the bound adds to it; and figures that there are none of
 module _ (x : Record) (job : Job) (table : List ℕ) where
   pub figures-node :
       T (isNode (job .n) x) → jobCause job table [] 0 ≡ 0
       → (t : List (List ℕ)) (cost place rest more : ℕ) → t ≡ rows (job .n) table
-      → cost ≡ path (legs t) (flownStops x) → place ≡ last (flownStops x)
-      → rest ≡ 2 ^ job .n - 1 - x .set → more ≡ ahead (job .bound) (legs t) place (stopsIn rest)
+      → cost ≡ dayOn (job .n) t .path (flownStops x) → place ≡ reckonOn t .place (flownStops x)
+      → rest ≡ 2 ^ job .n - 1 - x .set → more ≡ reckonOn t .ahead (job .bound) place (stopsIn rest)
       → record { inside = true; number = 0; node = true; path = cost; bound = cost + more } ≡ figures true x job table
   unfolding figures figuresBy
   figures-node node none t cost place rest more et ec ep er em =
@@ -109,7 +110,7 @@ module _ (x : Record) (job : Job) (table : List ℕ) where
         ep,
         er,
         et,
-        bound-sum (job .n) x node (legs (rows (job .n) table)) (job .bound) (job-bound job table none),
+        bound-sum (job .n) x node (rows (job .n) table) (job .bound) (job-bound job table none),
         to-true (isNode (job .n) x) node,
         none,
       ) refl
@@ -122,7 +123,7 @@ module _ (x : Record) (job : Job) (table : List ℕ) where
   unfolding figures figuresBy
   figures-refused number e h = rw (← e) (go (isNode (job .n) x) number h)
     where
-      go : (b : Bool) (k : ℕ) → k ≢ 0 → noFigures true k ≡ figuresBy b k x job (legs (rows (job .n) table))
+      go : (b : Bool) (k : ℕ) → k ≢ 0 → noFigures true k ≡ figuresBy b k x job (dayOn (job .n) (rows (job .n) table))
       go true zero h = absurd (h refl)
       go true (suc k) h = refl
       go false k h = refl
@@ -141,8 +142,8 @@ figures-numbers true x job table = go (isNode (job .n) x) (jobCause job table []
   where
     go :
         (b : Bool) (k : ℕ)
-        → figuresBy b k (ofNumbers (x .size) (x .set) (x .first) (x .second)) job (legs (rows (job .n) table))
-        ≡ figuresBy b k x job (legs (rows (job .n) table))
+        → figuresBy b k (ofNumbers (x .size) (x .set) (x .first) (x .second)) job (dayOn (job .n) (rows (job .n) table))
+        ≡ figuresBy b k x job (dayOn (job .n) (rows (job .n) table))
     go true zero = refl
     go true (suc k) = refl
     go false k = refl

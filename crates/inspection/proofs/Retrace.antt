@@ -16,14 +16,13 @@ use Rattle.lists.proofs.Tests.{same-tests}
 use Rattle.lists.proofs.Members.{in-head, keep-in}
 use Rattle.lists.proofs.Empty.{no-members}
 use Rattle.lists.proofs.Distinct.{append-apart}
-use Rattle.orders.specs.Orders.{Node, stops, flown, setOf, left, size, extend, Partial}
+use Rattle.orders.specs.Orders.{Node, stops, flown, setOf, left, size, extend, Partial, mask}
 use Rattle.orders.proofs.Sets.{stops-in, in-set, in-flown, flown-in, left-in, extend-child}
 use Rattle.orders.proofs.Partial.{partial-root, partial-size, partial-child}
-use Rattle.stops.specs.Legs.{Legs, path}
-use Rattle.stops.specs.Code.{stopsIn, emptyRecord, extended, Wide, Within}
-use Rattle.stops.proofs.Paths.{path-small}
+use Rattle.days.specs.Days.{Day}
+use Rattle.stops.specs.Code.{stopsIn, emptyRecord, extended, Wide}
 use Rattle.stops.specs.declared.node_record.Record.{Record}
-use Rattle.records.specs.Records.{mask, orderWord}
+use Rattle.records.specs.Records.{orderWord}
 use Rattle.records.specs.Code.{encode}
 use Rattle.records.proofs.OrderWords.{stop-range}
 use Rattle.records.proofs.Mask.{stops-set}
@@ -32,9 +31,9 @@ use Rattle.node_answers.specs.Nodes.{flownStops, isNode}
 use Rattle.node_answers.proofs.StopLaws.{stopOf, stops-length, stops-next, stop-here}
 use Rattle.node_answers.proofs.NodeLaws.{node-record, record-node, no-node}
 
--- legs that cost nothing: what is built has no path cost
-abbrev free : Legs
-free = record { leg = λ r s. 0; home = λ s. 0 }
+-- a day on which nothing costs anything: what is built has no path cost
+abbrev free : Day
+free = record { path = λ x. 0; cost = λ x. 0; bound = λ k x. 0; dominates = λ y z. false }
 
 abbrev built : ℕ → Node → Record
 built n z = unbounded (encode n free 0 z)
@@ -44,15 +43,12 @@ unfolding flown
 set-none n = no-members (setOf n []) (λ s m. in-set n [] s m .2)
 
 built-none : (n : ℕ) → emptyRecord ≡ built n []
-unfolding encode emptyRecord size mask path
+unfolding encode emptyRecord size mask
 built-none n = rw (set-none n) refl
 
 built-set : (n : ℕ) (z : Node) → built n z .set ≡ mask (setOf n z)
 unfolding encode
 built-set n z = refl
-
-costless : Within 0 free
-costless = record { leg = λ i j. omega arith; home = λ s. omega arith }
 
 wide-unbounded : {v : Record} {s leg : ℕ} → Wide v s leg → Wide (unbounded v) s leg
 wide-unbounded w = record {
@@ -136,7 +132,7 @@ module _ {n : ℕ} {x w : Record} {k : ℕ} (r : Retraced n x w k) where
         unfolding y z
         stop-fits =
             rw (r .same) (wide-unbounded (encode-wide n (r .few) free 0 z (r .node) (stopOf x k) free-stop 0
-            (omega (arith, path-small 0 free costless z))))
+            (omega arith)))
 
         pub stop-added : Retraced n x (extended w (stopOf x k) 0) (k + 1)
         unfolding y z extended
@@ -148,7 +144,7 @@ module _ {n : ℕ} {x w : Record} {k : ℕ} (r : Retraced n x w k) where
           node =
               subst (Partial n) (sym (stops-next x k inside)) (partial-child n z (extend z (stopOf x k)) (r .node)
               (extend-child n z (stopOf x k) free-stop));
-          same = rw (r .same, stops-next x k inside) (encode-extend n (r .few) free 0 z (r .node) (stopOf x k) free-stop);
+          same = rw (r .same, stops-next x k inside) (encode-extend n (r .few) free 0 z (r .node) (stopOf x k) free-stop 0 (omega arith));
         }
 
   module _ (whole : x .size ≤ k) where

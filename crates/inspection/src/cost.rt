@@ -4,9 +4,8 @@ ghost use mathlib.Core.Bool.{true};
 ghost use mathlib.Core.List.{[]};
 ghost use Prim.Native.Nat.{_≤_};
 ghost use lib.Dec.{T};
-ghost use Rattle.sizes.specs.Sizes.{mostStops, dearest};
-ghost use Rattle.stops.specs.Legs.{legs};
-ghost use Rattle.stops.specs.Code.{Within};
+ghost use Rattle.sizes.specs.Sizes.{mostStops};
+ghost use Rattle.stops.specs.Code.{Cheap};
 ghost use Rattle.answer.specs.Checks.{jobCause};
 ghost use Rattle.node_answers.specs.Answers.{figures, noFigures};
 ghost use Rattle.node_answers.specs.Nodes.{isNode};
@@ -18,7 +17,7 @@ use node_answers::Figures;
 use records::order::stop_at;
 use sizes::PLACES;
 use stops::bound::ahead;
-use stops::table::leg;
+use stops::table::further;
 use stops::table::rows;
 
 // Where a path stands: what it cost, and its last place.
@@ -29,15 +28,15 @@ struct Walked {
 
 // Flies the stops of a record's order.
 fn along(t: &[[u32; PLACES]; PLACES], size: u32, first: u32, second: u32) -> Walked
-    requires { ⌜ (size ≤ mostStops) × Within dearest (legs (now t)) ⌝ }
-    ensures { λ r. ⌜ Flew (legs (now (t .entry))) (ofNumbers size 0 first second) (r .path) (r .place) ⌝ }
+    requires { ⌜ (size ≤ mostStops) × Cheap (now t) ⌝ }
+    ensures { λ r. ⌜ Flew (now (t .entry)) (ofNumbers size 0 first second) (r .path) (r .place) ⌝ }
 {
     let mut path = 0;
     let mut place = 0;
     let mut k = 0;
     while k < size {
         let s = stop_at(first, second, k);
-        path += leg(t, place, s);
+        path += further(t, place, s);
         place = s;
         k += 1;
     }

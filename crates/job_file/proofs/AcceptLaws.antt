@@ -12,7 +12,7 @@ use native.Mathlib.Omega.{arith}
 use lib.ListN.{length, getD, take, drop, length-drop}
 use lib.Seq.{length-take-le}
 use Rattle.sizes.specs.Sizes.{tableNumbers, orderPlaces}
-use Rattle.records.specs.Records.{padded}
+use Rattle.lists.specs.Lists.{padded}
 use Rattle.answer.specs.Checks.{cause₁, jobCause}
 use Rattle.answer.specs.declared.Job.{Job}
 use Rattle.job_format.specs.Contents.{Contents, contentsOf, Trailer, trailerLength, area, startPlaceOf, fileLength}

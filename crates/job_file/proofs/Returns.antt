@@ -8,7 +8,7 @@ use Prim.Native.Nat.{ℕ, zero, suc, _≤_}
 use native.Mathlib.Omega.{arith}
 use lib.ListN.{length, take, length-append}
 use Rattle.sizes.specs.Sizes.{mostStops, tableNumbers, orderPlaces}
-use Rattle.records.specs.Records.{padded}
+use Rattle.lists.specs.Lists.{padded}
 use Rattle.job_format.specs.Bytes.{overwrite}
 use Rattle.job_format.specs.Contents.{Contents, contentsOf, area, bytesOf}
 use Rattle.job_format.specs.Reader.{read}

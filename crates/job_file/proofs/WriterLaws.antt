@@ -10,9 +10,9 @@ use native.Mathlib.Omega.{arith}
 use lib.ListN.{length, set, length-append}
 use lib.Seq.{sets, drop-length}
 use borrow.Rule.Slice.PartMut.{midOf, putMid, post-is}
-use Rattle.stops.proofs.RowLaws.{part-from}
 use Rattle.sizes.specs.Sizes.{mostStops, tableNumbers}
 use Rattle.lists.specs.Lists.{each}
+use Rattle.lists.proofs.Elements.{part-from}
 use Rattle.answer.specs.declared.Job.{Job}
 use Rattle.job_format.specs.Bytes.{word, overwrite}
 use Rattle.job_format.specs.Contents.{contentsOf, trailerLength, area, trailerOf, trailerBytes, bytesOf}

@@ -5,7 +5,7 @@ use mathlib.Core.List.{List}
 use Prim.Native.Nat.{ℕ}
 use lib.ListN.{length, take}
 use Rattle.sizes.specs.Sizes.{tableNumbers, orderPlaces}
-use Rattle.records.specs.Records.{padded}
+use Rattle.lists.specs.Lists.{padded}
 use Rattle.job_format.specs.Contents.{Contents, contentsOf, area}
 use Rattle.job_format.specs.Reader.{Reading}
 use Rattle.job_format.specs.Writer.{Writing, write}

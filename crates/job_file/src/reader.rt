@@ -3,7 +3,7 @@ ghost use mathlib.Core.Path.{_≡_};
 ghost use Prim.Native.Nat.{_*_, _≤_};
 ghost use lib.ListN.{length};
 ghost use Rattle.sizes.specs.Sizes.{mostStops, tableNumbers, orderPlaces};
-ghost use Rattle.records.specs.Records.{padded};
+ghost use Rattle.lists.specs.Lists.{padded};
 ghost use Rattle.job_format.specs.Bytes.{wordBytes};
 ghost use Rattle.job_format.specs.Contents.{trailerLength};
 ghost use Rattle.job_format.specs.Reader.{wordsIn, trailerFrom, contentsBy, misplaced, refusal, read};

@@ -13,10 +13,9 @@ use native.Mathlib.Numerals.{add-one, towards-suc}
 use native.Mathlib.Omega.{arith}
 use lib.ListN.{length, getD, set, take, drop, replicate, length-append, length-drop, length-map}
 use lib.Seq.{sets, sets-eq, take-append-seam, drop-append-seam, drop-append-add, drop-drop, take-suc, length-take-le}
-use Rattle.lists.specs.Lists.{from, each}
+use Rattle.lists.specs.Lists.{from, each, padded}
 use Rattle.lists.proofs.Map.{map-from}
 use Rattle.lists.proofs.Members.{in-head, length-from}
-use Rattle.records.specs.Records.{padded}
 use Rattle.job_format.specs.Bytes.{leastFirst, valueOf, word, wordAt, overwrite, AllBytes}
 use Rattle.job_format.specs.Reader.{wordsIn}
 use Rattle.job_format.specs.Cases

@@ -7,7 +7,7 @@ use lib.ListN.{length, replicate, take, drop}
 use Rattle.sizes.specs.Sizes.{mostStops, longest}
 use Rattle.lists.specs.Lists.{each}
 use Rattle.orders.specs.Orders.{flown, count, isOrder}
-use Rattle.stops.specs.Legs.{entry}
+use Rattle.stops.specs.Tables.{entry}
 use Rattle.answer.specs.declared.Job.{Job}
 use Rattle.answer.specs.Checks.{cause₁, cause₂, cause₃, cause₄, cause₅, jobCause}
 use Rattle.answer.specs.Cases.{tableT}

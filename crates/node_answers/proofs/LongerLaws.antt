@@ -1,8 +1,8 @@
 -- A record with a stop added: it is the record of the node one stop longer.
 --   Fits, fits-parts, parts-fit    what `fits` says
 --   longer-stops, longer-node      the stops of the longer record, and that it is a node's again
---   extension-node                 the record that the pool holds of a node, extended by a stop that the node leaves and the leg to it, is
---                                  the one that it would hold of the longer node, but for the bound
+--   extension-node                 the record that the pool holds of a node, extended by a stop that the node leaves and by what the path
+--                                  cost grows by, is the one that it would hold of the longer node, but for the bound
 --   run-inside                     the run afterwards is the run with the answer in the place of record i
 --   run-outside, run-unfit         past the end, and where the stop does not fit, it is as it was
 use mathlib.Core.Path.{_≡_, refl, ap, sym, subst}
@@ -21,9 +21,8 @@ use Rattle.lists.proofs.Empty.{no-members}
 use Rattle.orders.specs.Orders.{Node, flown, setOf, left, size, extend, Partial}
 use Rattle.orders.proofs.Sets.{in-flown, flown-in, in-left, left-in, extend-child}
 use Rattle.orders.proofs.Partial.{partial-child}
-use Rattle.stops.specs.Legs.{Legs, path, last}
+use Rattle.days.specs.Days.{Day}
 use Rattle.stops.specs.declared.node_record.Record.{Record}
-use Rattle.stops.proofs.Paths.{path-extend}
 use Rattle.records.specs.Code.{encode}
 use Rattle.records.proofs.Encode.{unbounded}
 use Rattle.node_answers.specs.Nodes.{flownStops, isNode}
@@ -117,48 +116,50 @@ module _ (n : ℕ) (few : n ≤ mostStops) (y : Node) (p : Partial n y) where
   partial-more = record { once = p .once; only = λ s m. let h : (1 ≤ s) × (s ≤ n) = p .only s m in (h .0, omega arith) }
 
 module _
-    (n : ℕ) (few : n ≤ mostStops) (L : Legs) (k : ℕ) (y : Node) (p : Partial n y) (s : ℕ) (m : In s (left n y)) where
-  abbrev x : Record
-  x = encode n L k y
+    (n : ℕ) (few : n ≤ mostStops) (D : Day) (k : ℕ) (y : Node) (p : Partial n y) (s : ℕ) (m : In s (left n y)) (leg : ℕ)
+    (grows : D .path (extend y s) ≡ D .path y + leg)
+  where
+    abbrev x : Record
+    x = encode n D k y
 
-  node-more : NodeRecord mostStops x y
-  unfolding encode
-  node-more = record {
-    some = omega arith;
-    few = omega arith;
-    node = partial-more n few y p;
-    size-is = size-more n few y p;
-    set-is = rw (set-more n few y p) refl;
-    first-is = refl;
-    second-is = refl;
-  }
+    node-more : NodeRecord mostStops x y
+    unfolding encode
+    node-more = record {
+      some = omega arith;
+      few = omega arith;
+      node = partial-more n few y p;
+      size-is = size-more n few y p;
+      set-is = rw (set-more n few y p) refl;
+      first-is = refl;
+      second-is = refl;
+    }
 
-  same-stops : flownStops x ≡ y
-  same-stops = stops-record node-more
+    same-stops : flownStops x ≡ y
+    same-stops = stops-record node-more
 
-  -- its stop and the leg to it fit
-  fits-node : path L (extend y s) < 2 ^ 32 → Fits x s (L .leg (last y) s)
-  unfolding encode
-  fits-node small = record {
-    node = subst (NodeRecord mostStops x) (sym same-stops) node-more;
-    leaves =
-        let h = in-left n y s m in
-        rw same-stops (left-in mostStops y s (h .0) (omega (arith, h .1)) (h .2));
-    small = omega (arith, path-extend L y s);
-  }
+    -- its stop and the leg to it fit
+    fits-node : D .path (extend y s) < 2 ^ 32 → Fits x s leg
+    unfolding encode
+    fits-node small = record {
+      node = subst (NodeRecord mostStops x) (sym same-stops) node-more;
+      leaves =
+          let h = in-left n y s m in
+          rw same-stops (left-in mostStops y s (h .0) (omega (arith, h .1)) (h .2));
+      small = omega (arith, grows);
+    }
 
-  longer-encode : longer x s (L .leg (last y) s) ≡ unbounded (encode n L k (extend y s))
-  unfolding longer encode
-  longer-encode =
-      let q : Partial n (extend y s) = partial-child n y (extend y s) p (extend-child n y s m) in
-      rw (same-stops, path-extend L y s, size-more n few (extend y s) q, set-more n few (extend y s) q) refl
+    longer-encode : longer x s leg ≡ unbounded (encode n D k (extend y s))
+    unfolding longer encode
+    longer-encode =
+        let q : Partial n (extend y s) = partial-child n y (extend y s) p (extend-child n y s m) in
+        rw (same-stops, grows, size-more n few (extend y s) q, set-more n few (extend y s) q) refl
 
-  pub extension-node :
-      path L (extend y s) < 2 ^ 32
-      → extension true (encode n L k y) s (L .leg (last y) s)
-      ≡ record { inside = true; fits = true; node = unbounded (encode n L k (extend y s)) }
-  unfolding extension
-  extension-node small = rw (to-true (fits x s (L .leg (last y) s)) (parts-fit x s (L .leg (last y) s) (fits-node small)), longer-encode) refl
+    pub extension-node :
+        D .path (extend y s) < 2 ^ 32
+        → extension true (encode n D k y) s leg
+        ≡ record { inside = true; fits = true; node = unbounded (encode n D k (extend y s)) }
+    unfolding extension
+    extension-node small = rw (to-true (fits x s leg) (parts-fit x s leg (fits-node small)), longer-encode) refl
 
 -- the run afterwards
 module _ (xs : List Record) (i stop leg : ℕ) where

@@ -9,10 +9,10 @@ use Rattle.sizes.specs.Sizes.{mostStops, wordStops}
 use Rattle.lists.specs.Lists.{all, Distinct, none, more}
 use Rattle.lists.proofs.Tests.{and-left, and-right, and-both, to-false, equal-eqb}
 use Rattle.lists.proofs.Members.{all-in, in-all}
-use Rattle.orders.specs.Orders.{Node, stops, flown, setOf, size, Partial}
+use Rattle.orders.specs.Orders.{Node, stops, flown, setOf, size, Partial, mask}
 use Rattle.orders.proofs.Sets.{in-stops, stops-in, in-flown, flown-in}
 use Rattle.stops.specs.declared.node_record.Record.{Record}
-use Rattle.records.specs.Records.{mask, orderWord}
+use Rattle.records.specs.Records.{orderWord}
 use Rattle.node_answers.specs.Nodes.{flownStops, distinct, isRecordOf, isNode}
 use Rattle.node_answers.specs.Examples
 

@@ -12,7 +12,7 @@ use Rattle.sizes.specs.Sizes.{mostStops, orderPlaces, wordStops}
 use Rattle.orders.specs.Orders.{Node, size, Partial}
 use Rattle.orders.proofs.Sets.{size-left}
 use Rattle.orders.proofs.Partial.{partial-size}
-use Rattle.stops.specs.Legs.{Legs}
+use Rattle.days.specs.Days.{Day}
 use Rattle.stops.specs.declared.node_record.Record.{Record}
 use Rattle.records.specs.Records.{orderWord}
 use Rattle.records.specs.Code.{encode}
@@ -36,13 +36,13 @@ module _ {n : ℕ} {x : Record} {y : Node} (r : NodeRecord n x y) where
   pub record-passes : T (isNode n x)
   record-passes = record-node n x (subst (NodeRecord n x) (sym stops-record) r)
 
-module _ (n : ℕ) (few : n ≤ mostStops) (L : Legs) (k : ℕ) (x : Node) (p : Partial n x) where
-  pub stops-encode : flownStops (encode n L k x) ≡ x
+module _ (n : ℕ) (few : n ≤ mostStops) (D : Day) (k : ℕ) (x : Node) (p : Partial n x) where
+  pub stops-encode : flownStops (encode n D k x) ≡ x
   unfolding encode
-  stops-encode = stops-numbers n few (encode n L k x) x p refl refl refl
+  stops-encode = stops-numbers n few (encode n D k x) x p refl refl refl
 
-  pub node-encode : 1 ≤ n → T (isNode n (encode n L k x))
+  pub node-encode : 1 ≤ n → T (isNode n (encode n D k x))
   unfolding encode
   node-encode some =
-      record-passes {n = n} {x = encode n L k x} {y = x}
+      record-passes {n = n} {x = encode n D k x} {y = x}
       (record { some = some; few = few; node = p; size-is = refl; set-is = refl; first-is = refl; second-is = refl })

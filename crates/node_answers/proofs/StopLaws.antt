@@ -10,9 +10,9 @@ use lib.Seq.{take-suc}
 use Rattle.sizes.specs.Sizes.{orderPlaces}
 use Rattle.lists.specs.Lists.{from}
 use Rattle.lists.proofs.Members.{length-from}
+use Rattle.lists.proofs.Elements.{getD-from}
 use Rattle.orders.specs.Orders.{extend}
 use Rattle.stops.specs.declared.node_record.Record.{Record}
-use Rattle.stops.proofs.LegTable.{getD-from}
 use Rattle.records.specs.Records.{stopAt}
 use Rattle.node_answers.specs.Nodes.{flownStops}
 use Rattle.node_answers.specs.Examples

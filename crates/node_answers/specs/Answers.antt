@@ -2,7 +2,7 @@
 --   found       record i
 --   verdict     whether record i is a node's at all, for n stops
 --   flownAt     its stops in flown order, zeros behind
---   figures     its path cost and its bound by a job's number, against a table; the number is that of the first of causes 1 to 4 that applies
+--   figures     its path cost and its bound, against a job and its table; the number is that of the first of causes 1 to 4 that applies
 --   fits        whether a stop and its leg can be added to a record
 --   longer      the record with these added
 --   extension   record i with these added where they fit
@@ -13,11 +13,13 @@ use Prim.Native.Nat.{ℕ, zero, suc, _+_, _^_}
 use lib.Dec.{ltb}
 use lib.ListN.{length, getD, take, drop, set}
 use Rattle.sizes.specs.Sizes.{mostStops, orderPlaces, wordStops}
-use Rattle.orders.specs.Orders.{Node, flown, setOf, left, size, extend}
-use Rattle.stops.specs.Legs.{Legs, rows, legs, path}
-use Rattle.stops.specs.Bounds.{boundBy}
+use Rattle.lists.specs.Lists.{padded}
+use Rattle.orders.specs.Orders.{Node, flown, setOf, left, size, extend, mask}
+use Rattle.days.specs.Days.{Day}
+use Rattle.stops.specs.Tables.{rows}
+use Rattle.stops.specs.Stops.{dayOn}
 use Rattle.stops.specs.declared.node_record.Record.{Record}
-use Rattle.records.specs.Records.{mask, orderWord, padded}
+use Rattle.records.specs.Records.{orderWord}
 use Rattle.answer.specs.Checks.{jobCause}
 use Rattle.answer.specs.declared.Job.{Job}
 use Rattle.node_answers.specs.Nodes.{flownStops, isNode}
@@ -50,19 +52,19 @@ flownAt inside x = record { inside = inside; stops = padded orderPlaces (flownSt
 unfoldable pub noFigures : Bool → ℕ → Figures
 noFigures inside number = record { inside = inside; number = number; node = false; path = 0; bound = 0 }
 
-unfoldable pub figuresBy : Bool → ℕ → Record → Job → Legs → Figures
-figuresBy true zero x job L = record {
+unfoldable pub figuresBy : Bool → ℕ → Record → Job → Day → Figures
+figuresBy true zero x job D = record {
   inside = true;
   number = 0;
   node = true;
-  path = path L (flownStops x);
-  bound = boundBy (job .bound) (job .n) L (flownStops x);
+  path = D .path (flownStops x);
+  bound = D .bound (job .bound) (flownStops x);
 }
-figuresBy true (suc number) x job L = noFigures true (suc number)
-figuresBy false number x job L = noFigures true number
+figuresBy true (suc number) x job D = noFigures true (suc number)
+figuresBy false number x job D = noFigures true number
 
 unfoldable pub figures : Bool → Record → Job → List ℕ → Figures
-figures true x job table = figuresBy (isNode (job .n) x) (jobCause job table [] 0) x job (legs (rows (job .n) table))
+figures true x job table = figuresBy (isNode (job .n) x) (jobCause job table [] 0) x job (dayOn (job .n) (rows (job .n) table))
 figures false x job table = noFigures false 0
 
 -- A stop and its leg fit on a record: it is a node's, for as many stops as a day may have; the node leaves the stop; and its path cost

@@ -5,21 +5,21 @@ use mathlib.Core.Bool.{true, false}
 use mathlib.Core.List.{List, [], _∷_, map}
 use Prim.Native.Nat.{ℕ}
 use lib.ListN.{replicate}
-use Rattle.orders.specs.Orders.{flown, setOf, left, size, complete}
-use Rattle.stops.specs.Legs.{entry, rows, rowLeg, legs, path, last, cost}
-use Rattle.stops.specs.Bounds.{plain, cheapestInto, remainder, close, boundBy}
+use Rattle.lists.specs.Lists.{padded}
+use Rattle.orders.specs.Orders.{mask}
+use Rattle.stops.specs.Examples.{computedDay}
 use Rattle.stops.specs.Code.{emptyRecord}
 use Rattle.stops.specs.declared.node_record.Record.{Record}
-use Rattle.records.specs.Records.{mask, stopAt, padded}
+use Rattle.records.specs.Records.{stopAt}
 use Rattle.answer.specs.Checks.{cause₁, cause₂, cause₃, cause₄, cause₅, jobCause}
 use Rattle.answer.specs.declared.Job.{Job}
 use Rattle.node_answers.specs.Nodes.{flownStops, isRecordOf, isNode}
-use Rattle.node_answers.specs.Answers.{isInside, noRecord, recordAt, found, verdict, flownAt, noFigures, figuresBy, figures, fits, longer}
-use Rattle.node_answers.specs.Answers.{extension, extendAt}
+use Rattle.node_answers.specs.Answers.{isInside, noRecord, recordAt, found, verdict, flownAt, noFigures, figuresBy, figures}
+use Rattle.node_answers.specs.Answers.{fits, longer, extension, extendAt}
 
 -- the record of 21: two stops, bits 0 and 1, path cost 7 + 8; stop 2 stands in the lowest four bits, stop 1 in the next
 twoOne : Record
-unfolding flown setOf left size complete entry rows rowLeg legs path last cost plain cheapestInto remainder close boundBy emptyRecord mask padded
+unfolding computedDay emptyRecord mask padded
     cause₁ cause₂ cause₃ cause₄ cause₅ jobCause stopAt flownStops isRecordOf isNode isInside recordAt found verdict flownAt noFigures
     figuresBy figures fits longer extension extendAt
 twoOne = record { size = 2; set = 3; path = 15; bound = 15; first = 1; second = 0 }
@@ -29,8 +29,8 @@ tenStops : Record
 tenStops = record { size = 10; set = 1023; path = 10; bound = 10; first = 0x7654_3210; second = 152 }
 
 -- document 01's table, and the job with it that goes by a bound
-legsT : List ℕ
-legsT = 0 ∷ 4 ∷ 7 ∷ 9 ∷ 5 ∷ 0 ∷ 2 ∷ 6 ∷ 3 ∷ 8 ∷ 0 ∷ 1 ∷ 6 ∷ 5 ∷ 4 ∷ 0 ∷ []
+tableT : List ℕ
+tableT = 0 ∷ 4 ∷ 7 ∷ 9 ∷ 5 ∷ 0 ∷ 2 ∷ 6 ∷ 3 ∷ 8 ∷ 0 ∷ 1 ∷ 6 ∷ 5 ∷ 4 ∷ 0 ∷ []
 
 jobT : ℕ → Job
 jobT bound = record { n = 3; selection = 0; rules = 0; bound = bound }
@@ -102,19 +102,19 @@ unfolding twoOne
 verdicts = refl
 
 -- 21 in T: path cost 7 + 8; plain adds nothing; close adds the leg 1 to 3, 6, and the leg home from 3, 6
-figures-plain : figures true twoOne (jobT 0) legsT ≡ record { inside = true; number = 0; node = true; path = 15; bound = 15 }
-unfolding twoOne legsT jobT
+figures-plain : figures true twoOne (jobT 0) tableT ≡ record { inside = true; number = 0; node = true; path = 15; bound = 15 }
+unfolding twoOne tableT jobT
 figures-plain = refl
 
-figures-close : figures true twoOne (jobT 1) legsT ≡ record { inside = true; number = 0; node = true; path = 15; bound = 27 }
-unfolding twoOne legsT jobT
+figures-close : figures true twoOne (jobT 1) tableT ≡ record { inside = true; number = 0; node = true; path = 15; bound = 27 }
+unfolding twoOne tableT jobT
 figures-close = refl
 
 -- refused by 1 and 2, by 3, and by 4 for a bound, a selection and rules that there are not
 refusals :
-    map (λ n. figures true twoOne (record { n = n; selection = 0; rules = 0; bound = 1 }) legsT .number) (0 ∷ 17 ∷ 2 ∷ [])
+    map (λ n. figures true twoOne (record { n = n; selection = 0; rules = 0; bound = 1 }) tableT .number) (0 ∷ 17 ∷ 2 ∷ [])
     ≡ 1 ∷ 1 ∷ 2 ∷ []
-unfolding twoOne legsT
+unfolding twoOne tableT
 refusals = refl
 
 dear-leg :
@@ -123,25 +123,25 @@ unfolding twoOne
 dear-leg = refl
 
 no-choice :
-    figures true twoOne (jobT 2) legsT .number
-    ∷ figures true twoOne (record { n = 3; selection = 4; rules = 0; bound = 1 }) legsT .number
-    ∷ figures true twoOne (record { n = 3; selection = 0; rules = 16; bound = 1 }) legsT .number ∷ [] ≡ 4 ∷ 4 ∷ 4 ∷ []
-unfolding twoOne legsT jobT
+    figures true twoOne (jobT 2) tableT .number
+    ∷ figures true twoOne (record { n = 3; selection = 4; rules = 0; bound = 1 }) tableT .number
+    ∷ figures true twoOne (record { n = 3; selection = 0; rules = 16; bound = 1 }) tableT .number ∷ [] ≡ 4 ∷ 4 ∷ 4 ∷ []
+unfolding twoOne tableT jobT
 no-choice = refl
 
-refused-zeros : figures true twoOne (jobT 2) legsT ≡ record { inside = true; number = 4; node = false; path = 0; bound = 0 }
-unfolding twoOne legsT jobT
+refused-zeros : figures true twoOne (jobT 2) tableT ≡ record { inside = true; number = 4; node = false; path = 0; bound = 0 }
+unfolding twoOne tableT jobT
 refused-zeros = refl
 
 -- no figures for a record that is no node, and none past the end
 no-node-zeros :
-    figures true (record { size = 2; set = 5; path = 15; bound = 15; first = 1; second = 0 }) (jobT 0) legsT
+    figures true (record { size = 2; set = 5; path = 15; bound = 15; first = 1; second = 0 }) (jobT 0) tableT
     ≡ record { inside = true; number = 0; node = false; path = 0; bound = 0 }
-unfolding twoOne legsT jobT
+unfolding twoOne tableT jobT
 no-node-zeros = refl
 
-outside-zeros : figures false emptyRecord (jobT 0) legsT ≡ record { inside = false; number = 0; node = false; path = 0; bound = 0 }
-unfolding twoOne legsT jobT
+outside-zeros : figures false emptyRecord (jobT 0) tableT ≡ record { inside = false; number = 0; node = false; path = 0; bound = 0 }
+unfolding twoOne tableT jobT
 outside-zeros = refl
 
 -- 21 extended by 3, whose leg from 1 costs 6: bit 2, path cost 15 + 6, and 2 in the third four bits; the bound is not yet known

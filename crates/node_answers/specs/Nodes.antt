@@ -9,9 +9,9 @@ use lib.Dec.{leb, eqb}
 use lib.ListN.{take, drop}
 use Rattle.sizes.specs.Sizes.{mostStops, orderPlaces, wordStops}
 use Rattle.lists.specs.Lists.{all, from}
-use Rattle.orders.specs.Orders.{Node, stops, flown, setOf, size}
+use Rattle.orders.specs.Orders.{Node, stops, flown, setOf, size, mask}
 use Rattle.stops.specs.declared.node_record.Record.{Record}
-use Rattle.records.specs.Records.{mask, orderWord, stopAt}
+use Rattle.records.specs.Records.{orderWord, stopAt}
 
 -- as many as the size says, of those that the two numbers have bits for
 unfoldable pub flownStops : Record → Node

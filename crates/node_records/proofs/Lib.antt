@@ -1,3 +1,4 @@
 pub mod Indices
 pub mod Walk
 pub mod Reading
+pub mod Extending

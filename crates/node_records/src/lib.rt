@@ -8,8 +8,8 @@ ghost use Rattle.node_answers.specs.Answers.{isInside, recordAt, found, verdict
 use answer::Job;
 use inspection::check::verdict_of;
 use inspection::cost::figures_of;
-use inspection::extend::extended_of;
 use inspection::extend::Added;
+use inspection::extend::extended_of;
 use inspection::order::flown_of;
 use node_answers::Extended;
 use node_answers::Figures;

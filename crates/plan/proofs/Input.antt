@@ -1,5 +1,4 @@
--- What is looked at of the input: a byte more than the longest job has is enough to know what is printed, however long the input is. Assumes
--- nothing.
+-- What is looked at of the input: a byte more than the longest job has is enough to know what is printed, however long the input is.
 use mathlib.Core.Path.{_≡_, refl, sym, _∙_}
 use mathlib.Core.Bool.{Bool, true, false}
 use mathlib.Core.List.{List}
@@ -9,11 +8,10 @@ use lib.Dec.{ltb}
 use lib.ListN.{length, take, length-take}
 use lib.Seq.{take-all}
 use borrow.Author.Tests.{ltb-true, ltb-false}
-use Rattle.job_format.specs.Job.{longest}
+use Rattle.sizes.specs.Sizes.{longest}
 use Rattle.plan.specs.Output.{output}
 use Rattle.plan.proofs.OutputLaws.{long-output}
 
--- "Input longer than the longest job prints `refused 9`, and its trailer isn't looked at."
 pub front-enough : (input : List ℕ) → output (take (suc longest) input) ≡ output input
 front-enough input = go (ltb longest (length input)) refl
   where

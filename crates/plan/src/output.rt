@@ -3,45 +3,40 @@ ghost use mathlib.Core.Path.{_≡_};
 ghost use Rattle.job_format.specs.Reader.{read};
 ghost use Rattle.printing.specs.Promise.{textOf};
 ghost use Rattle.plan.specs.Output.{answered, output};
-use job_file::LONGEST;
 use job_file::reader::read;
 use planner::plan;
 use printing::Text;
 use printing::refusal_text;
 use printing::report_text;
+use sizes::LONGEST;
+use sizes::RECORD_WORDS;
 
 // Bytes of the input that are looked at: one more than the longest job has.
-pub const INPUT: usize = 1_186;
+pub const INPUT: usize = LONGEST + 1;
 
-// Words of the pool: 2,000 records of six.
-const POOL: usize = 12_000;
+// Records of the pool, and its words.
+const RECORDS: usize = 2_000;
+
+const POOL: usize = RECORDS * RECORD_WORDS;
 
 // The text for a file that is no longer than the longest job.
 fn answer(file: &[u8]) -> Text
-    ensures { λ r. ⌜ r ≡ textOf (answered (read (now (file .entry)) .number) (read (now (file .entry)) .job)) ⌝ }
+    ensures { λ r. ⌜ r ≡ textOf (answered (read (now (file .entry)) .number) (read (now (file .entry)) .contents)) ⌝ }
 {
-    let job = read(file);
-    let number = job.number;
+    let reading = read(file);
+    let number = reading.number;
     if number != 0 {
         return refusal_text(number);
     }
-    let n = job.n;
-    let side = n as usize + 1;
+    let job = reading.job;
+    let side = job.n as usize + 1;
     let count = side * side;
-    let stops = job.stops as usize;
-    let table = job.table;
-    let start = job.start;
+    let stops = reading.stops as usize;
+    let table = reading.table;
+    let start = reading.start;
     let mut pool = [0u32; POOL];
-    let report = plan(
-        n,
-        &table[..count],
-        job.selection,
-        job.rules,
-        job.bound,
-        &start[..stops],
-        &mut pool,
-    );
-    report_text(n, report)
+    let report = plan(job, &table[..count], &start[..stops], &mut pool);
+    report_text(job.n, report)
 }
 
 // The text for an input.

@@ -10,8 +10,8 @@ use native.Mathlib.Numerals.{add-one}
 use native.Mathlib.Omega.{arith}
 use lib.ListN.{length, getD, set, take, replicate, length-append}
 use lib.Seq.{sets, length-sets, take-suc}
-use Rattle.records.specs.Records.{padded}
-use Rattle.records.proofs.Padded.{padded-one}
+use Rattle.lists.specs.Lists.{padded}
+use Rattle.lists.proofs.Padded.{padded-one}
 use Rattle.report_format.specs.Text.{ascii, decimal, spaced}
 use Rattle.printing.specs.Promise.{textPlaces, textOf}
 use Rattle.printing.specs.Code.{Put}

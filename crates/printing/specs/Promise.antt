@@ -2,7 +2,7 @@
 use mathlib.Core.List.{List}
 use Prim.Native.Nat.{ℕ}
 use lib.ListN.{length}
-use Rattle.records.specs.Records.{padded}
+use Rattle.lists.specs.Lists.{padded}
 use Rattle.printing.specs.declared.Text.{Text}
 
 -- Places for a text. The longest has seven lines: 46 bytes of names, 22 numbers of at most 21 bytes with their spaces, and the lines' ends.

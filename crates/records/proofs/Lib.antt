@@ -3,7 +3,6 @@ pub mod SiftLaws
 pub mod OrderWords
 pub mod Mask
 pub mod Encode
-pub mod Padded
 pub mod OrderStops
 pub mod EncodeLaws
 pub mod PoolWords

@@ -5,8 +5,7 @@ use Prim.Native.Nat.{ℕ, _+_, _*_, _-_, _^_, _/_, _%_}
 use lib.Dec.{ltb}
 use lib.ListN.{length, take, drop}
 use Rattle.sizes.specs.Sizes.{recordWords, stopBase, wordStops}
-use Rattle.lists.specs.Lists.{each}
-unfoldable pub use Rattle.lists.specs.Lists.{padded}
+use Rattle.lists.specs.Lists.{each, padded}
 use Rattle.search.specs.Problem.{State}
 use Rattle.search.specs.Run.{held}
 use Rattle.orders.specs.Orders.{Node, setOf, mask, size}

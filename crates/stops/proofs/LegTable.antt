@@ -14,8 +14,7 @@ use lib.ListN.{getD}
 use Rattle.sizes.specs.Sizes.{mostStops, places, dearest}
 use Rattle.lists.specs.Lists.{In, from}
 use Rattle.lists.proofs.Tests.{to-true, to-false, and-left, and-right, and-both, ordered}
-pub use Rattle.lists.proofs.Elements.{getD-from}
-use Rattle.lists.proofs.Elements.{getD-past, getD-small}
+use Rattle.lists.proofs.Elements.{getD-from, getD-past, getD-small}
 use Rattle.stops.specs.Tables.{entry, rows}
 use Rattle.stops.specs.Legs.{rowLeg, legs}
 use Rattle.stops.specs.Code.{Cheap}

@@ -18,7 +18,6 @@ use borrow.Author.Tests.{lt-ltb, eq-eqb, ne-eqb}
 use Rattle.sizes.specs.Sizes.{mostStops, places, tableNumbers}
 use Rattle.lists.specs.Lists.{any, from}
 use Rattle.lists.proofs.Tests.{compared, same-tests, tests}
-pub use Rattle.lists.proofs.Elements.{part-from}
 use Rattle.lists.proofs.Elements.{getD-numbers, getD-from, Rest, any-finds, any-skips, any-ends}
 use Rattle.lists.proofs.Map.{map-same}
 use Rattle.lists.proofs.Members.{length-from}

@@ -1,6 +1,6 @@
 -- The stops of a table are a day that keeps every law of `Walk`, whatever the legs and the legs home.
 --   stops-walk       the laws; rows-walk: the same of the day of the planner's rows
---   place-last, after-stop   a node is where its last stop is, and a stop leads to itself
+--   place-last, after-stop, path-further   a node is where its last stop is, a stop leads to itself, and adds its leg to any path
 --   close-ge-plain   of the two bounds, close is at least plain
 -- and, where no leg of the rows is above the dearest (`Cheap`), how large the numbers of such a day can be:
 --   further-small, path-small, ahead-small    what a stop adds, a path cost, and what a bound adds
@@ -18,7 +18,7 @@ use Rattle.lists.specs.Lists.{same}
 use Rattle.lists.proofs.Tests.{and-parts, parts-and, either}
 use Rattle.lists.proofs.Same.{same-equal, same-refl}
 use Rattle.search.specs.Selection.{empty}
-use Rattle.orders.specs.Orders.{Node, setOf, left, last, Order}
+use Rattle.orders.specs.Orders.{Node, setOf, left, last, extend, Order}
 use Rattle.orders.proofs.Sets.{last-extend}
 use Rattle.orders.proofs.Tree.{complete-empty}
 use Rattle.orders.proofs.Order.{order-length}
@@ -102,6 +102,12 @@ place-last rows x = refl
 pub after-stop : (rows : List (List ℕ)) (place s : ℕ) → reckonOn rows .after place s ≡ s
 unfolding reckonOn reckoning
 after-stop rows place s = refl
+
+pub path-further :
+    (n : ℕ) (rows : List (List ℕ)) (x : Node) (s : ℕ)
+    → dayOn n rows .path (extend x s) ≡ dayOn n rows .path x + reckonOn rows .further (reckonOn rows .place x) s
+unfolding dayOn day reckonOn reckoning
+path-further n rows x s = paths.path-extend (legs rows) x s
 
 module _ (rows : List (List ℕ)) (cheap : Cheap rows) where
   pub further-small : (place s : ℕ) → reckonOn rows .further place s ≤ dearest

@@ -3,7 +3,6 @@ use mathlib.Core.List.{List, [], _∷_}
 use Prim.Native.Nat.{ℕ, _+_}
 use lib.ListN.{getD}
 use Rattle.orders.specs.Orders.{Node, last}
-unfoldable pub use Rattle.stops.specs.Tables.{entry, rows}
 
 -- The costs that a day reckons with: of flying i to j, and of the leg home from s.
 pub record Legs : Type 0 where

@@ -2,10 +2,17 @@
 ghost use mathlib.Core.Path.{_≡_};
 ghost use Prim.Native.Nat.{_≤_, _<_};
 ghost use lib.ListN.{length};
+ghost use Rattle.sizes.specs.Sizes.{mostStops, places, orderPlaces};
+use sizes::ORDER_PLACES;
+
+// Longer than any leg, and dearer than any order.
+const NO_LEG: u32 = 4_294_967_295;
+
+const NO_COST: u64 = 18_446_744_073_709_551_615;
 
 // Whether s is among the first m numbers of x.
-fn among(x: &[u8; 16], m: usize, s: u8) -> bool
-    requires { ⌜ m ≤ 16 ⌝ }
+fn among(x: &[u8; ORDER_PLACES], m: usize, s: u8) -> bool
+    requires { ⌜ m ≤ orderPlaces ⌝ }
 {
     let mut i = 0;
     while i < m {
@@ -18,8 +25,8 @@ fn among(x: &[u8; 16], m: usize, s: u8) -> bool
 }
 
 // Whether the first n numbers of x are an order of 1 to n: each is one of these, and none stands there twice.
-pub fn is_order(x: &[u8; 16], n: usize) -> bool
-    requires { ⌜ n ≤ 16 ⌝ }
+pub fn is_order(x: &[u8; ORDER_PLACES], n: usize) -> bool
+    requires { ⌜ n ≤ mostStops ⌝ }
 {
     let mut i = 0;
     while i < n {
@@ -47,13 +54,13 @@ fn index(s: u8) -> usize
 
 // The leg from place i to place j of a table whose rows are `side` long; outside the table it is longer than any leg.
 fn leg(table: &[u32], side: usize, i: u8, j: u8) -> u32
-    requires { ⌜ side ≤ 17 ⌝ }
+    requires { ⌜ side ≤ places ⌝ }
 {
     let k = index(i) * side + index(j);
     if k < table.len() {
         return table[k];
     }
-    4_294_967_295
+    NO_LEG
 }
 
 // A leg, to be summed.
@@ -64,8 +71,8 @@ fn wide(x: u32) -> u64
 }
 
 // The cost of an order of n stops: its legs from home to home.
-pub fn cost_of(table: &[u32], x: &[u8; 16], n: usize) -> u64
-    requires { ⌜ n ≤ 16 ⌝ }
+pub fn cost_of(table: &[u32], x: &[u8; ORDER_PLACES], n: usize) -> u64
+    requires { ⌜ n ≤ mostStops ⌝ }
 {
     let side = n + 1;
     let mut sum = 0u64;
@@ -108,11 +115,11 @@ fn digit(k: u64, n: usize) -> u8
 }
 
 // Sequence k of n numbers from 1 to n, and zeros: the digits of k to the base n.
-pub fn sequence(n: usize, k: u64) -> [u8; 16]
+pub fn sequence(n: usize, k: u64) -> [u8; ORDER_PLACES]
     requires { ⌜ (1 ≤ n) × (n ≤ 6) ⌝ }
-    ensures { λ r. ⌜ 16 ≡ length r ⌝ }
+    ensures { λ r. ⌜ orderPlaces ≡ length r ⌝ }
 {
-    let mut x = [0u8; 16];
+    let mut x = [0u8; ORDER_PLACES];
     let mut rest = k;
     let mut i = 0;
     while i < n {
@@ -136,7 +143,7 @@ fn price(table: &[u32], n: usize, k: u64) -> u64
     if is_order(&x, n) {
         return cost_of(table, &x, n);
     }
-    18_446_744_073_709_551_615
+    NO_COST
 }
 
 // The least cost over all orders.
@@ -144,7 +151,7 @@ pub fn least(table: &[u32], n: usize) -> u64
     requires { ⌜ (1 ≤ n) × (n ≤ 6) ⌝ }
 {
     let end = sequences(n);
-    let mut known = 18_446_744_073_709_551_615;
+    let mut known = NO_COST;
     let mut k = 0u64;
     while k < end {
         known = lesser(known, price(table, n, k));

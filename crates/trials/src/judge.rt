@@ -1,8 +1,10 @@
 // What a report is held against: the least cost, the table, and its own counts.
 ghost use Prim.Native.Nat.{_≤_};
+ghost use Rattle.sizes.specs.Sizes.{mostStops};
 use crate::enumerate::cost_of;
 use crate::enumerate::is_order;
-use planner::run::Report;
+use answer::Report;
+use sizes::ORDER_PLACES;
 
 pub enum Verdict {
     Best,
@@ -23,9 +25,9 @@ fn adds_up(generated: u64, branched: u64, eliminated: u64, active: u64) -> bool 
 }
 
 // Whether x has zeros alone from place n on.
-fn zeros(x: &[u8; 16], n: usize) -> bool {
+fn zeros(x: &[u8; ORDER_PLACES], n: usize) -> bool {
     let mut i = n;
-    while i < 16 {
+    while i < ORDER_PLACES {
         if x[i] != 0 {
             return false;
         }
@@ -35,8 +37,8 @@ fn zeros(x: &[u8; 16], n: usize) -> bool {
 }
 
 // Whether x is an order of n stops and zeros, whose cost is the one given.
-fn priced(table: &[u32], n: usize, cost: u64, x: &[u8; 16]) -> bool
-    requires { ⌜ n ≤ 16 ⌝ }
+fn priced(table: &[u32], n: usize, cost: u64, x: &[u8; ORDER_PLACES]) -> bool
+    requires { ⌜ n ≤ mostStops ⌝ }
 {
     if !zeros(x, n) {
         return false;
@@ -49,7 +51,7 @@ fn priced(table: &[u32], n: usize, cost: u64, x: &[u8; 16]) -> bool
 
 // A finished report is right if its cost is the least and that of its order; a full one if it has no cost and no order.
 pub fn judged(table: &[u32], n: usize, least: u64, r: Report) -> Verdict
-    requires { ⌜ n ≤ 16 ⌝ }
+    requires { ⌜ n ≤ mostStops ⌝ }
 {
     if !adds_up(r.generated, r.branched, r.eliminated, r.active) {
         return Verdict::Differs;

@@ -1,6 +1,7 @@
 // Random tables under every choice, with and without a starting order, each report held against full enumeration. The tables, and so
 // what is printed, are the same in every run.
 ghost use Prim.Native.Nat.{_≤_};
+ghost use Rattle.sizes.specs.Sizes.{mostStops};
 
 mod enumerate;
 mod judge;
@@ -15,10 +16,24 @@ use crate::tables::order_of;
 use crate::tables::size_of;
 use crate::tables::stops_in;
 use crate::tables::table_of;
+use answer::Job;
+use answer::Report;
 use libc::STDOUT_FILENO;
 use planner::plan;
-use planner::run::Report;
+use sizes::RECORD_WORDS;
 use std::num::wrapping_add_u64;
+
+// Records of the pool, and its words.
+const RECORDS: usize = 330;
+
+const POOL: usize = RECORDS * RECORD_WORDS;
+
+// Selections, sums of rules, and choices of a selection, rules and a bound.
+const SELECTIONS: u32 = 4;
+
+const RULES: u32 = 16;
+
+const CHOICES: u32 = 128;
 
 // How many jobs ended in which way, and a checksum over their costs and counts.
 struct Tally {
@@ -64,8 +79,20 @@ fn counted(t: Tally, v: Verdict, sum: u64) -> Tally {
     }
 }
 
-// One job: choice is the selection, four times the rules, and 64 times the bound.
-fn job(
+// The job of n stops under a choice: the selection, four times the rules, and 64 times the bound.
+fn job_of(n: usize, choice: u32) -> Job
+    requires { ⌜ n ≤ mostStops ⌝ }
+{
+    Job {
+        n: n as u32,
+        selection: choice % SELECTIONS,
+        rules: choice / SELECTIONS % RULES,
+        bound: choice / SELECTIONS / RULES,
+    }
+}
+
+// One job, planned and judged.
+fn one(
     table: &[u32],
     n: usize,
     least: u64,
@@ -74,28 +101,20 @@ fn job(
     pool: &mut [u32],
     t: Tally,
 ) -> Tally
-    requires { ⌜ n ≤ 16 ⌝ }
+    requires { ⌜ n ≤ mostStops ⌝ }
 {
-    let r = plan(
-        n as u32,
-        table,
-        choice % 4,
-        choice / 4 % 16,
-        choice / 64,
-        start,
-        pool,
-    );
+    let r = plan(job_of(n, choice), table, start, pool);
     counted(t, judged(table, n, least, r), summed(t.sum, r))
 }
 
-// All 128 choices over one table, from one starting order or none.
+// All choices over one table, from one starting order or none.
 fn jobs(table: &[u32], n: usize, least: u64, start: &[u8], pool: &mut [u32], t: Tally) -> Tally
-    requires { ⌜ n ≤ 16 ⌝ }
+    requires { ⌜ n ≤ mostStops ⌝ }
 {
     let mut tally = t;
     let mut choice = 0u32;
-    while choice < 128 {
-        tally = job(table, n, least, choice, start, pool, tally);
+    while choice < CHOICES {
+        tally = one(table, n, least, choice, start, pool, tally);
         choice += 1;
     }
     tally
@@ -142,7 +161,7 @@ fn line(n: u64, words: &[u8]) {
 }
 
 fn main() {
-    let mut pool = [0u32; 1980];
+    let mut pool = [0u32; POOL];
     let t = all_tables(&mut pool);
     line(
         wrapping_add_u64(wrapping_add_u64(t.best, t.full), t.differed),

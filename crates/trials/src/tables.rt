@@ -2,10 +2,13 @@
 ghost use mathlib.Core.Path.{_≡_};
 ghost use Prim.Native.Nat.{_+_, _≤_, _<_};
 ghost use lib.ListN.{length};
+ghost use Rattle.sizes.specs.Sizes.{dearest, orderPlaces};
 use crate::enumerate::below;
 use crate::enumerate::is_order;
 use crate::enumerate::sequence;
 use crate::enumerate::sequences;
+use sizes::DEAREST;
+use sizes::ORDER_PLACES;
 
 // The number after x of a sequence that looks random.
 pub fn next(x: u64) -> u64
@@ -51,27 +54,27 @@ struct Kind {
 
 // The kind of table k: all equal, ties among few, ties among the longest, some, and any.
 fn kind_of(k: u64) -> Kind
-    ensures { λ r. ⌜ (1 ≤ r .span) × (r .least + r .span ≤ 1000001) ⌝ }
+    ensures { λ r. ⌜ (1 ≤ r .span) × (r .least + r .span ≤ dearest + 1) ⌝ }
 {
     match k % 6 {
         0 => Kind { least: 7, span: 1 },
         1 => Kind { least: 0, span: 2 },
         2 => Kind { least: 0, span: 3 },
         3 => Kind {
-            least: 999_998,
+            least: DEAREST as u64 - 2,
             span: 3,
         },
         4 => Kind { least: 1, span: 20 },
         _ => Kind {
             least: 0,
-            span: 1_000_001,
+            span: DEAREST as u64 + 1,
         },
     }
 }
 
 // The number at place i of a table of n stops: 0 on the diagonal, else a leg by x.
 fn entry(kind: Kind, n: usize, i: usize, x: u64) -> u32
-    requires { ⌜ (1 ≤ kind .span) × ((kind .least + kind .span ≤ 1000001) × (n ≤ 6)) ⌝ }
+    requires { ⌜ (1 ≤ kind .span) × ((kind .least + kind .span ≤ dearest + 1) × (n ≤ 6)) ⌝ }
 {
     if i % (n + 2) == 0 {
         return 0;
@@ -97,9 +100,9 @@ pub fn table_of(k: u64, n: usize) -> [u32; 49]
 }
 
 // An order of n stops by x: that of the first sequence, from a place in the lower half on, which is one.
-pub fn order_of(n: usize, x: u64) -> [u8; 16]
+pub fn order_of(n: usize, x: u64) -> [u8; ORDER_PLACES]
     requires { ⌜ (1 ≤ n) × (n ≤ 6) ⌝ }
-    ensures { λ r. ⌜ 16 ≡ length r ⌝ }
+    ensures { λ r. ⌜ orderPlaces ≡ length r ⌝ }
 {
     let end = sequences(n);
     let mut k = x % (end / 2 + 1);
@@ -110,5 +113,5 @@ pub fn order_of(n: usize, x: u64) -> [u8; 16]
         }
         k += 1;
     }
-    [0u8; 16]
+    [0u8; ORDER_PLACES]
 }

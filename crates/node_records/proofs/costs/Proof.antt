@@ -49,7 +49,7 @@ use Rattle.node_answers.specs.declared.Found.{Found}
 use Rattle.node_answers.specs.declared.Figures.{Figures}
 use Rattle.node_answers.proofs.Figures as R
 use Rattle.node_answers.proofs.Figures.Laws as R′
-use Rattle.node_records.proofs.Walk.{value, frees-all, hears, own-u32, own-usize, own-bool}
+use Rattle.node_records.proofs.Walk.{local, part, inner, places, frees-all, hears, own-u32, own-usize, own-bool}
 use Rattle.node_records.proofs.Reading.{Numbers, numbers, found-typed, ReadAt, slice, owned-slice, reads-record}
 use Rattle.inspection.proofs.FigureLaws.{figures-found}
 use Rattle.node_records.proofs.read.Symbol as read-def
@@ -196,7 +196,7 @@ module _
         move ! (13 ∷ []) $ fsplit ! $ move ! (1 ∷ []) $ fsplit ! $ drop ! $ fsplit ! $ drop ! $ fsplit ! $ move ! (1 ∷ []) $ drop ! $
         move ! (14 ∷ []) $ split ! $ move ! (1 ∷ []) $ split ! $ move ! (2 ∷ 4 ∷ 0 ∷ 3 ∷ []) $
         -- [the pool's token; what the slice owns; the table's token; what the table owns; true; _5; …; _0; …]
-        reads-record 𝓤 H A mem run κ q s i W ! fm known-read gi (and-then ! (value ! 13 refl) (and-then ! (value ! 11 refl) (no-more !)))
+        reads-record 𝓤 H A mem run κ q s i W ! fm known-read gi (and-then ! (local ! 5 5 refl) (and-then ! (local ! 5 5 refl) (no-more !)))
         (λ r e is.
         land ! (from ! (stop !)) (init ! 5 refl (found-typed 𝓤 H A W r is)) $
         move ! (3 ∷ []) $ use1 W (‵ Own′ ⊛ ‵ Own′) (shr-slice-copy 𝓤 H A W (named 0) κ′ u32 .twice t (v′ ∷ [])) $ split ! $
@@ -205,19 +205,19 @@ module _
         (asked 𝓤 H A mem run κ′ q′ r job t W isJ (numbers r is)) $
         -- [what is asked; what the table owns; the pool's token; what the slice owns; true; _5; …; _0; …]
         calls-at ! fm (Callee 𝓤 H A mem run) known (to 𝓤 H A mem run κ′ q′ r job t)
-        (and-then ! (load ! (from ! (fld ! refl (stop !))) (look-in ! 5 (sub ! 0 refl (whole !))))
-        (and-then ! (load ! (from ! (fld ! refl (fld ! refl (stop !)))) (look-in ! 5 (sub ! 0 refl (sub ! 1 refl (whole !)))))
-        (and-then ! (load ! (from ! (fld ! refl (fld ! refl (stop !)))) (look-in ! 5 (sub ! 1 refl (sub ! 1 refl (whole !)))))
-        (and-then ! (load ! (from ! (fld ! refl (fld ! refl (stop !)))) (look-in ! 5 (sub ! 4 refl (sub ! 1 refl (whole !)))))
-        (and-then ! (load ! (from ! (fld ! refl (fld ! refl (stop !)))) (look-in ! 5 (sub ! 5 refl (sub ! 1 refl (whole !)))))
-        (and-then ! (value ! 9 refl) (and-then ! (value ! 7 refl) (no-more !))))))))
+        (and-then ! (part ! 5 5 refl refl (whole !))
+        (and-then ! (inner ! 5 5 refl refl refl refl (whole !))
+        (and-then ! (inner ! 5 5 refl refl refl refl (whole !))
+        (and-then ! (inner ! 5 5 refl refl refl refl (whole !))
+        (and-then ! (inner ! 5 5 refl refl refl refl (whole !))
+        (and-then ! (local ! 5 5 refl) (and-then ! (local ! 5 5 refl) (no-more !))))))))
         (λ u. hears ! tt R.the-row (‵ (flft κ′ q′) ⊛ ‵ ftrue) (Ensured 𝓤 H A mem run κ′ q′ r job t)
         (λ w. w ≡ answer 𝓤 H A mem run κ′ q′ r job t) (said 𝓤 H A mem run κ′ q′ r job t) u (id⊢ 𝓤 _) (λ w f is′.
         -- [the answer; the table's token; what the table owns; the pool's token; what the slice owns; true; _5; …; _0; …]
         land ! (from ! (stop !)) (init ! 16 refl (LL.lawful R.the-type R′.the-laws 𝓤 H A W .typed w _ is′ .0)) $
         returns ! (look ! 16 refl) $ forget ! 6 refl $ forget ! 8 refl $ forget ! 10 refl $ forget ! 12 refl $ forget ! 14 refl $
         forget ! 16 refl $
-        move ! (16 ∷ 17 ∷ 14 ∷ 15 ∷ 12 ∷ 13 ∷ 10 ∷ 11 ∷ 8 ∷ 9 ∷ 6 ∷ 7 ∷ []) $ frees-all ! $
+        move ! (places 6 5) $ frees-all ! $
         keep ! (0 ∷ 1 ∷ 2 ∷ 3 ∷ 4 ∷ []) $ by ! (exits w u gi isJ (f ∙ figures-found (s .now) i r e job (t .now))))))))))))
 
 module _ {M : Type 1} (𝓤 : URA M) (H : Heap 𝓤) (A : Atoms 𝓤) (W : Given 𝓤 H A) (mem : Memory → SProp 𝓤) (run : Routine → Fun 𝓤) where

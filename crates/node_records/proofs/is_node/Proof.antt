@@ -45,7 +45,7 @@ use Rattle.node_answers.specs.declared.Found.{Found}
 use Rattle.node_answers.specs.declared.Verdict.{Verdict}
 use Rattle.node_answers.proofs.Verdict as R
 use Rattle.node_answers.proofs.Verdict.Laws as R′
-use Rattle.node_records.proofs.Walk.{value, frees-all, hears, own-u32, own-usize, own-bool}
+use Rattle.node_records.proofs.Walk.{local, part, inner, places, frees-all, hears, own-u32, own-usize, own-bool}
 use Rattle.node_records.proofs.Reading.{Numbers, numbers, found-typed, ReadAt, slice, owned-slice, reads-record}
 use Rattle.node_records.proofs.read.Symbol as read-def
 use Rattle.node_records.proofs.read.Symbol.{name as #read}
@@ -158,23 +158,23 @@ module _
         pass1 ! (init ! 2 refl (tt, record { fits = gn })) $ pass0 ! $
         move ! (11 ∷ []) $ fsplit ! $ move ! (1 ∷ []) $ drop ! $ move ! (11 ∷ []) $ split ! $ move ! (1 ∷ []) $ drop ! $
         -- [the token; what the slice owns; _4; …; _3; …; _2; …; _1; …; _0; …]
-        reads-record 𝓤 H A mem run κ q s i W ! fm known-read gi (and-then ! (value ! 8 refl) (and-then ! (value ! 6 refl) (no-more !)))
+        reads-record 𝓤 H A mem run κ q s i W ! fm known-read gi (and-then ! (local ! 2 4 refl) (and-then ! (local ! 2 4 refl) (no-more !)))
         (λ r e is.
         land ! (from ! (stop !)) (init ! 2 refl (found-typed 𝓤 H A W r is)) $
         use0 W (raw (Callee 𝓤 H A mem run .pre (to 𝓤 H A mem run r n))) (asked 𝓤 H A mem run W r n gn (numbers r is)) $
         calls-at ! fm (Callee 𝓤 H A mem run) known (to 𝓤 H A mem run r n)
-        (and-then ! (load ! (from ! (fld ! refl (stop !))) (look-in ! 3 (sub ! 0 refl (whole !))))
-        (and-then ! (load ! (from ! (fld ! refl (fld ! refl (stop !)))) (look-in ! 3 (sub ! 0 refl (sub ! 1 refl (whole !)))))
-        (and-then ! (load ! (from ! (fld ! refl (fld ! refl (stop !)))) (look-in ! 3 (sub ! 1 refl (sub ! 1 refl (whole !)))))
-        (and-then ! (load ! (from ! (fld ! refl (fld ! refl (stop !)))) (look-in ! 3 (sub ! 4 refl (sub ! 1 refl (whole !)))))
-        (and-then ! (load ! (from ! (fld ! refl (fld ! refl (stop !)))) (look-in ! 3 (sub ! 5 refl (sub ! 1 refl (whole !)))))
-        (and-then ! (value ! 5 refl) (no-more !)))))))
+        (and-then ! (part ! 3 4 refl refl (whole !))
+        (and-then ! (inner ! 3 4 refl refl refl refl (whole !))
+        (and-then ! (inner ! 3 4 refl refl refl refl (whole !))
+        (and-then ! (inner ! 3 4 refl refl refl refl (whole !))
+        (and-then ! (inner ! 3 4 refl refl refl refl (whole !))
+        (and-then ! (local ! 3 4 refl) (no-more !)))))))
         (λ u. hears ! tt R.the-row (‵ ftrue) (Ensured 𝓤 H A mem run r n) (λ w. w ≡ answer 𝓤 H A mem run r n) (said 𝓤 H A mem run r n) u
         (id⊢ 𝓤 _) (λ w f is′. move ! (1 ∷ []) $ drop ! $
         -- [the answer; the token; what the slice owns; _4; …; _0; …]
         land ! (from ! (stop !)) (init ! 11 refl (LL.lawful R.the-type R′.the-laws 𝓤 H A W .typed w _ is′ .0)) $
         returns ! (look ! 11 refl) $ forget ! 3 refl $ forget ! 5 refl $ forget ! 7 refl $ forget ! 9 refl $ forget ! 11 refl $
-        move ! (11 ∷ 12 ∷ 9 ∷ 10 ∷ 7 ∷ 8 ∷ 5 ∷ 6 ∷ 3 ∷ 4 ∷ []) $ frees-all ! $ by ! (exits w u gi gn (answers (s .now) i r n w e f))))))))))
+        move ! (places 3 4) $ frees-all ! $ by ! (exits w u gi gn (answers (s .now) i r n w e f))))))))))
 
 module _ {M : Type 1} (𝓤 : URA M) (H : Heap 𝓤) (A : Atoms 𝓤) (W : Given 𝓤 H A) (mem : Memory → SProp 𝓤) (run : Routine → Fun 𝓤) where
   is-node-walks :

@@ -20,10 +20,10 @@ use prog.Wp.{Heap, Calls, Loops, WpFn, Tables}
 use ghost.Atoms.{Atoms}
 use contract.Monad.{Fun}
 use contract.Running.{givenOf, tables, tablesOf}
-use types.Kit.{Given, atRet, ‵, ⋆, _⊛_, _$_, _∵_, !, qed, by, move, keep, drop, split, join, rewrite, fsplit, fjoin, suffices, frame}
+use types.Kit.{Given, ‵, ⋆, _⊛_, _$_, _∵_, !, qed, by, move, keep, drop, split, join, rewrite, fsplit, fjoin, suffices, frame}
 use types.Kit.{done}
 use types.Run.{look, store-raw, init, forget, stop, hop, fld, from, load, lit, true-lit, false-lit, of-opd, bin, assigns, first, branches}
-use types.Run.{skips, exec, returns, returns-within, enter, alloc1, alloc0, params1, pass1, pass0, free1, free0}
+use types.Run.{returns, returns-within, enter, alloc1, alloc0, params1, pass1, pass0}
 use types.Part.{whole, sub, look-in}
 use sound.WpLaws.{WpFn-mono}
 use denote.Exit.{yes}
@@ -47,7 +47,7 @@ use Rattle.stops.specs.declared.node_record.Record.{Record}
 use Rattle.stops.proofs.node_record.Record as T
 use Rattle.stops.proofs.node_record.Record.Laws as T′
 use Rattle.node_answers.specs.Answers.{isInside}
-use Rattle.node_records.proofs.Walk.{value, frees-all, own-bool, val, vals, typed}
+use Rattle.node_records.proofs.Walk.{local, part, sets, goes-on, places, frees-all, own-bool, val, vals, typed}
 use Rattle.node_records.proofs.Indices.{offset-fits, is-inside, is-outside}
 use Rattle.node_records.proofs.write.Key.{name as #write}
 use Rattle.node_records.proofs.write as write
@@ -112,36 +112,33 @@ module _
         pass1 ! (init ! 8 refl wt) $ pass0 ! $
         move ! (17 ∷ []) $ fsplit ! $ fsplit ! $ move ! (1 ∷ []) $ fsplit ! $ move ! (20 ∷ []) $ split ! $ move ! (2 ∷ 3 ∷ 0 ∷ 5 ∷ []) $
         -- [obs; the borrow; the token; what i and x own; _7; …; _0; …]
-        assigns ! (of-opd ! (load ! (from ! (fld ! refl (stop !))) (look-in ! 18 (sub ! 1 refl (whole !))))) (from ! (stop !))
-        (init ! 12 refl (tt, record { fits = room .0 })) $
-        assigns ! (bin ! (value ! 16 refl) (value ! 12 refl) tt) (from ! (stop !)) (init ! 10 refl (tt, tt)) $
-        first ! $ branches ! (value ! 10 refl)
+        sets ! 6 7 (of-opd ! (part ! 6 7 refl refl (whole !))) refl (tt, record { fits = room .0 }) $
+        sets ! 6 7 (bin ! (local ! 6 7 refl) (local ! 6 7 refl) tt) refl (tt, tt) $
+        first ! $ branches ! (local ! 6 7 refl)
         (λ inside.
-        assigns ! (bin ! (value ! 16 refl) (lit ! tt) (record { fits = fits inside })) (from ! (stop !))
-        (init ! 8 refl (tt, record { fits = fits inside })) $
-        assigns ! (bin ! (load ! (from ! (fld ! refl (stop !))) (look-in ! 18 (sub ! 0 refl (whole !)))) (value ! 8 refl) tt)
-        (from ! (stop !)) (init ! 6 refl (tt, tt)) $
+        sets ! 6 7 (bin ! (local ! 6 7 refl) (lit ! tt) (record { fits = fits inside })) refl (tt, record { fits = fits inside }) $
+        sets ! 6 7 (bin ! (part ! 6 7 refl refl (whole !)) (local ! 6 7 refl) tt) refl (tt, tt) $
         rewrite ! 6 (λ (p : ℕ). ‵ (fat fullShare tyPtr l₇ 0 (vptr b p))) (sym (place-is 24 o i)) refl $
         opens-slice ! tt T.the-row ys b o $
         elem-out ! T.the-row (Is T.the-row) (shows 𝓤 H A T.the-row) vals (LL.tells T.the-type T′.the-laws) fullShare ys i x b o
         (ltb→lt i (length ys) inside) (λ _.
         -- [record i; what it owns; the others; the open borrow; obs; auth; what i and x own; true; the slice's fact; _7; …; _0; …]
-        assigns ! (of-opd ! (value ! 17 refl)) (from ! (hop ! (look ! 9 refl) (stop !))) (store-raw ! 0 refl wt) $
+        assigns ! (of-opd ! (local ! 9 7 refl)) (from ! (hop ! (look ! 9 refl) (stop !))) (store-raw ! 0 refl wt) $
         move ! (1 ∷ []) $ drop ! $ owned ! T.the-row (Is T.the-row) (LL.makes T.the-type T′.the-plain 𝓤 H A) x (mach ∷ []) is $
         move ! (1 ∷ 0 ∷ []) $
         elem-put ! T.the-row fullShare ys i x (mach ∷ []) b o (ltb→lt i (length ys) inside) $
         closes-slice ! tt T.the-row ys (set ys i x) (length-set ys i x) b o $
-        assigns ! (of-opd ! (true-lit !)) (from ! (stop !)) (init ! 20 refl (tt, tt)) $
+        sets ! 6 7 (of-opd ! (true-lit !)) refl (tt, tt) $
         returns-within ! Post refl (look ! 20 refl) $ forget ! 6 refl $ forget ! 8 refl $ forget ! 10 refl $ forget ! 12 refl $
         forget ! 14 refl $ forget ! 16 refl $ forget ! 18 refl $ forget ! 20 refl $
-        move ! (20 ∷ 21 ∷ 18 ∷ 19 ∷ 16 ∷ 17 ∷ 14 ∷ 15 ∷ 12 ∷ 13 ∷ 10 ∷ 11 ∷ 8 ∷ 9 ∷ 6 ∷ 7 ∷ []) $ frees-all ! $
+        move ! (places 6 7) $ frees-all ! $
         keep ! (0 ∷ 1 ∷ 2 ∷ 3 ∷ []) $ by ! (exits true (set ys i x) (length-set ys i x) room (sym (is-inside ys i inside), refl))))
-        (λ outside. skips ! $ exec ! C Λ _ (seq (assign (place 0 []) (rvOpd opdFalse)) return) (atRet _ Post) $
-        assigns ! (of-opd ! (false-lit !)) (from ! (stop !)) (init ! 20 refl (tt, tt)) $
+        (λ outside. goes-on ! (seq (assign (place 0 []) (rvOpd opdFalse)) return) Post $
+        sets ! 6 7 (of-opd ! (false-lit !)) refl (tt, tt) $
         returns ! (look ! 20 refl) $ forget ! 10 refl $ forget ! 12 refl $ forget ! 14 refl $ forget ! 16 refl $ forget ! 18 refl $
         forget ! 20 refl $
-        move ! (20 ∷ 21 ∷ 18 ∷ 19 ∷ 16 ∷ 17 ∷ 14 ∷ 15 ∷ 12 ∷ 13 ∷ 10 ∷ 11 ∷ 8 ∷ 9 ∷ 6 ∷ 7 ∷ []) $
-        free1 ! $ free1 ! $ free1 ! $ free1 ! $ free1 ! $ free1 ! $ free1 ! $ free1 ! $ free0 ! $
+        move ! (places 6 7) $
+        frees-all ! $
         keep ! (0 ∷ 1 ∷ 2 ∷ 3 ∷ []) $
         by ! (exits false ys refl room (sym (is-outside ys i outside), sym (set-out ys i x (nltb→le i (length ys) outside)))))))))))))
       where

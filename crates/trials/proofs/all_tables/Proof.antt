@@ -1,4 +1,4 @@
--- `all_tables` is safe and ends: what is left of the tables falls. The pool keeps its length. Assumes nothing.
+-- `all_tables` is safe and ends: what is left of the tables falls. The pool keeps its length.
 use Prim.Native.Nat.{_-_}
 use borrow.Author.Needs.{needs}
 use lib.ListN.{length}

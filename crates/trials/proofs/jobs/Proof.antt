@@ -1,4 +1,4 @@
--- `jobs` is safe and ends: what is left of the 128 choices falls. The pool keeps its length. Assumes nothing.
+-- `jobs` is safe and ends: what is left of the 128 choices falls. The pool keeps its length.
 use Prim.Native.Nat.{_-_}
 use borrow.Author.Needs.{needs}
 use lib.ListN.{length}

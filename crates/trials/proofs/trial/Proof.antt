@@ -1,4 +1,4 @@
--- `trial` is safe: the parts that it lends of its two arrays lie within them. Assumes nothing.
+-- `trial` is safe: the parts that it lends of its two arrays lie within them.
 use borrow.Author.Needs.{needs}
 use lib.ListN.{length-take}
 use native.Mathlib.Omega.{arith}

@@ -3,7 +3,6 @@
 use Prim.Native.Nat.{_-_}
 use mathlib.Core.Path.{sym, _∙_}
 use native.Mathlib.Omega.{arith}
-use Rattle.stops.specs.Legs.{legs}
 use Rattle.inspection.specs.Code.{ofNumbers}
 use Rattle.inspection.proofs.OrderLaws.{stop-same, size-same}
 use Rattle.inspection.proofs.PathLaws.{Along, along-starts, along-fits, along-more, along-ends}
@@ -11,7 +10,7 @@ use Rattle.inspection.proofs.cost.along.Statement.{statement}
 use Rattle.inspection.proofs.cost.along.Tie as tie
 
 abbrev Inv-loop : tie.InvT-loop
-Inv-loop t size first second path₀ place₀ k₀ path place k = Along (legs t) (ofNumbers size 0 first second) size path place k
+Inv-loop t size first second path₀ place₀ k₀ path place k = Along t (ofNumbers size 0 first second) size path place k
 
 abbrev μ-loop : tie.MeasureT-loop
 μ-loop t size first second path₀ place₀ k₀ path place k = size - k
@@ -23,12 +22,11 @@ stop-at-requires : tie.Need-stop-at-requires Inv-loop μ-loop
 stop-at-requires c κs = omega arith
 
 add-path : tie.Need-add-path Inv-loop μ-loop
-unfolding legs
 add-path c =
     let s = c .before .before .before in
     record {
       fits =
-          rw (c .leg .ensures)
+          rw (c .further .ensures)
           (along-fits (s .loop .inv) (s .before .pre .1) (c .before .before .loop-test .taken) (c .before .stop-at .result));
     }
 
@@ -39,11 +37,10 @@ loop-less : tie.Need-loop-less Inv-loop μ-loop
 loop-less c = omega arith
 
 loop-again : tie.Need-loop-again Inv-loop μ-loop
-unfolding legs
 loop-again c =
     let s = c .before .before .before in
     let a = s .before .args in
-    rw (c .leg .ensures)
+    rw (c .further .ensures)
     (along-more (s .loop .inv) (c .before .before .loop-test .taken)
     (c .before .stop-at .ensures .0 ∙ stop-same (a .size) 0 (a .first) (a .second) (s .loop .k)))
 

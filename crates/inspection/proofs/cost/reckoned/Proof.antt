@@ -5,16 +5,15 @@ use Prim.Native.Nat.{ℕ, _*_, _-_, _^_, _%_, _≤_, _<_}
 use native.Mathlib.Omega.{arith}
 use borrow.Author.Needs.{needs}
 use lib.Pow.{pow-pos}
-use Rattle.sizes.specs.Sizes.{mostStops, dearest}
-use Rattle.stops.specs.Legs.{legs}
-use Rattle.stops.specs.Code.{stopsIn, Within}
+use Rattle.sizes.specs.Sizes.{mostStops}
+use Rattle.stops.specs.Code.{stopsIn, Cheap}
 use Rattle.stops.specs.declared.node_record.Record.{Record}
 use Rattle.stops.proofs.SetBits.{stopsIn-few}
-use Rattle.stops.proofs.SetLoops.{ahead-small}
+use Rattle.stops.proofs.StopsWalk.{ahead-small}
 use Rattle.records.proofs.Mask.{rest-small}
 use Rattle.node_answers.specs.Nodes.{flownStops}
 use Rattle.inspection.specs.Code.{ofNumbers}
-use Rattle.inspection.proofs.FigureLaws.{job-few, job-square, job-within, one-shifted, node-short, set-within, figures-node}
+use Rattle.inspection.proofs.FigureLaws.{job-few, job-square, job-cheap, one-shifted, node-short, set-within, figures-node}
 use Rattle.inspection.proofs.cost.reckoned.Statement.{statement}
 use Rattle.inspection.proofs.cost.reckoned.Tie as tie
 
@@ -43,15 +42,15 @@ rows-requires c κs =
     let s = c .before .before in
     (few s, job-square (s .args .job) (s .args .table .now) (s .pre .1))
 
--- the legs that are reckoned with
-within : (c : tie.After-rows) → Within dearest (legs (c .rows .result))
-within c = let s = entered c in rw (c .rows .ensures) (job-within (s .args .job) (s .args .table .now) (s .pre .1))
+-- the rows that are reckoned with
+cheap : (c : tie.After-rows) → Cheap (c .rows .result)
+cheap c = let s = entered c in rw (c .rows .ensures) (job-cheap (s .args .job) (s .args .table .now) (s .pre .1))
 
 along-requires : tie.Need-along-requires
 unfolding ofNumbers
 along-requires c κs =
     let s = entered (c .before) in
-    (omega (arith, node-short (s .args .job .n) (x s) (s .pre .0), few s), within (c .before))
+    (omega (arith, node-short (s .args .job .n) (x s) (s .pre .0), few s), cheap (c .before))
 
 shl-rest : tie.Need-shl-rest
 shl-rest c = omega (arith, few (started c))
@@ -68,13 +67,13 @@ unfolding ofNumbers
 sub-rest-2 c = let s = started c in omega (arith, shifted s, set-within (s .args .job .n) (x s) (s .pre .0))
 
 -- the stops to come are those that the set leaves
-rest-few : (c : tie.Start) → (1 * 2 ^ (c .args .job .n)) % 4294967296 - 1 - c .args .set < 65536
+rest-few : (c : tie.Start) → (1 * 2 ^ (c .args .job .n)) % 4294967296 - 1 - c .args .set < 2 ^ mostStops
 rest-few c = rw (shifted c) (rest-small (c .args .job .n) (few c) (c .args .set))
 
 ahead-requires : tie.Need-ahead-requires
 ahead-requires c κs =
     let w = c .before .before in
-    (w .along .ensures .place-few, (rest-few (started (c .before)), within (loaded w)))
+    (w .along .ensures .place-few, (rest-few (started (c .before)), cheap (loaded w)))
 
 add-t14 : tie.Need-add-t14
 add-t14 c =
@@ -85,8 +84,8 @@ add-t14 c =
       arith,
       w .along .ensures .cost-small,
       c .before .ahead .ensures,
-      ahead-small dearest (legs (loaded w .rows .result)) (within (loaded w)) (w .along .result .place) mostStops
-          (s .args .job .bound) (stopsIn rest) (stopsIn-few rest (rest-few s)),
+      ahead-small (loaded w .rows .result) (cheap (loaded w)) mostStops (s .args .job .bound) (w .along .result .place)
+          (stopsIn rest) (stopsIn-few rest (rest-few s)),
     )
 
 returns : tie.Need-returns
@@ -97,7 +96,7 @@ returns c =
     let a = s .args in
     figures-node (x s) (a .job) (a .table .now) (s .pre .0) (s .pre .1) (loaded w .rows .result) (w .along .result .path)
     (w .along .result .place) ((1 * 2 ^ (a .job .n)) % 4294967296 - 1 - a .set) (c .before .ahead .result) (loaded w .rows .ensures)
-    (w .along .ensures .cost-is) (w .along .ensures .place-is) (rw (shifted s) refl) (c .before .ahead .ensures)
+    (w .along .ensures .cost-is (a .job .n)) (w .along .ensures .place-is) (rw (shifted s) refl) (c .before .ahead .ensures)
 
 pub reckoned-spec : {M : Type 1} → statement M
 reckoned-spec =

@@ -4,7 +4,7 @@ use mathlib.Core.List.{List}
 use Prim.Native.Nat.{ℕ, _-_}
 use native.Mathlib.Omega.{arith}
 use lib.ListN.{length, take, drop}
-use Rattle.stops.proofs.RowLaws.{part-from}
+use Rattle.lists.proofs.Elements.{part-from}
 use Rattle.answer.specs.Checks.{cause₁}
 use Rattle.job_format.specs.Contents.{trailerLength}
 use Rattle.job_format.specs.Reader.{trailerFrom, contentsBy}

@@ -1,6 +1,6 @@
 -- `refused` meets its contract: each field is the one that `refusal` names.
 use mathlib.Core.Path.{refl}
-use Rattle.records.specs.Records.{padded}
+use Rattle.lists.specs.Lists.{padded}
 use Rattle.job_format.specs.Reader.{refusal}
 use Rattle.job_file.specs.Promise.{returned}
 use Rattle.job_file.proofs.reader.refused.Statement.{statement}

@@ -5,9 +5,9 @@ use mathlib.Core.List.{[], _∷_, _++_}
 use Prim.Native.Nat.{ℕ, _-_, _≤_}
 use native.Mathlib.Omega.{arith}
 use Rattle.sizes.specs.Sizes.{tableNumbers}
-use Rattle.records.specs.Records.{padded}
+use Rattle.lists.specs.Lists.{padded}
+use Rattle.lists.proofs.Padded.{padded-one}
 use Rattle.job_format.specs.Reader.{wordsIn}
-use Rattle.records.proofs.Padded.{padded-one}
 use Rattle.job_format.proofs.ByteLaws.{words-next, length-words}
 use Rattle.job_file.proofs.reader.table_of.Statement.{statement}
 use Rattle.job_file.proofs.reader.table_of.Tie as tie

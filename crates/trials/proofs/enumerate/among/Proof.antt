@@ -1,4 +1,4 @@
--- `among` is safe and ends. The invariant: i is at most m. Assumes nothing.
+-- `among` is safe and ends. The invariant: i is at most m.
 use Prim.Native.Nat.{_≤_, _-_}
 use borrow.Author.Needs.{needs}
 use Rattle.trials.proofs.enumerate.among.Statement.{statement}

@@ -1,4 +1,4 @@
--- `below` meets its contract by the law of remainders. Assumes nothing.
+-- `below` meets its contract by the law of remainders.
 use borrow.Author.Needs.{needs}
 use native.Mathlib.Nat.{mod-lt}
 use Rattle.trials.proofs.enumerate.below.Statement.{statement}

@@ -1,5 +1,4 @@
 -- `cost_of` is safe and ends. The invariant: i is at most n, and the sum is at most the largest leg for each place passed.
--- Assumes nothing.
 use Prim.Native.Nat.{_≤_, _-_, _*_}
 use borrow.Author.Needs.{needs}
 use Rattle.trials.proofs.enumerate.cost_of.Statement.{statement}

@@ -1,4 +1,4 @@
--- `is_order` is safe and ends. The invariant: i is at most n. Assumes nothing.
+-- `is_order` is safe and ends. The invariant: i is at most n.
 use Prim.Native.Nat.{_≤_, _-_}
 use borrow.Author.Needs.{needs}
 use Rattle.trials.proofs.enumerate.is_order.Statement.{statement}

@@ -1,4 +1,4 @@
--- `least` is safe and ends: what is left of the sequences falls. Assumes nothing.
+-- `least` is safe and ends: what is left of the sequences falls.
 use Prim.Native.Nat.{_-_}
 use borrow.Author.Needs.{needs}
 use Rattle.trials.proofs.enumerate.least.Statement.{statement}

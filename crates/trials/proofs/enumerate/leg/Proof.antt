@@ -1,4 +1,4 @@
--- `leg` is safe: i times the row's length is at most 255 times 17. Assumes nothing.
+-- `leg` is safe: i times the row's length is at most 255 times 17.
 use borrow.Author.Needs.{needs}
 use native.Mathlib.Nat.{mul-le-mul}
 use native.Mathlib.Omega.{arith}

@@ -1,4 +1,4 @@
--- `order_of` is safe and ends: what is left of the sequences falls. Assumes nothing.
+-- `order_of` is safe and ends: what is left of the sequences falls.
 use Prim.Native.Nat.{_-_}
 use borrow.Author.Needs.{needs}
 use Rattle.trials.proofs.tables.order_of.Statement.{statement}

@@ -1,4 +1,4 @@
--- `table_of` is safe and ends. The invariant: the table has 49 places. Assumes nothing.
+-- `table_of` is safe and ends. The invariant: the table has 49 places.
 use Prim.Native.Nat.{_-_}
 use borrow.Author.Needs.{needs}
 use lib.ListN.{length}

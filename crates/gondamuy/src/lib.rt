@@ -3,26 +3,20 @@
 ghost use mathlib.Core.Path.{_≡_};
 ghost use Rattle.answer.specs.Call.{callOf};
 ghost use Rattle.planner.specs.Promise.{Promised};
+ghost use Rattle.job_format.specs.Contents.{contentsOf};
 ghost use Rattle.job_format.specs.Reader.{read};
-ghost use Rattle.job_file.specs.Promise.{returned, jobOf, Promised as PromisedFile};
+ghost use Rattle.job_file.specs.Promise.{returned, Promised as PromisedFile};
+use answer::Job;
+use answer::Report;
 use job_file::reader::Reading;
 use job_file::writer::Written;
-use planner::run::Report;
 
 // `planner::plan` for C: a slice is a pointer and a length.
 #[no_mangle]
-pub extern "C" fn gondamuy_plan(
-    n: u32,
-    table: &[u32],
-    selection: u32,
-    rules: u32,
-    bound: u32,
-    start: &[u8],
-    pool: &mut [u32],
-) -> Report
-    ensures { λ r. ⌜ Promised (callOf n (now (table .entry)) selection rules bound (now (start .entry)) (now (pool .entry))) r (now (pool .exit)) ⌝ }
+pub extern "C" fn gondamuy_plan(job: Job, table: &[u32], start: &[u8], pool: &mut [u32]) -> Report
+    ensures { λ r. ⌜ Promised (callOf job (now (table .entry)) (now (start .entry)) (now (pool .entry))) r (now (pool .exit)) ⌝ }
 {
-    planner::plan(n, table, selection, rules, bound, start, pool)
+    planner::plan(job, table, start, pool)
 }
 
 // `job_file::reader::read` for C.
@@ -36,15 +30,12 @@ pub extern "C" fn gondamuy_read(file: &[u8]) -> Reading
 // `job_file::writer::write` for C.
 #[no_mangle]
 pub extern "C" fn gondamuy_write(
-    n: u32,
+    job: Job,
     table: &[u32],
-    selection: u32,
-    rules: u32,
-    bound: u32,
     start: &[u8],
     buffer: &mut [u8],
 ) -> Written
-    ensures { λ r. ⌜ PromisedFile (jobOf n (now (table .entry)) selection rules bound (now (start .entry))) (now (buffer .entry)) r (now (buffer .exit)) ⌝ }
+    ensures { λ r. ⌜ PromisedFile (contentsOf job (now (table .entry)) (now (start .entry))) (now (buffer .entry)) r (now (buffer .exit)) ⌝ }
 {
-    job_file::writer::write(n, table, selection, rules, bound, start, buffer)
+    job_file::writer::write(job, table, start, buffer)
 }

@@ -1,2 +1,0 @@
--- `padded-one` stands in `lists` now.
-pub use Rattle.lists.proofs.Padded.{padded-one}
