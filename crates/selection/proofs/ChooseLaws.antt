@@ -1,7 +1,7 @@
 -- Which place among some records a selection picks, told by the places' ranks alone: place i leads on a side if no place has a smaller
 -- rank and, of those of its rank, it is the earliest or the latest. The node at the place that leads is the one that `pick`, and so
 -- document 01's selection, chooses; the others are the list without it. A loop goes from each place that leads so far to the next that goes
--- before it. Assumes nothing.
+-- before it.
 use mathlib.Core.Path.{_≡_, refl, ap, _∙_}
 use mathlib.Core.Bool.{Bool, true, false, not, cond}
 use mathlib.Core.List.{List, [], _∷_, _++_}
@@ -21,6 +21,7 @@ use borrow.Author.Tests.{
 use lib.Dec.{ltb, eqb}
 use lib.ListN.{length, getD, take, drop, length-append}
 use lib.Seq.{getD-append-seam, getD-take, length-take-le}
+use Rattle.sizes.specs.Sizes.{recordWords}
 use Rattle.lists.proofs.Tests.{compared, ordered}
 use Rattle.lists.proofs.Slices.{all-so-each}
 use Rattle.search.specs.Problem.{Problem}
@@ -43,7 +44,7 @@ ahead-trans true a b c h k = omega arith
 ahead-trans false a b c h k = omega arith
 
 -- a record's bound is its fourth word
-pub bound-at : (w : List ℕ) (i : ℕ) → i < length (records w) → boundAt (records w) i ≡ getD w (6 * i + 3) 0
+pub bound-at : (w : List ℕ) (i : ℕ) → i < length (records w) → boundAt (records w) i ≡ getD w (recordWords * i + 3) 0
 bound-at w i h = ap (λ (x : Record). x .bound) (records-at w i h)
 
 -- below the edge is what goes before
@@ -226,7 +227,7 @@ module _ (w : List ℕ) (a : ℕ) (fits : a ≤ length (records w)) where
       (λ P same k j. refl)
 
   -- 3: the place leads by the sizes, which are the records' first words
-  pub chosen-latest : (n i : ℕ) → Leads true (λ k. wait n (getD w (6 * k) 0)) a i → Chosen n (take a (records w)) 3 i
+  pub chosen-latest : (n i : ℕ) → Leads true (λ k. wait n (getD w (recordWords * k) 0)) a i → Chosen n (take a (records w)) 3 i
   chosen-latest n i l =
       chosen-leads n (records w) a 3 fits (omega arith) i _ l
       (λ P same k j. rw (same (getD (records w) k emptyRecord), records-at w k (omega arith)))

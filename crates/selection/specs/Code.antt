@@ -1,4 +1,4 @@
--- What choosing a record means. Assumes nothing.
+-- What choosing a record means. These definitions are the code's own: a reader of the promise needs none of them.
 use mathlib.Core.Path.{_≡_}
 use mathlib.Core.Bool.{Bool, true, false, not}
 use mathlib.Core.List.{List}
@@ -36,9 +36,9 @@ pub record NextAhead (late : Bool) (rank : ℕ → ℕ) (from a least r : ℕ) :
 abbrev pub boundAt : List Record → ℕ → ℕ
 boundAt xs k = getD xs k emptyRecord .bound
 
--- the record's bound is below a limit
+-- the record's bound is below an edge
 unfoldable pub isBelow : ℕ → Record → Bool
-isBelow limit x = ltb (x .bound) limit
+isBelow edge x = ltb (x .bound) edge
 
 -- a selection above 3 is refused with 4
 abbrev pub Chose : ℕ → List Record → ℕ → Place → Type 0

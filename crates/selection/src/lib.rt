@@ -8,6 +8,7 @@ ghost use Rattle.lists.specs.Lists.{any};
 ghost use Rattle.stops.specs.Code.{emptyRecord};
 ghost use Rattle.records.specs.Code.{records, RunsTo};
 ghost use Rattle.selection.specs.Code.{Chose, Chosen, NextAhead, boundAt, isBelow};
+use sizes::RECORD_WORDS;
 
 // Where the chosen node stands, or the number of a refusal.
 pub enum Place {
@@ -25,42 +26,42 @@ fn edge(least: u32, late: bool) -> u64
     least as u64
 }
 
-// Whether the bound of record i is below limit.
-fn below(w: &[u32], i: usize, limit: u64) -> bool
+// Whether the bound of record i is below an edge.
+fn below(w: &[u32], i: usize, edge: u64) -> bool
     requires { ⌜ i < length (records (now w)) ⌝ }
-    ensures { λ r. ⌜ r ≡ isBelow limit (getD (records (now (w .entry))) i emptyRecord) ⌝ }
+    ensures { λ r. ⌜ r ≡ isBelow edge (getD (records (now (w .entry))) i emptyRecord) ⌝ }
 {
-    (w[6 * i + 3] as u64) < limit
+    (w[RECORD_WORDS * i + 3] as u64) < edge
 }
 
-// Whether one of the four records from i on has a bound below limit.
-fn four_below(w: &[u32], i: usize, limit: u64) -> bool
+// Whether one of the four records from i on has a bound below an edge.
+fn four_below(w: &[u32], i: usize, edge: u64) -> bool
     requires { ⌜ i + 4 ≤ length (records (now w)) ⌝ }
-    ensures { λ r. ⌜ r ≡ any (isBelow limit) (slice i (i + 4) (records (now (w .entry)))) ⌝ }
+    ensures { λ r. ⌜ r ≡ any (isBelow edge) (slice i (i + 4) (records (now (w .entry)))) ⌝ }
 {
-    if below(w, i, limit) {
+    if below(w, i, edge) {
         return true;
     }
-    if below(w, i + 1, limit) {
+    if below(w, i + 1, edge) {
         return true;
     }
-    if below(w, i + 2, limit) {
+    if below(w, i + 2, edge) {
         return true;
     }
-    below(w, i + 3, limit)
+    below(w, i + 3, edge)
 }
 
-// The first of the records from `from` to a whose bound is below limit, or a. Four records a turn, up to four of which one is.
-fn next_below(w: &[u32], from: usize, a: usize, limit: u64) -> usize
+// The first of the records from `from` to a whose bound is below an edge, or a. Four records a turn, up to four of which one is.
+fn next_below(w: &[u32], from: usize, a: usize, edge: u64) -> usize
     requires { ⌜ (from ≤ a) × (a ≤ length (records (now w))) ⌝ }
-    ensures { λ r. ⌜ RunsTo (isBelow limit) false (records (now (w .entry))) from a r ⌝ }
+    ensures { λ r. ⌜ RunsTo (isBelow edge) false (records (now (w .entry))) from a r ⌝ }
 {
     let mut i = from;
-    while 4 <= a - i && !four_below(w, i, limit) {
+    while 4 <= a - i && !four_below(w, i, edge) {
         i += 4;
     }
     while i < a {
-        if below(w, i, limit) {
+        if below(w, i, edge) {
             return i;
         }
         i += 1;
@@ -85,7 +86,7 @@ fn least_bound(w: &[u32], a: usize, late: bool) -> usize
     let mut i = next_before(w, 1, a, w[3], late);
     while i < a {
         best = i;
-        i = next_before(w, i + 1, a, w[6 * i + 3], late);
+        i = next_before(w, i + 1, a, w[RECORD_WORDS * i + 3], late);
     }
     best
 }
@@ -98,7 +99,7 @@ fn latest_open(w: &[u32], a: usize, n: u32) -> usize
     let mut i = a;
     while 0 < i {
         i -= 1;
-        if w[6 * i] != n {
+        if w[RECORD_WORDS * i] != n {
             return i;
         }
     }

@@ -1,6 +1,7 @@
--- `below` meets its contract: a record's bound is its fourth word. Assumes nothing.
+-- `below` meets its contract: a record's bound is its fourth word.
 use Prim.Native.Nat.{_+_, _*_}
 use native.Mathlib.Omega.{arith}
+use Rattle.sizes.specs.Sizes.{recordWords}
 use Rattle.selection.specs.Code.{isBelow}
 use Rattle.records.proofs.ViewLaws.{length-records}
 use Rattle.selection.proofs.ChooseLaws.{bound-at}
@@ -19,5 +20,5 @@ below-spec =
     (λ c. omega (arith, length-records (c .args .w .now)))
     (λ c. omega (arith, length-records (c .args .w .now)))
     (λ c. omega (arith, length-records (c .before .args .w .now)))
-    (λ c. omega (arith, c .shared-slice-known .given (6 * c .before .args .i + 3)))
+    (λ c. omega (arith, c .shared-slice-known .given (recordWords * c .before .args .i + 3)))
     returns)

@@ -1,19 +1,9 @@
 -- `choose` meets its contract: each selection is what the function that it calls ensures, and under 2 the first record is the earliest.
--- Assumes nothing.
 use native.Mathlib.Omega.{arith}
 use borrow.Author.Needs.{needs}
 use Rattle.selection.proofs.ChooseLaws.{chosen-first}
 use Rattle.selection.proofs.choose.Statement.{statement}
 use Rattle.selection.proofs.choose.Tie as tie
-
-least-bound-requires : tie.Need-least-bound-requires
-least-bound-requires c κs = search needs
-
-least-bound-requires-2 : tie.Need-least-bound-requires-2
-least-bound-requires-2 c κs = search needs
-
-latest-open-requires : tie.Need-latest-open-requires
-latest-open-requires c κs = search needs
 
 returns : tie.Need-returns
 returns c = rw (c .before .match .keys1) (c .least-bound .ensures (c .before .before .before .args .n))
@@ -29,6 +19,7 @@ returns-3 c =
 returns-4 : tie.Need-returns-4
 returns-4 c = rw (c .before .match .keys4) (c .latest-open .ensures)
 
+-- no other selection is left: refusal 4
 returns-5 : tie.Need-returns-5
 returns-5 c = search needs
 
@@ -36,9 +27,9 @@ pub choose-spec : {M : Type 1} → statement M
 choose-spec =
     tie.close
     (tie.spec
-    least-bound-requires
-    least-bound-requires-2
-    latest-open-requires
+    (λ c κs. search needs)
+    (λ c κs. search needs)
+    (λ c κs. search needs)
     returns
     returns-2
     returns-3

@@ -1,4 +1,4 @@
--- `edge` meets its contract. Assumes nothing.
+-- `edge` meets its contract.
 use borrow.Author.Needs.{needs}
 use Rattle.selection.proofs.edge.Statement.{statement}
 use Rattle.selection.proofs.edge.Tie as tie

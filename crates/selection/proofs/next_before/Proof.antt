@@ -1,4 +1,4 @@
--- `next_before` meets its contract: below the edge is what goes before. Assumes nothing.
+-- `next_before` meets its contract: below the edge is what goes before.
 use borrow.Author.Needs.{needs}
 use Rattle.records.specs.Code.{records}
 use Rattle.selection.proofs.ChooseLaws.{runs-ahead}
