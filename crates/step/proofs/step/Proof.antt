@@ -202,7 +202,8 @@ hold-requires c κs =
 
 counted-requires : tie.Need-counted-requires
 counted-requires c κs =
-    let r = c .before .before .before .before .before .before in
+    let at-hold = c .before .before .before in
+    let r = at-hold .before .before .before in
     let d = spotted (r .before .before .before) in
     let ready = start d .pre in
     let stay : length (staying d) ≤ run d .active - 1 =

@@ -36,9 +36,6 @@ head c = c .before .before
 abbrev stepped : tie.After-child Inv-loop μ-loop → tie.After-next Inv-loop μ-loop
 stepped c = c .before .before .before .before
 
-last-requires : tie.Need-last-requires Inv-loop μ-loop
-last-requires c κs = search needs
-
 shl-rest : tie.Need-shl-rest Inv-loop μ-loop
 shl-rest c = let h = entry (c .before) .pre .0 .few in omega arith
 
@@ -133,7 +130,7 @@ family-spec =
     (tie.spec
     Inv-loop
     μ-loop
-    last-requires
+    (λ c κs. search needs)
     shl-rest
     sub-rest
     sub-rest-2

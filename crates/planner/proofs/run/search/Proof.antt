@@ -139,7 +139,8 @@ settle-requires c κs = let turn = finish (c .before) in settle-ready (stands (h
 stops-of-requires : tie.Need-stops-of-requires Inv-loop μ-loop
 unfolding callOf
 stops-of-requires c κs =
-    let turn = finish (c .before .before .before .before .before) in
+    let at-settle = c .before .before .before in
+    let turn = finish (at-settle .before .before) in
     ok (entry (tabled (began (head turn)))) .few
 
 same-length : tie.Need-same-length Inv-loop μ-loop

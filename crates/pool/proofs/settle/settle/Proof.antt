@@ -1,5 +1,5 @@
 -- `pool::settle::settle` meets its contract: `turn`, `slide` and `clear` one after the other, joined by `settle-joins`. What `slide` and
--- `clear` require rests on turning and sliding keeping the number of records. Assumes nothing.
+-- `clear` require rests on turning and sliding keeping how many records there are.
 use mathlib.Core.Path.{_≡_, _∙_}
 use Prim.Native.Nat.{_-_}
 use native.Mathlib.Omega.{arith}
@@ -13,10 +13,10 @@ use Rattle.pool.proofs.settle.settle.Tie as tie
 turned-long : (c : tie.After-turn) → length (records (c .turn .last .0)) ≡ length (records (c .before .before .before .args .w .now))
 turned-long c =
     let a = c .before .before .before .args in
-    rw (c .turn .ensures) (length-turned (a .count - a .b) (a .count) (records (a .w .now)) (omega arith))
+    rw (c .turn .ensures) (length-turned (a .capacity - a .far) (a .capacity) (records (a .w .now)) (omega arith))
 
-sub-far : tie.Need-sub-far
-sub-far c = search needs
+sub-from : tie.Need-sub-from
+sub-from c = search needs
 
 turn-requires : tie.Need-turn-requires
 turn-requires c κs = search needs
@@ -47,4 +47,4 @@ returns c =
 
 pub settle-spec : {M : Type 1} → statement M
 settle-spec =
-    tie.close (tie.spec sub-far turn-requires slide-requires clear-requires same-length returns)
+    tie.close (tie.spec sub-from turn-requires slide-requires clear-requires same-length returns)
