@@ -1,7 +1,7 @@
 // Parts 3, 4 and 5 of a step: which children survive rules 1, 2 and 4.
 ghost use mathlib.Core.Path.{_≡_};
 ghost use mathlib.Core.Bool.{not, cond, _||_};
-ghost use Prim.Native.Nat.{_≤_, _<_};
+ghost use Prim.Native.Nat.{_≤_};
 ghost use lib.ListN.{length, take};
 ghost use Rattle.sizes.specs.Sizes.{noLimit};
 ghost use Rattle.search.specs.Step.{on};
