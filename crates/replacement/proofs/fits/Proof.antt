@@ -37,9 +37,6 @@ few c =
 room : (c : tie.Start) → c .args .spot .active ≤ length (records (c .args .w .now))
 room c = c .pre .0 .spotted .front
 
-sub-most : tie.Need-sub-most
-sub-most c = omega (arith, few (c .before .before .before))
-
 add-most : tie.Need-add-most
 add-most c =
     let start = c .before .before .before .before in
@@ -80,7 +77,7 @@ pub fits-spec : {M : Type 1} → statement M
 fits-spec =
     tie.close
     (tie.spec
-    sub-most
+    (λ c. omega (arith, few (c .before .before .before)))
     add-most
     add-most-2
     returns
