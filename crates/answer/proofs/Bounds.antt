@@ -3,7 +3,7 @@ use mathlib.Core.Path.{ap}
 use native.Mathlib.Omega.{arith}
 use Rattle.days.specs.Days.{Day, problem, choices}
 use Rattle.days.proofs.Walk.{walk-closer}
-use Rattle.answer.specs.Answer.{dayOf, problemOf, choicesOf}
+use Rattle.answer.specs.Answer.{problemOf, choicesOf}
 use Rattle.answer.specs.Document01.{BoundNeverFalls, BoundExact, CloseNotBelowPlain}
 use Rattle.answer.proofs.Passes.{passes}
 use Rattle.answer.proofs.Instance.{one-day, call-walk, bound-laws}

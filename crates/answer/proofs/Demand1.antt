@@ -1,10 +1,9 @@
 -- Demand 1 of the written run: every call ends, with an order or a numbered refusal, and what a refusal gives and leaves.
-use mathlib.Core.Path.{_≡_, refl, sym, _∙_, ap, subst}
+use mathlib.Core.Path.{refl, sym, _∙_, ap, subst}
 use mathlib.Core.Logic.{_⊎_, inl, inr}
 use native.Mathlib.Omega.{arith}
 use Rattle.answer.specs.Call.{Call, Answer}
 use Rattle.answer.specs.declared.Report.{Report}
-use Rattle.answer.specs.Checks.{cause}
 use Rattle.answer.specs.Answer.{reportWith, ending, answer}
 use Rattle.answer.specs.Ends.{FullAt, RefusedAt, Ended, planned, filled, refused}
 use Rattle.answer.specs.Demands.{written, EveryCallIsAnswered, EveryCallEnds, OneAnswer, RefusalsFixed}

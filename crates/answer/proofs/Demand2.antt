@@ -2,8 +2,7 @@
 -- `branched` counts the run's steps.
 use mathlib.Core.Path.{_≡_, refl, sym, _∙_, ap, subst}
 use mathlib.Core.Logic.{inl, inr}
-use Prim.Native.Nat.{ℕ, _+_}
-use Rattle.search.specs.Run.{finished, full}
+use Prim.Native.Nat.{_+_}
 use Rattle.search.proofs.Plain.{tree, planOf, cutOf, adds}
 use Rattle.search.proofs.Counts.{counts-agree}
 use Rattle.records.specs.Records.{recordsIn}

@@ -1,8 +1,7 @@
 -- Demand 3 of the written run, the first half: finished runs over one table report one cost, that of a cheapest order. A run that finishes is a
 -- call whose answer has number 0; nothing else is assumed of the calls.
 --   Solved, solved    the state of a finished run knows an order, and no order is cheaper
-use mathlib.Core.Path.{_≡_, refl, sym, _∙_, ap, ap₂, subst}
-use mathlib.Core.List.{List}
+use mathlib.Core.Path.{_≡_, refl, sym, _∙_, ap, subst}
 use mathlib.Core.Option.{Option, some}
 use Prim.Native.Nat.{ℕ, _-_, _≤_}
 use native.Mathlib.Nat.{le-antisymm}

@@ -6,10 +6,9 @@ use mathlib.Core.List.{List, [], _∷_}
 use mathlib.Core.Logic.{_⊎_, inl, inr}
 use Prim.Native.Nat.{ℕ, zero, suc, _≤_}
 use native.Mathlib.Omega.{arith}
-use lib.Dec.{T, eqb}
+use lib.Dec.{eqb}
 use lib.ListN.{length}
 use Rattle.search.specs.Problem.{Problem, State, upper, start}
-use Rattle.search.specs.Step.{on}
 use Rattle.search.specs.Run.{finished}
 use Rattle.search.proofs.General.{Plan, cap, search, done}
 use Rattle.search.proofs.Cover.{root-good, good-bound}

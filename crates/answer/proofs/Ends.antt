@@ -23,7 +23,7 @@ use Rattle.orders.specs.Orders.{Node}
 use Rattle.records.specs.Records.{recordsIn}
 use Rattle.answer.specs.Call.{Call}
 use Rattle.answer.specs.Checks.{cause}
-use Rattle.answer.specs.Answer.{problemOf, choicesOf, given, StateOf, ending, respond, answer}
+use Rattle.answer.specs.Answer.{problemOf, choicesOf, StateOf, ending, respond, answer}
 use Rattle.answer.specs.Ends.{made, FinishTestHolds, NextDoesNotFit, ComesTo}
 use Rattle.answer.proofs.Passes.{passes}
 use Rattle.answer.proofs.Instance.{selection-small, finish-outcome, overflow-outcome}

@@ -4,23 +4,19 @@ use mathlib.Core.Path.{_≡_, refl, sym, _∙_, ap}
 use mathlib.Core.Bool.{Bool, true, false, not, _&&_, _||_}
 use mathlib.Core.List.{List, [], _∷_}
 use mathlib.Core.Logic.{_⊎_, inl, inr}
-use mathlib.Core.Option.{Option}
 use Prim.Native.Nat.{ℕ, _≤_}
 use native.Mathlib.Omega.{arith}
 use lib.Dec.{T, leb, eqb, leb→le, eqb→eq, eqb-refl, le→leb}
-use Rattle.lists.specs.Lists.{In}
 use Rattle.lists.proofs.Tests.{same-tests}
-use Rattle.search.specs.Problem.{Problem, Choices, State, upper}
-use Rattle.search.specs.Selection.{chosen, select, empty, finishes}
+use Rattle.search.specs.Problem.{upper}
+use Rattle.search.specs.Selection.{select, empty, finishes}
 use Rattle.search.proofs.General.{cap}
 use Rattle.search.proofs.Plain.{tree, planOf, cutOf}
 use Rattle.search.proofs.PlainSelection.{select-is-pick}
 use Rattle.search.proofs.Optimal.{active-some, tested-within}
 use Rattle.orders.specs.Orders.{Node, size}
 use Rattle.records.specs.Records.{recordsIn}
-use Rattle.answer.specs.Call.{Call}
-use Rattle.answer.specs.Checks.{cause}
-use Rattle.answer.specs.Answer.{problemOf, choicesOf, given, StateOf}
+use Rattle.answer.specs.Answer.{problemOf, choicesOf, given}
 use Rattle.answer.specs.Document01.{ActiveNeverEmpty, BoundCounts, TestedWithinU, TestsAgree}
 use Rattle.answer.proofs.Passes.{Passes, passes}
 use Rattle.answer.proofs.Instance.{state-reached, call-lawful, bound-laws, call-manner, call-solvable, start-known, selection-small}

@@ -1,5 +1,6 @@
 -- Laws of the elements of a list by their places.
---   getD-numbers, getD-from, getD-past    element i of the numbers a, a + 1, .. and of what a function makes of them; there is none past the end
+--   getD-numbers, getD-from               element i of the numbers a, a + 1, .. and of what a function makes of them
+--   getD-past                             there is none past the end
 --   getD-small                            no element is above a number that none of the list is above
 --   part-from                             the part of a list from a place on, as it is lent
 --   Rest, any-finds, any-skips, any-ends  a loop that looks for an element that passes a test

@@ -90,6 +90,11 @@ module _ {A : Type 0} where
       let k : least f xs ≤ f z = least-le f xs z (some z m) in
       omega arith
 
+  -- no value is above m
+  pub least-small : (f : A → ℕ) (m : ℕ) → ((x : A) → f x ≤ m) → (xs : List A) → least f xs ≤ m
+  least-small f m h [] = omega arith
+  least-small f m h (x ∷ xs) = omega (arith, least-le f (x ∷ xs) x in-head, h x)
+
   pub least-same :
       (f : A → ℕ) (x y : A) (xs ys : List A) → ((z : A) → In z (x ∷ xs) → In z (y ∷ ys)) → ((z : A) → In z (y ∷ ys) → In z (x ∷ xs))
       → least f (x ∷ xs) ≡ least f (y ∷ ys)

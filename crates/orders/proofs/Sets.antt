@@ -5,10 +5,10 @@
 use mathlib.Core.Path.{_≡_, refl, ap, sym, _∙_, subst}
 use mathlib.Core.Bool.{Bool, true, false, not, _&&_, _||_}
 use mathlib.Core.List.{List, [], _∷_, _++_}
-use Prim.Native.Nat.{ℕ, suc, _+_, _≤_, _<_}
+use Prim.Native.Nat.{ℕ, suc, _+_, _-_, _≤_, _<_}
 use native.Mathlib.Omega.{arith}
 use lib.Dec.{T, eqb, eqb→eq, eqb-refl}
-use lib.ListN.{length}
+use lib.ListN.{length, getD}
 use Rattle.lists.specs.Lists.{In, without, Distinct}
 use Rattle.lists.proofs.Tests.{same-tests}
 use Rattle.lists.proofs.Members.{in-keep, keep-in, any-in, in-any, in-map, map-in, in-from, from-in, distinct-keep, distinct-from, length-from}
@@ -111,6 +111,16 @@ child-extends n x c m = in-map (extend x) (left n x) c m
 pub extend-child : (n : ℕ) (x : Node) (s : ℕ) → In s (left n x) → In (extend x s) (children n x)
 unfolding children
 extend-child n x s m = map-in (extend x) m
+
+-- the last stop is the last of the list
+lastFrom-element : (place s : ℕ) (x : Node) → lastFrom place (s ∷ x) ≡ getD (s ∷ x) (length x) 0
+lastFrom-element place s [] = refl
+lastFrom-element place s (r ∷ x) = lastFrom-element s r x
+
+pub last-element : (x : Node) → 1 ≤ length x → last x ≡ getD x (length x - 1) 0
+unfolding last
+last-element [] h = absurd (omega arith)
+last-element (s ∷ x) h = let e : length x ≡ suc (length x) - 1 = omega arith in lastFrom-element 0 s x ∙ ap (λ (i : ℕ). getD (s ∷ x) i 0) e
 
 -- nodes of one set
 set-same-flown : (n : ℕ) (w x : Node) → setOf n w ≡ setOf n x → (s : ℕ) → 1 ≤ s → s ≤ n → flown w s ≡ flown x s

@@ -6,16 +6,17 @@ ghost use lib.ListN.{length, take, drop};
 ghost use Rattle.records.specs.Code.{records, Sifted, always};
 use records::load;
 use records::store;
+use sizes::RECORD_WORDS;
 
 // Moves the records behind the first of a part up by one, as many as count.
 fn move_up(part: &mut [u32], count: usize)
     requires { ⌜ count < length (records (now part)) ⌝ }
     ensures { λ u. ⌜ records (now (part .exit)) ≡ take count (drop 1 (records (now (part .entry)))) ++ drop count (records (now (part .entry))) ⌝ }
 {
-    let end = 6 * count;
+    let end = RECORD_WORDS * count;
     let mut k = 0;
     while k < end {
-        part[k] = part[k + 6];
+        part[k] = part[k + RECORD_WORDS];
         k += 1;
     }
 }
@@ -25,7 +26,7 @@ pub fn take_out(w: &mut [u32], a: usize, i: usize) -> usize
     requires { ⌜ (i < a) × (a ≤ length (records (now w))) ⌝ }
     ensures { λ e. ⌜ Sifted always (records (now (w .entry))) (i + 1) a i (records (now (w .exit))) e ⌝ }
 {
-    let from = 6 * i;
+    let from = RECORD_WORDS * i;
     move_up(&mut w[from..], a - 1 - i);
     a - 1
 }
@@ -48,6 +49,6 @@ pub fn write_at(w: &mut [u32], at: usize, kids: &[u32], r: usize)
     requires { ⌜ (at + r ≤ length (records (now w))) × (r ≤ length (records (now kids))) ⌝ }
     ensures { λ u. ⌜ records (now (w .exit)) ≡ take at (records (now (w .entry))) ++ (take r (records (now (kids .entry))) ++ drop (at + r) (records (now (w .entry)))) ⌝ }
 {
-    let from = 6 * at;
+    let from = RECORD_WORDS * at;
     write(&mut w[from..], kids, r);
 }

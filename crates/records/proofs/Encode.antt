@@ -5,11 +5,11 @@
 --   encode-last         the last stop
 --   encode-extend       one more stop and what it adds to the path cost, but for the bound
 --   encode-wide         the numbers have room for one more stop
-use mathlib.Core.Path.{_≡_, refl, ap, sym, _∙_}
+use mathlib.Core.Path.{_≡_, refl, sym, _∙_}
 use mathlib.Core.Bool.{cond}
 use mathlib.Core.List.{[], _∷_}
 use mathlib.Core.Logic.{_⊎_, inl, inr}
-use Prim.Native.Nat.{ℕ, suc, _+_, _-_, _^_, _/_, _%_, _≤_, _<_}
+use Prim.Native.Nat.{ℕ, _+_, _-_, _^_, _/_, _%_, _≤_, _<_}
 use native.Mathlib.Omega.{arith}
 use borrow.Author.Tests.{ne-eqb, le-leb, lt-leb}
 use lib.Dec.{leb, eqb}
@@ -18,8 +18,8 @@ use Rattle.sizes.specs.Sizes.{mostStops, stopBase, wordStops}
 use Rattle.lists.specs.Lists.{In}
 use Rattle.lists.proofs.Tests.{ordered}
 use Rattle.lists.proofs.Empty.{in-nonempty}
-use Rattle.orders.specs.Orders.{Node, left, lastFrom, last, size, extend, Partial}
-use Rattle.orders.proofs.Sets.{in-left, size-left}
+use Rattle.orders.specs.Orders.{Node, left, last, size, extend, Partial}
+use Rattle.orders.proofs.Sets.{in-left, size-left, last-element}
 use Rattle.orders.proofs.Partial.{partial-size}
 use Rattle.days.specs.Days.{Day}
 use Rattle.stops.specs.Code.{extended, lastStop, Wide}
@@ -40,16 +40,6 @@ encode-set-small n few D k x = set-small n few x
 -- a record whose bound is not yet known
 abbrev pub unbounded : Record → Record
 unbounded r = record { size = r .size; set = r .set; path = r .path; bound = 0; first = r .first; second = r .second }
-
--- the last stop is the last of the list
-lastFrom-element : (place s : ℕ) (x : Node) → lastFrom place (s ∷ x) ≡ getD (s ∷ x) (length x) 0
-lastFrom-element place s [] = refl
-lastFrom-element place s (r ∷ x) = lastFrom-element s r x
-
-last-element : (x : Node) → 1 ≤ length x → last x ≡ getD x (length x - 1) 0
-unfolding last
-last-element [] h = absurd (omega arith)
-last-element (s ∷ x) h = let e : length x ≡ suc (length x) - 1 = omega arith in lastFrom-element 0 s x ∙ ap (λ (i : ℕ). getD (s ∷ x) i 0) e
 
 -- the last digit of a node's words, as `lastStop` reads it
 wordsLast : Node → ℕ

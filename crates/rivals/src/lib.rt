@@ -12,14 +12,23 @@ ghost use Rattle.records.specs.Code.{records, Sifted, RunsTo};
 ghost use Rattle.rivals.specs.Code.{isFree, near, AllNear, Gathering};
 use records::load;
 use records::store;
+use sizes::RECORD_WORDS;
 use stops::node_record::Record;
+
+// The least number that a word does not hold, and the mask of a word's bits.
+const ABOVE_WORD: u64 = 4_294_967_296;
+const WORD_MASK: u64 = 4_294_967_295;
+
+// How many records are gathered at a time, and their words.
+const ROOM: usize = 32;
+const ROOM_WORDS: usize = 192;
 
 // Whether record i dominates x. Sets are compared before anything else is read.
 pub fn beats(w: &[u32], i: usize, x: Record) -> bool
     requires { ⌜ i < length (records (now w)) ⌝ }
     ensures { λ r. ⌜ r ≡ recDominates (getD (records (now (w .entry))) i emptyRecord) x ⌝ }
 {
-    if w[6 * i + 1] != x.set {
+    if w[RECORD_WORDS * i + 1] != x.set {
         return false;
     }
     load(w, i).dominates(x)
@@ -31,7 +40,7 @@ fn rival(w: &[u32], i: usize, x: Record, limit: u32) -> bool
     ensures { λ r. ⌜ r ≡ (leb (getD (records (now (w .entry))) i emptyRecord .bound) limit && recDominates (getD (records (now (w .entry))) i emptyRecord) x) ⌝ }
 {
     if beats(w, i, x) {
-        return w[6 * i + 3] <= limit;
+        return w[RECORD_WORDS * i + 3] <= limit;
     }
     false
 }
@@ -64,9 +73,9 @@ fn undominated(kids: &mut [u32], m: usize, w: &[u32], from: usize, to: usize, li
 pub fn near(x: Record, size: u32, base: u32) -> bool
     ensures { λ r. ⌜ r ≡ near size base x ⌝ }
 {
-    let high = base as u64 * 4294967296;
-    let key = x.set as u64 * 4294967296 + x.size as u64;
-    key & (high + 4294967295) == high + size as u64
+    let high = base as u64 * ABOVE_WORD;
+    let key = x.set as u64 * ABOVE_WORD + x.size as u64;
+    key & (high + WORD_MASK) == high + size as u64
 }
 
 // Whether one of the four records from i on is near base.
@@ -163,7 +172,7 @@ fn unrivalled_with(
         if left == 0 {
             return 0;
         }
-        let g = gather(w, at, to, size, base, buffer, 32);
+        let g = gather(w, at, to, size, base, buffer, ROOM);
         left = undominated(kids, left, buffer, 0, g.count, limit);
         at = g.next;
     }
@@ -189,6 +198,6 @@ pub fn unrivalled(
     if m == 0 {
         return 0;
     }
-    let mut buffer = [0u32; 192];
+    let mut buffer = [0u32; ROOM_WORDS];
     unrivalled_with(kids, m, w, from, to, size, base, limit, &mut buffer)
 }

@@ -9,7 +9,7 @@ use mathlib.Core.Logic.{_⊎_, inl, inr}
 use Prim.Native.Nat.{ℕ, zero, suc, _+_, _≤_}
 use native.Mathlib.Omega.{arith}
 use lib.Dec.{eqb}
-use Rattle.lists.specs.Lists.{In, sum, least, without, Distinct}
+use Rattle.lists.specs.Lists.{In, sum, without, Distinct}
 use Rattle.lists.proofs.Tests.{neq, ne-neqb}
 use Rattle.lists.proofs.Members.{in-head, in-keep, keep-in}
 use Rattle.lists.proofs.Distinct.{sum-without}

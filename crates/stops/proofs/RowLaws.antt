@@ -115,9 +115,9 @@ module _ {A : Type 0} where
       ∙ map-same _ _ (from 0 places) (λ i m. ap (λ (b : Bool). cond b (f i) d) (leb·suc-suc i n))
 
 module _ (n k : ℕ) (h : k ≤ suc n) (l : n < k) where
-  pub filled-row : (part : List ℕ) → filled k (λ j. getD part j 0) 0 ≡ rowOf n part
+  pub filled-row : (numbers : List ℕ) → filled k (λ j. getD numbers j 0) 0 ≡ rowOf n numbers
   unfolding rowOf
-  filled-row part = filled-all n k (λ j. getD part j 0) 0 h l
+  filled-row numbers = filled-all n k (λ j. getD numbers j 0) 0 h l
 
   pub filled-rows : (table : List ℕ) → filled k (λ i. rowOf n (drop (i * (n + 1)) table)) (replicate places 0) ≡ rows n table
   unfolding rows rowOf

@@ -2,12 +2,12 @@
 --   first-out, first-later    the first stop of a set, and the stops that are left without it
 --   Lowered, lowered-starts, lowered-again, lowered-ends    the invariant of a loop that looks for the least value over a set
 --   Summed, summed-starts, summed-again, summed-ends    the same for a sum; summed-most: no sum on the way is above the last
---   into-set, into-pair, pair-in, ahead-none, ahead-plain, ahead-close    the cheapest leg into a stop, and what a bound adds, of sets that are numbers
+--   into-set, into-pair, pair-in            the cheapest leg into a stop, of sets that are numbers
+--   ahead-none, ahead-plain, ahead-close    and what a bound adds
 --   remainder-small, ahead-small    what a bound adds is small where the legs are
 use mathlib.Core.Path.{_≡_, refl, ap, sym, _∙_}
 use mathlib.Core.Bool.{not}
-use mathlib.Core.List.{List, [], _∷_, List·Memᴰ·tail, List·Memᴰ·cases-cons}
-use mathlib.Core.Logic.{_⊎_, inl, inr, _≢_}
+use mathlib.Core.List.{List, [], _∷_, List·Memᴰ·tail}
 use Prim.Native.Nat.{ℕ, zero, suc, _+_, _-_, _*_, _^_, _≤_, _<_, min}
 use native.Mathlib.Nat.{mul-le-mul-right, suc-mul}
 use native.Mathlib.Omega.{arith}
@@ -17,9 +17,10 @@ use lib.ListN.{length}
 use lib.Pow.{pow-pos}
 use Rattle.sizes.specs.Sizes.{mostStops}
 use Rattle.lists.specs.Lists.{In, sum, least, without}
-use Rattle.lists.proofs.Tests.{compared, neq, ne-neqb}
+use Rattle.lists.proofs.Tests.{neq, ne-neqb}
 use Rattle.lists.proofs.Members.{in-head, in-keep, keep-in}
-use Rattle.lists.proofs.Numbers.{sum-mono, sum-const, least-le, least-same}
+use Rattle.lists.proofs.Numbers.{sum-mono, sum-const, least-small}
+use Rattle.lists.proofs.Distinct.{least-taken}
 use Rattle.stops.specs.Legs.{Legs, rowLeg, legs}
 use Rattle.stops.specs.Bounds.{cheapestInto, remainder}
 use Rattle.stops.specs.Code.{stopsIn, ahead, Within}
@@ -63,10 +64,6 @@ module _ {A : Type 0} (f : A → ℕ) where
   lower-least x [] = refl
   lower-least x (y ∷ ys) = lower-min (f x) (f y) ys ∙ ap (min (f x)) (lower-least y ys)
 
-  least-small : (m : ℕ) → ((x : A) → f x ≤ m) → (xs : List A) → least f xs ≤ m
-  least-small m h [] = omega arith
-  least-small m h (x ∷ xs) = omega (arith, least-le f (x ∷ xs) x in-head, h x)
-
 -- The least value over a set is found so: with `low` the least of the stops passed and `left` the others, what is still to be found is
 -- the least of `low` and of the values over `left`, and that stays `goal`.
 pub record Lowered (f : ℕ → ℕ) (goal low left : ℕ) : Type 0 where
@@ -100,11 +97,11 @@ lowered-ends l e = rw (e, stopsIn-zero) at (l .same)
 -- A sum over the set `rest` is found so: `total` and the values over what is left add up to `goal`, and what is left is of the set.
 pub record Summed (f : ℕ → ℕ) (rest goal total left : ℕ) : Type 0 where
   pub small : left < 2 ^ mostStops
-  pub part : (s : ℕ) → In s (stopsIn left) → In s (stopsIn rest)
+  pub among : (s : ℕ) → In s (stopsIn left) → In s (stopsIn rest)
   pub same : sum f (stopsIn left) + total ≡ goal
 
 pub summed-starts : {f : ℕ → ℕ} {rest goal total : ℕ} → rest < 2 ^ mostStops → sum f (stopsIn rest) + total ≡ goal → Summed f rest goal total rest
-summed-starts h e = record { small = h; part = λ s i. i; same = e }
+summed-starts h e = record { small = h; among = λ s i. i; same = e }
 
 module _ {f : ℕ → ℕ} {rest goal total left : ℕ} (l : Summed f rest goal total left) where
   pub summed-most : (r : ℕ) → First left r → total + f r ≤ goal
@@ -114,7 +111,7 @@ module _ {f : ℕ → ℕ} {rest goal total left : ℕ} (l : Summed f rest goal 
       {total′ left′ : ℕ} (r : ℕ) → First left r → left′ ≡ left - 2 ^ (r - 1) → total′ ≡ total + f r → Summed f rest goal total′ left′
   summed-again r o e g = rw e record {
     small = omega arith;
-    part = λ s i. l .part s (rw (o .others) (List·Memᴰ·tail i));
+    among = λ s i. l .among s (rw (o .others) (List·Memᴰ·tail i));
     same = omega (arith, ap (sum f) (o .others), l .same);
   }
 
@@ -134,32 +131,6 @@ pub into-set :
 unfolding legs cheapestInto
 into-set t place rest others s h i e = rw (e, stopsIn-without rest h s i .1)
 
--- a stop of a set may stand before the others
-taken-first : (x u : ℕ) (xs : List ℕ) → In u xs → (f : ℕ → ℕ) → least f (x ∷ u ∷ without u xs) ≡ least f (x ∷ xs)
-taken-first x u xs i f = least-same f x x (u ∷ without u xs) xs there back
-  where
-    other : (z : ℕ) → (u ≡ z) ⊎ (u ≢ z) → In z xs → In z (u ∷ without u xs)
-    other z (inl e) m = rw e in-head
-    other z (inr n) m = List·Memᴰ·tail (keep-in (λ r. not (eqb u r)) xs z m (ne-neqb u z n))
-
-    back : (z : ℕ) → In z (x ∷ xs) → In z (x ∷ u ∷ without u xs)
-    back z m = go (List·Memᴰ·cases-cons m)
-      where
-        go : (z ≡ x) ⊎ In z xs → In z (x ∷ u ∷ without u xs)
-        go (inl e) = rw e in-head
-        go (inr k) = List·Memᴰ·tail (other z (compared u z) k)
-
-    there : (z : ℕ) → In z (x ∷ u ∷ without u xs) → In z (x ∷ xs)
-    there z m = go (List·Memᴰ·cases-cons m)
-      where
-        last : (z ≡ u) ⊎ In z (without u xs) → In z xs
-        last (inl e) = rw e i
-        last (inr k) = in-keep (λ r. not (eqb u r)) xs z k .0
-
-        go : (z ≡ x) ⊎ In z (u ∷ without u xs) → In z (x ∷ xs)
-        go (inl e) = rw e in-head
-        go (inr k) = List·Memᴰ·tail (last (List·Memᴰ·cases-cons k))
-
 -- and into one of two stops of a set, from the other one and the rest as a set
 pub into-pair :
     (t : List (List ℕ)) (place rest others s u : ℕ) → rest < 2 ^ mostStops → In s (stopsIn rest) → In u (stopsIn (rest - 2 ^ (s - 1)))
@@ -168,18 +139,18 @@ pub into-pair :
 into-pair t place rest others s u h i j e =
     let f : ℕ → ℕ = λ p. rowLeg t p s in
     rw (e, stopsIn-without (rest - 2 ^ (s - 1)) (omega arith) u j .1)
-    (taken-first place u (stopsIn (rest - 2 ^ (s - 1))) j f ∙ into-set t place rest (rest - 2 ^ (s - 1)) s h i refl)
+    (least-taken place u (stopsIn (rest - 2 ^ (s - 1))) j f ∙ into-set t place rest (rest - 2 ^ (s - 1)) s h i refl)
 
 -- two stops of a part of a set, one after the other: each is of the set without the other
 pub pair-in :
     (rest left s u : ℕ) → rest < 2 ^ mostStops → left < 2 ^ mostStops → ((x : ℕ) → In x (stopsIn left) → In x (stopsIn rest)) → In s (stopsIn left)
     → In u (stopsIn (left - 2 ^ (s - 1))) → In u (stopsIn (rest - 2 ^ (s - 1))) × In s (stopsIn (rest - 2 ^ (u - 1)))
-pair-in rest left s u h k part i j =
+pair-in rest left s u h k among i j =
     let (m, n) = in-keep (λ r. not (eqb s r)) (stopsIn left) u (rw (stopsIn-without left k s i .1) at j) in
     let apart = neq s u n in (
-      rw (stopsIn-without rest h s (part s i) .1) (keep-in (λ r. not (eqb s r)) (stopsIn rest) u (part u m) n),
-      rw (stopsIn-without rest h u (part u m) .1)
-          (keep-in (λ r. not (eqb u r)) (stopsIn rest) s (part s i) (ne-neqb u s (λ e. apart (sym e)))),
+      rw (stopsIn-without rest h s (among s i) .1) (keep-in (λ r. not (eqb s r)) (stopsIn rest) u (among u m) n),
+      rw (stopsIn-without rest h u (among u m) .1)
+          (keep-in (λ r. not (eqb u r)) (stopsIn rest) s (among s i) (ne-neqb u s (λ e. apart (sym e)))),
     )
 
 module _ (m : ℕ) (L : Legs) (w : Within m L) (place : ℕ) where

@@ -7,7 +7,7 @@
 --   ahead k L place rest  what the bound of number k adds to the path cost at a place, with the stops of rest to come
 --   reckonOn rows         the day of the planner's rows as a walk from stop to stop
 --   Cheap rows            no leg of theirs is above the dearest (Within m L: none is above m)
---   rowOf n part          a row of the planner's
+--   rowOf n numbers       a row of the planner's
 --   Wide x s leg          what `extended` asks, so that no number wraps
 --   emptyRecord           six zeros, e's record before it has a bound
 use mathlib.Core.Bool.{Bool, not, _&&_, cond}
@@ -79,9 +79,9 @@ reckoning L = record { place = last; further = L .leg; after = λ place s. s; ah
 unfoldable pub reckonOn : List (List ℕ) → Reckoning
 reckonOn rows = reckoning (legs rows)
 
--- a row: the first n + 1 numbers of a part of the table, and zeros
+-- a row: the first n + 1 of some numbers of the table, and zeros
 unfoldable pub rowOf : ℕ → List ℕ → List ℕ
-rowOf n part = map (λ j. cond (leb j n) (getD part j 0) 0) (from 0 places)
+rowOf n numbers = map (λ j. cond (leb j n) (getD numbers j 0) 0) (from 0 places)
 
 pub record Within (m : ℕ) (L : Legs) : Type 0 where
   pub leg : (i j : ℕ) → L .leg i j ≤ m

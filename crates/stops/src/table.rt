@@ -44,15 +44,15 @@ pub fn diagonal(n: usize, table: &[u32]) -> bool
     true
 }
 
-// One row: the first n + 1 numbers of a part of the table, and zeros.
-fn row(n: usize, part: &[u32]) -> [u32; PLACES]
-    requires { ⌜ (n ≤ mostStops) × (n < length (now part)) ⌝ }
-    ensures { λ r. ⌜ r ≡ rowOf n (now (part .entry)) ⌝ }
+// One row: the first n + 1 of some numbers of the table, and zeros.
+fn row(n: usize, numbers: &[u32]) -> [u32; PLACES]
+    requires { ⌜ (n ≤ mostStops) × (n < length (now numbers)) ⌝ }
+    ensures { λ r. ⌜ r ≡ rowOf n (now (numbers .entry)) ⌝ }
 {
     let mut r = [0u32; PLACES];
     let mut j = 0;
     while j <= n {
-        r[j] = part[j];
+        r[j] = numbers[j];
         j += 1;
     }
     r

@@ -50,7 +50,7 @@ first c =
 
 -- it is a stop of the set
 first-in : (c : tie.After-next Inv-loop μ-loop) → In (c .next .result) (stopsIn (entry c .args .rest))
-first-in c = c .before .before .loop .inv .part (c .next .result) (first c .member)
+first-in c = c .before .before .loop .inv .among (c .next .result) (first c .member)
 
 left-is : (c : tie.After-later Inv-loop μ-loop) → c .later .result ≡ c .before .before .before .loop .left - 2 ^ (c .before .next .result - 1)
 left-is c = first-later _ _ _ (c .before .next .ensures .0) (c .later .ensures)
@@ -100,7 +100,7 @@ pair c =
     let n = q .before in
     let l = n .before .before .loop in
     let b = entry n in
-    pair-in (b .args .rest) (l .left) (n .next .result) (c .next2 .result) (b .pre .1 .1 .0) (l .inv .small) (l .inv .part) (first n .member)
+    pair-in (b .args .rest) (l .left) (n .next .result) (c .next2 .result) (b .pre .1 .1 .0) (l .inv .small) (l .inv .among) (first n .member)
     (rw (← left-is q) (second c .member))
 
 -- and what `into_two` gives is the two cheapest legs
@@ -124,7 +124,7 @@ two-values c =
     let e′ : others ≡ a .rest - 2 ^ (u - 1) - 2 ^ (s - 1) = omega arith in
     let both = pair d in
     let small = b .pre .1 .1 .0 in
-    let u-in = passed q .part u (second d .member) in
+    let u-in = passed q .among u (second d .member) in
     rw (c .into-two .ensures, into-pair (a .t .now) (a .place) (a .rest) others s u small (first-in n) (both .0) e)
     (ap (λ (v : ℕ). cheapestInto (legs (a .t .now)) (a .place) (stopsIn (a .rest)) s + v)
     (into-pair (a .t .now) (a .place) (a .rest) others u s small u-in (both .1) e′))

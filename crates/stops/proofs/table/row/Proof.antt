@@ -1,4 +1,4 @@
--- `stops::table::row` meets its contract. The loop's invariant: the array is filled from the part up to place j, with zeros behind.
+-- `stops::table::row` meets its contract. The loop's invariant: the array is filled from the numbers up to place j, with zeros behind.
 -- The measure is what is left of n + 1.
 use mathlib.Core.Path.{_≡_, _∙_}
 use Prim.Native.Nat.{suc, _≤_, _-_}
@@ -9,10 +9,10 @@ use Rattle.stops.proofs.table.row.Statement.{statement}
 use Rattle.stops.proofs.table.row.Tie as tie
 
 abbrev Inv-loop : tie.InvT-loop
-Inv-loop n part r₀ j₀ r j = (j ≤ suc n) × (r ≡ filled j (λ k. getD part k 0) 0)
+Inv-loop n numbers r₀ j₀ r j = (j ≤ suc n) × (r ≡ filled j (λ k. getD numbers k 0) 0)
 
 abbrev μ-loop : tie.MeasureT-loop
-μ-loop n part r₀ j₀ r j = suc n - j
+μ-loop n numbers r₀ j₀ r j = suc n - j
 
 loop-again : tie.Need-loop-again Inv-loop μ-loop
 loop-again c = (omega arith, rw (c .before .before .loop .inv .1) (filled-more _ _ 0 (omega arith)))
