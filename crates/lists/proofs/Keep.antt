@@ -1,8 +1,8 @@
 -- Laws of `keep` and `any` as equations: equal tests keep the same elements, a test that all pass keeps all, two tests one after the
--- other are both at once, and `keep` and `any` of joined lists, and `any` of kept ones and of a list turned around.
-use mathlib.Core.Path.{_≡_, refl, _∙_, ap, ap₂}
+-- other are both at once, and `keep` and `any` of joined lists.
+use mathlib.Core.Path.{_≡_, refl, ap}
 use mathlib.Core.Bool.{Bool, true, false, _&&_, _||_}
-use mathlib.Core.List.{List, [], _∷_, _++_, reverse, reverse-cons, List·Memᴰ·tail}
+use mathlib.Core.List.{List, [], _∷_, _++_, List·Memᴰ·tail}
 use lib.Dec.{T}
 use Rattle.lists.specs.Lists.{In, put, keep, any}
 use Rattle.lists.proofs.Tests.{to-true}
@@ -49,28 +49,3 @@ module _ {A : Type 0} where
       go : (b : Bool) → any test (xs ++ ys) ≡ (any test xs || any test ys) → (b || any test (xs ++ ys)) ≡ (b || any test xs || any test ys)
       go true e = refl
       go false e = e
-
--- any over a part, and over a list turned around
-pub any-keep : {A : Type 0} (p q : A → Bool) (xs : List A) → any p (keep q xs) ≡ any (λ x. q x && p x) xs
-any-keep p q [] = refl
-any-keep p q (x ∷ xs) = go (q x) (any-keep p q xs)
-  where
-    go : (b : Bool) → any p (keep q xs) ≡ any (λ y. q y && p y) xs → any p (put b x (keep q xs)) ≡ (b && p x || any (λ y. q y && p y) xs)
-    go true e = ap (λ (k : Bool). p x || k) e
-    go false e = e
-
-or-turn : (a b : Bool) → (a || (b || false)) ≡ (b || a)
-or-turn true true = refl
-or-turn true false = refl
-or-turn false true = refl
-or-turn false false = refl
-
-pub any-reverse : {A : Type 0} (p : A → Bool) (xs : List A) → any p (reverse xs) ≡ any p xs
-any-reverse p [] = refl
-any-reverse p (x ∷ xs) =
-    ap (any p) (reverse-cons x xs) ∙ any-append p (reverse xs) (x ∷ []) ∙ or-turn (any p (reverse xs)) (p x)
-    ∙ ap (λ (k : Bool). p x || k) (any-reverse p xs)
-
-pub any-same : {A : Type 0} (p q : A → Bool) (xs : List A) → ((x : A) → In x xs → p x ≡ q x) → any p xs ≡ any q xs
-any-same p q [] h = refl
-any-same p q (x ∷ xs) h = ap₂ _||_ (h x in-head) (any-same p q xs (λ y m. h y (List·Memᴰ·tail m)))

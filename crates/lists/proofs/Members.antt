@@ -1,12 +1,12 @@
--- Laws of membership: `In` in what `keep`, `any`, `all`, `map`, `each` and `from` make, in parts of a list, and of `Distinct`.
-use mathlib.Core.Path.{_≡_, refl, ap, subst}
+-- Laws of membership: `In` in what `keep`, `any`, `all`, `map`, `each` and `from` make, and of `Distinct`.
+use mathlib.Core.Path.{_≡_, refl, ap}
 use mathlib.Core.Bool.{Bool, true, false}
 use mathlib.Core.List.{List, [], _∷_, _++_, map, List·Memᴰ·head, List·Memᴰ·tail, List·Memᴰ·cases-cons, List·Memᴰ·not-nil, Memᴰ·append-left, Memᴰ·append-right, List·Memᴰ·append-cases}
 use mathlib.Core.Logic.{_⊎_, inl, inr, _≢_}
 use Prim.Native.Nat.{ℕ, zero, suc, _+_, _≤_, _<_}
 use native.Mathlib.Omega.{arith}
 use lib.Dec.{T}
-use lib.ListN.{length, getD, take, drop, take-append-drop}
+use lib.ListN.{length}
 use Rattle.lists.specs.Lists.{In, put, keep, any, all, from, each, Distinct, none, more}
 use Rattle.lists.proofs.Tests.{and-left, and-right, and-both, or-cases, or-left, or-right, compared}
 
@@ -138,15 +138,3 @@ distinct-from a (suc k) = more (λ m. let h : (suc a ≤ a) × (a < suc a + k) =
 pub length-from : (a k : ℕ) → length (from a k) ≡ k
 length-from a zero = refl
 length-from a (suc k) = ap suc (length-from (suc a) k)
-
--- parts of a list, and its elements by place
-pub in-take : {A : Type 0} (j : ℕ) (xs : List A) (x : A) → In x (take j xs) → In x xs
-in-take {A} j xs x m = subst (λ (l : List A). In x l) (take-append-drop j xs) (Memᴰ·append-left (drop j xs) m)
-
-pub in-drop : {A : Type 0} (j : ℕ) (xs : List A) (x : A) → In x (drop j xs) → In x xs
-in-drop {A} j xs x m = subst (λ (l : List A). In x l) (take-append-drop j xs) (Memᴰ·append-right (take j xs) m)
-
-pub in-getD : {A : Type 0} (xs : List A) (i : ℕ) (d : A) → i < length xs → In (getD xs i d) xs
-in-getD [] i d h = absurd (omega arith)
-in-getD (x ∷ xs) zero d h = in-head
-in-getD (x ∷ xs) (suc i) d h = List·Memᴰ·tail (in-getD xs i d (omega arith))

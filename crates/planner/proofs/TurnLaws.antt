@@ -14,9 +14,10 @@ use lib.Dec.{T, leb, eqb}
 use lib.ListN.{length, getD, take, length-map}
 use lib.Seq.{getD-take}
 use borrow.Author.Tests.{eq-eqb, ne-eqb, eqb-false, lt-ltb, le-ltb}
+use Rattle.lists.proofs.Parts.{dropped-length, in-getD}
 use Rattle.sizes.specs.Sizes.{mostStops}
-use Rattle.lists.specs.Lists.{In}
-use Rattle.lists.proofs.Members.{in-map, in-getD}
+use Rattle.lists.specs.Lists.{In, dropAt}
+use Rattle.lists.proofs.Members.{in-map}
 use Rattle.lists.proofs.Empty.{in-nonempty}
 use Rattle.lists.proofs.Tests.{both-false, ordered}
 use Rattle.search.specs.Problem.{Problem, Choices, State, upper}
@@ -33,7 +34,7 @@ use Rattle.search.proofs.MappedRun.{next-maps, steps-valid, start-valid}
 use Rattle.orders.specs.Orders.{Node, Partial, size, nodes}
 use Rattle.stops.specs.Code.{emptyRecord}
 use Rattle.stops.specs.declared.node_record.Record.{Record}
-use Rattle.records.specs.Code.{records, dropAt}
+use Rattle.records.specs.Code.{records}
 use Rattle.selection.specs.Code.{Chosen}
 use Rattle.answer.specs.Answer.{given}
 use Rattle.children.specs.Code.{Table, problemOf, choicesOf, encodeOf, recProblem, recChoices, Encoded}
@@ -41,7 +42,6 @@ use Rattle.children.specs.declared.setting.Setting.{Setting}
 use Rattle.children.proofs.BestLaws.{upper-best}
 use Rattle.children.proofs.RecordRun.{record-maps}
 use Rattle.children.proofs.SettingLaws.{setting-lawful, setting-bounds, setting-solvable, setting-counts, choice-selection, choice-rules, given-known, given-valid, encode-size}
-use Rattle.replacement.proofs.ReplaceLaws.{dropped-length}
 use Rattle.step.specs.Code.{Ready, Shown, stepOf, Stepping}
 use Rattle.step.specs.declared.Run.{Run}
 use Rattle.step.specs.declared.After.the-variants.{Full as FullAfter, Go as GoAfter}

@@ -23,7 +23,7 @@ const WORD_MASK: u64 = 4_294_967_295;
 // How many records are gathered at a time, and their words.
 const ROOM: usize = 32;
 
-const ROOM_WORDS: usize = 192;
+const ROOM_WORDS: usize = ROOM * RECORD_WORDS;
 
 // Whether record i dominates x. Sets are compared before anything else is read.
 pub fn beats(w: &[u32], i: usize, x: Record) -> bool

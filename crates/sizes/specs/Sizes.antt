@@ -1,22 +1,23 @@
--- The numbers that document 01 fixes, by name. Each is written here, and for the code in src/lib.rt, and nowhere else.
-use Prim.Native.Nat.{ℕ}
+-- The numbers that document 01 fixes, by name. Each is written here, and for the code in src/lib.rt, and nowhere else; what follows from
+-- another is reckoned from it.
+use Prim.Native.Nat.{ℕ, suc, _+_, _*_, _^_}
 
 -- "Legs and orders": the stops of a day, its places (the stops and home), the numbers of its table, and the dearest leg
 abbrev pub mostStops : ℕ
 mostStops = 16
 
 abbrev pub places : ℕ
-places = 17
+places = suc mostStops
 
 abbrev pub tableNumbers : ℕ
-tableNumbers = 289
+tableNumbers = places * places
 
 abbrev pub dearest : ℕ
 dearest = 1_000_000
 
 -- "The report": places for the stops of an order
 abbrev pub orderPlaces : ℕ
-orderPlaces = 16
+orderPlaces = mostStops
 
 -- "One run": U while no order is known, above the cost of every order (proved in `stops`)
 abbrev pub aboveEveryCost : ℕ
@@ -34,11 +35,11 @@ abbrev pub stopBits : ℕ
 stopBits = 4
 
 abbrev pub stopBase : ℕ
-stopBase = 16
+stopBase = 2 ^ stopBits
 
 abbrev pub wordStops : ℕ
 wordStops = 8
 
--- "Job file and program": the bytes of the longest job file
+-- "Job file and program": the bytes of the longest job file, which are those of its table, its starting order and its trailer
 abbrev pub longest : ℕ
-longest = 1_185
+longest = 4 * tableNumbers + orderPlaces + 13

@@ -1,16 +1,17 @@
-// The numbers that document 01 fixes, by name, as the code has them. specs/Sizes has the same for the definitions.
+// The numbers that document 01 fixes, by name, as the code has them. specs/Sizes has the same for the definitions. What follows from
+// another is reckoned from it.
 
 // Stops of a day.
 pub const MOST_STOPS: u32 = 16;
 
 // Places of a day: its stops and home.
-pub const PLACES: usize = 17;
+pub const PLACES: usize = MOST_STOPS as usize + 1;
 
 // Numbers of the largest table.
-pub const TABLE_NUMBERS: usize = 289;
+pub const TABLE_NUMBERS: usize = PLACES * PLACES;
 
 // Places for the stops of an order.
-pub const ORDER_PLACES: usize = 16;
+pub const ORDER_PLACES: usize = MOST_STOPS as usize;
 
 // The dearest leg.
 pub const DEAREST: u32 = 1_000_000;
@@ -21,7 +22,7 @@ pub const RECORD_WORDS: usize = 6;
 // Bits of a stop in the words of an order, how many values these have, and how many stops a word holds.
 pub const STOP_BITS: u32 = 4;
 
-pub const STOP_BASE: u32 = 16;
+pub const STOP_BASE: u32 = 1 << STOP_BITS;
 
 pub const WORD_STOPS: u32 = 8;
 
@@ -31,5 +32,5 @@ pub const ABOVE_EVERY_COST: u32 = 4_294_967_295;
 // A limit on bounds that every bound keeps.
 pub const NO_LIMIT: u32 = 4_294_967_295;
 
-// Bytes of the longest job file.
-pub const LONGEST: usize = 1_185;
+// Bytes of the longest job file: its table, its starting order and its trailer.
+pub const LONGEST: usize = 4 * TABLE_NUMBERS + ORDER_PLACES + 13;

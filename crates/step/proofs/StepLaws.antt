@@ -4,14 +4,15 @@
 use mathlib.Core.Path.{_≡_, sym, _∙_, ap}
 use mathlib.Core.Bool.{Bool, true, false, not, _&&_, cond}
 use mathlib.Core.List.{List, [], _++_}
-use Prim.Native.Nat.{ℕ, _+_, _-_, _≤_}
+use Prim.Native.Nat.{ℕ, _+_, _≤_}
 use native.Mathlib.Omega.{arith}
 use lib.Dec.{T, leb, ltb, le→leb, not-T}
 use lib.ListN.{length, length-append}
+use Rattle.lists.proofs.Any.{any-keep, any-reverse, any-same}
 use Rattle.sizes.specs.Sizes.{noLimit}
 use Rattle.lists.specs.Lists.{In, keep, any}
 use Rattle.lists.proofs.Tests.{to-true, same-tests, tests}
-use Rattle.lists.proofs.Keep.{keep-same, keep-keep, keep-all, any-keep, any-reverse, any-same}
+use Rattle.lists.proofs.Keep.{keep-same, keep-keep, keep-all}
 use Rattle.lists.proofs.Numbers.{keep-parts}
 use Rattle.search.specs.Problem.{Problem, Choices, State, upper}
 use Rattle.search.specs.Step.{on, children₁, best₂, over₃, children₃, rest₃, dominated₄, children₄, dominated₅, children₅, dominated₆, rest₆, step}

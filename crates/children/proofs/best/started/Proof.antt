@@ -44,12 +44,6 @@ returns c = let a = c .before .before .args in empty-best (encodeOf (a .setting)
 loop-holds : tie.Need-loop-holds Inv-loop μ-loop
 loop-holds c d p o = let a = c .before .before .before .args in flown-none d (a .t2) (a .start .now) (c .empty .result) (c .empty .ensures)
 
-cast-s : tie.Need-cast-s Inv-loop μ-loop
-cast-s c = omega (arith, near (c .before))
-
-further-requires : tie.Need-further-requires Inv-loop μ-loop
-further-requires c κs = let i = c .before .before in (flown (i .before) .near, near i)
-
 extended-requires : tie.Need-extended-requires Inv-loop μ-loop
 extended-requires c κs =
     let i = c .before .before .before in
@@ -61,9 +55,6 @@ loop-again c d p o =
     let i = c .before .before .before .before in
     let l = i .before in
     rw (c .extended .ensures, c .before .further .ensures) (flown-more _ p o (l .loop .inv d p o) (i .loop-test .taken))
-
-ahead-requires : tie.Need-ahead-requires Inv-loop μ-loop
-ahead-requires c κs = let l = c .before .before in (flown l .near, (omega arith, rows l .cheap))
 
 add-t19 : tie.Need-add-t19 Inv-loop μ-loop
 add-t19 c =
@@ -85,12 +76,12 @@ started-spec =
     (λ c κs. search needs)
     loop-holds
     (λ c. omega arith)
-    cast-s
-    further-requires
+    (λ c. omega (arith, near (c .before)))
+    (λ c κs. let i = c .before .before in (flown (i .before) .near, near i))
     extended-requires
     (λ c. omega arith)
     (λ c. omega arith)
     loop-again
-    ahead-requires
+    (λ c κs. let l = c .before .before in (flown l .near, (omega arith, rows l .cheap)))
     add-t19
     returns-2)
