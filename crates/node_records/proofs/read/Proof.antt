@@ -21,9 +21,9 @@ use contract.Monad.{Fun}
 use contract.Running.{givenOf, tables, tablesOf}
 use types.Kit.{Given, ‵, ⋆, _⊛_, _$_, _∵_, !, qed, by, move, keep, drop, use1, split, join, rewrite, fsplit, fjoin, suffices, frame}
 use types.Kit.{done}
-use types.Run.{look, look-raw, init, and-then, no-more, forget, stop, hop, fld, from, load, lit, true-lit, false-lit, of-opd, bin, assigns}
+use types.Run.{look, look-raw, init, and-then, no-more, forget, stop, hop, from, load, lit, true-lit, false-lit, of-opd, bin}
 use types.Run.{first, branches, returns, returns-within, enter, alloc1, alloc0, params1, pass1, pass0}
-use types.Part.{whole, sub, look-in, agg}
+use types.Part.{whole, agg}
 use sound.WpLaws.{WpFn-mono}
 use denote.Exit.{yes}
 use denote.RattleType.{owns}

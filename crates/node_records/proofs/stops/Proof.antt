@@ -16,8 +16,8 @@ use ghost.Atoms.{Atoms, sem}
 use contract.Monad.{Fun, fact}
 use contract.Running.{givenOf, tables, tablesOf}
 use types.Kit.{Given, ‵, raw, _⊛_, ⋆, _$_, _∵_, !, qed, by, move, drop, use0, split, join, fsplit, fjoin, suffices, frame, done}
-use types.Run.{look, init, forget, stop, fld, from, load, and-then, no-more, land, returns, enter, alloc1, alloc0, params1, pass1, pass0}
-use types.Part.{whole, sub, look-in}
+use types.Run.{look, init, forget, stop, from, and-then, no-more, land, returns, enter, alloc1, alloc0, params1, pass1, pass0}
+use types.Part.{whole}
 use sound.WpLaws.{FmC, fmOf, WpFn-mono}
 use denote.Exit.{yes}
 use denote.RattleType.{owns}

@@ -22,9 +22,9 @@ use contract.Monad.{Fun}
 use contract.Running.{givenOf, tables, tablesOf}
 use types.Kit.{Given, ‵, ⋆, _⊛_, _$_, _∵_, !, qed, by, move, keep, drop, split, join, rewrite, fsplit, fjoin, suffices, frame}
 use types.Kit.{done}
-use types.Run.{look, store-raw, init, forget, stop, hop, fld, from, load, lit, true-lit, false-lit, of-opd, bin, assigns, first, branches}
+use types.Run.{look, store-raw, init, forget, stop, hop, from, lit, true-lit, false-lit, of-opd, bin, assigns, first, branches}
 use types.Run.{returns, returns-within, enter, alloc1, alloc0, params1, pass1, pass0}
-use types.Part.{whole, sub, look-in}
+use types.Part.{whole}
 use sound.WpLaws.{WpFn-mono}
 use denote.Exit.{yes}
 use denote.RattleType.{owns}
