@@ -11,12 +11,12 @@ use native.Mathlib.Omega.{arith}
 use lib.ListN.{length, take, drop}
 use lib.Seq.{slice, take-all, take-take}
 use Rattle.sizes.specs.Sizes.{noLimit}
-use Rattle.lists.specs.Lists.{In, keep}
+use Rattle.lists.specs.Lists.{In, keep, dropAt}
 use Rattle.lists.proofs.Keep.{keep-all, keep-keep}
 use Rattle.lists.proofs.Members.{in-keep}
 use Rattle.search.specs.Step.{on}
 use Rattle.stops.specs.declared.node_record.Record.{Record}
-use Rattle.records.specs.Code.{Sifted, dropAt}
+use Rattle.records.specs.Code.{Sifted}
 use Rattle.passes.specs.Code.{isWithin}
 use Rattle.rivals.specs.Code.{isFree, AllNear}
 use Rattle.records.proofs.SiftLaws.{sifted-all, sifted-fewer, sifted-twice}

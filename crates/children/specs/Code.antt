@@ -17,7 +17,7 @@ use Prim.Native.Nat.{ℕ, _+_, _-_, _^_, _≤_, _<_}
 use lib.Dec.{eqb}
 use lib.ListN.{length, take, drop}
 use Rattle.sizes.specs.Sizes.{mostStops, aboveEveryCost, noLimit}
-use Rattle.lists.specs.Lists.{In, keep}
+use Rattle.lists.specs.Lists.{In, keep, dropAt}
 use Rattle.search.specs.Problem.{Problem, Choices}
 use Rattle.search.specs.Step.{on}
 use Rattle.orders.specs.Orders.{Node, Partial}
@@ -25,7 +25,7 @@ use Rattle.days.specs.Days.{problem, choices}
 use Rattle.stops.specs.Stops.{dayOn}
 use Rattle.stops.specs.Code.{emptyRecord, extended, lastStop, recDominates, stopsIn, reckonOn, Cheap}
 use Rattle.stops.specs.declared.node_record.Record.{Record}
-use Rattle.records.specs.Code.{encode, dropAt}
+use Rattle.records.specs.Code.{encode}
 use Rattle.passes.specs.Code.{isWithin}
 use Rattle.rivals.specs.Code.{isFree, AllNear}
 use Rattle.answer.specs.declared.Job.{Job}

@@ -9,3 +9,5 @@ pub mod Map
 pub mod Elements
 pub mod Slices
 pub mod Padded
+pub mod Any
+pub mod Parts

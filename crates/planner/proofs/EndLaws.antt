@@ -9,7 +9,7 @@ use mathlib.Core.Path.{_≡_, refl, ap, ap₂, sym, _∙_}
 use mathlib.Core.Bool.{Bool, true, false}
 use mathlib.Core.List.{List, [], _++_, map, map-append, reverse, reverse-reverse, append-assoc}
 use mathlib.Core.Option.{Option, some}
-use Prim.Native.Nat.{ℕ, _+_, _-_, _/_, _%_, _≤_}
+use Prim.Native.Nat.{ℕ, _+_, _-_, _/_, _≤_}
 use native.Mathlib.Omega.{arith}
 use lib.ListN.{length, take, drop, replicate, length-map, length-append, length-reverse}
 use Rattle.sizes.specs.Sizes.{orderPlaces, recordWords, wordStops}
@@ -34,7 +34,7 @@ use Rattle.answer.proofs.Passes.{passes}
 use Rattle.answer.proofs.Instance.{overflow-outcome, finish-outcome}
 use Rattle.answer.proofs.Ending.{Finished}
 use Rattle.answer.proofs.Demand3.{Solved, solved}
-use Rattle.children.specs.Code.{Table, settingOf, encodeOf, farIn, IsBest}
+use Rattle.children.specs.Code.{Table, settingOf, encodeOf, IsBest}
 use Rattle.children.specs.declared.setting.Setting.{Setting}
 use Rattle.children.proofs.SettingLaws.{call-problem, call-choices, call-words, order-numbers}
 use Rattle.step.specs.Code.{farOf, Shown}

@@ -4,7 +4,7 @@
 -- P and C are the problem and the choices of the run, Q and D the same on records, and S the state that the pool shows.
 use mathlib.Core.Path.{_≡_, refl, sym, _∙_, ap, subst}
 use mathlib.Core.Bool.{Bool, true, false, not, _&&_, _||_}
-use mathlib.Core.List.{List, [], _∷_, map, List·Memᴰ·tail}
+use mathlib.Core.List.{List, [], _∷_, map}
 use mathlib.Core.Logic.{_⊎_, inl, inr, _≢_}
 use mathlib.Core.Option.{Option·map}
 use Prim.Native.Nat.{ℕ, zero, suc, _+_, _^_, _≤_, _<_}
@@ -14,14 +14,15 @@ use lib.Dec.{T, leb, eqb}
 use lib.ListN.{length, getD, take, length-map}
 use lib.Seq.{getD-take}
 use borrow.Author.Tests.{eq-eqb, ne-eqb, eqb-false, lt-ltb, le-ltb}
+use Rattle.lists.proofs.Parts.{dropped-length, in-getD}
 use Rattle.sizes.specs.Sizes.{mostStops}
-use Rattle.lists.specs.Lists.{In}
-use Rattle.lists.proofs.Members.{in-head, in-map}
+use Rattle.lists.specs.Lists.{In, dropAt}
+use Rattle.lists.proofs.Members.{in-map}
 use Rattle.lists.proofs.Empty.{in-nonempty}
 use Rattle.lists.proofs.Tests.{both-false, ordered}
 use Rattle.search.specs.Problem.{Problem, Choices, State, upper}
 use Rattle.search.specs.Selection.{chosen, selectBy, select, empty, finishes}
-use Rattle.search.specs.Step.{on, step}
+use Rattle.search.specs.Step.{on}
 use Rattle.search.specs.Run.{Next, finish, overflow, go, unless, fitting, decide, next}
 use Rattle.search.proofs.Plain.{tree, planOf, cutOf}
 use Rattle.search.proofs.Outcome.{steps-reached}
@@ -33,7 +34,7 @@ use Rattle.search.proofs.MappedRun.{next-maps, steps-valid, start-valid}
 use Rattle.orders.specs.Orders.{Node, Partial, size, nodes}
 use Rattle.stops.specs.Code.{emptyRecord}
 use Rattle.stops.specs.declared.node_record.Record.{Record}
-use Rattle.records.specs.Code.{records, dropAt}
+use Rattle.records.specs.Code.{records}
 use Rattle.selection.specs.Code.{Chosen}
 use Rattle.answer.specs.Answer.{given}
 use Rattle.children.specs.Code.{Table, problemOf, choicesOf, encodeOf, recProblem, recChoices, Encoded}
@@ -41,7 +42,6 @@ use Rattle.children.specs.declared.setting.Setting.{Setting}
 use Rattle.children.proofs.BestLaws.{upper-best}
 use Rattle.children.proofs.RecordRun.{record-maps}
 use Rattle.children.proofs.SettingLaws.{setting-lawful, setting-bounds, setting-solvable, setting-counts, choice-selection, choice-rules, given-known, given-valid, encode-size}
-use Rattle.replacement.proofs.ReplaceLaws.{dropped-length}
 use Rattle.step.specs.Code.{Ready, Shown, stepOf, Stepping}
 use Rattle.step.specs.declared.Run.{Run}
 use Rattle.step.specs.declared.After.the-variants.{Full as FullAfter, Go as GoAfter}
@@ -79,11 +79,6 @@ nodes-rise j (suc m) h = cases (ordered j m) (nodes-rise j m)
     cases : (j ≤ m) ⊎ (m < j) → (j ≤ m → nodes j ≤ nodes m) → nodes j ≤ nodes (suc m)
     cases (inl low) again = omega (arith, again low, suc-mul m (nodes m))
     cases (inr high) again = let e : j ≡ suc m = omega arith in rw e (omega arith)
-
-in-getD : {A : Type 0} (xs : List A) (i : ℕ) (d : A) → i < length xs → In (getD xs i d) xs
-in-getD [] i d h = absurd (omega arith)
-in-getD (x ∷ xs) zero d h = in-head
-in-getD (x ∷ xs) (suc i) d h = List·Memᴰ·tail (in-getD xs i d (omega arith))
 
 module _
     {d : Setting} {t : Table} {first w : List ℕ} {r : Run} {s : State Node} (running : Running d t first w r s)

@@ -2,12 +2,11 @@
 -- of these lists alone. These definitions are the code's own.
 --   records, words      words as records, and back; fewer than six words at the end are no record
 --   encode              the record of a node
---   dropAt              the list without its element at a place
 --   Sifted, RunsTo      what a pass keeps, and how far a walk goes
 use mathlib.Core.Path.{_≡_}
 use mathlib.Core.Bool.{Bool, true, not, cond}
 use mathlib.Core.List.{List, [], _∷_, _++_}
-use Prim.Native.Nat.{ℕ, suc, _+_, _≤_, _<_}
+use Prim.Native.Nat.{ℕ, _+_, _≤_, _<_}
 use lib.ListN.{length, getD, take, drop}
 use lib.Seq.{slice}
 use Rattle.sizes.specs.Sizes.{wordStops}
@@ -44,10 +43,6 @@ encode n D bound x = record {
   first = orderWord (take wordStops x);
   second = orderWord (drop wordStops x);
 }
-
--- the list without its element at i
-unfoldable pub dropAt : ℕ → List Record → List Record
-dropAt i xs = take i xs ++ drop (suc i) xs
 
 -- l′ is l with those of its elements from `from` to `to` that pass the test moved to `at` and behind, up to e; those from `to` on stay
 pub record Sifted (test : Record → Bool) (l : List Record) (from to at : ℕ) (l′ : List Record) (e : ℕ) : Type 0 where

@@ -5,28 +5,23 @@
 use mathlib.Core.Path.{_≡_, ap, sym, _∙_}
 use mathlib.Core.Bool.{Bool}
 use mathlib.Core.List.{List, _++_, append-assoc}
-use Prim.Native.Nat.{ℕ, suc, _+_, _-_, _≤_, _<_, min}
+use Prim.Native.Nat.{ℕ, _+_, _-_, _≤_}
 use native.Mathlib.Numerals.{add-one}
 use native.Mathlib.Omega.{arith}
-use lib.ListN.{length, take, drop, length-append, length-take, length-drop}
+use lib.ListN.{length, take, drop, length-append}
 use lib.Seq.{slice, length-slice, length-take-le, take-take, paste, take-paste, drop-paste}
-use Rattle.lists.specs.Lists.{keep}
+use Rattle.lists.proofs.Parts.{dropped-length}
+use Rattle.lists.specs.Lists.{keep, dropAt}
 use Rattle.lists.proofs.Keep.{keep-all, keep-append}
 use Rattle.lists.proofs.Numbers.{keep-parts}
 use Rattle.lists.proofs.Slices.{drop-further, slice-further}
 use Rattle.stops.specs.declared.node_record.Record.{Record}
-use Rattle.records.specs.Code.{Sifted, dropAt, always}
+use Rattle.records.specs.Code.{Sifted, always}
 use Rattle.passes.specs.Code.{isStaying}
 use Rattle.children.specs.Code.{othersIn, Spotted}
 use Rattle.children.specs.declared.spot.Spot.{Spot}
 use Rattle.replacement.specs.Code.{stayingOf, Changing, Replaced}
 use Rattle.replacement.specs.declared.Change.{Change}
-
-pub dropped-length : (i : ℕ) (xs : List Record) → i < length xs → length (dropAt i xs) ≡ length xs - 1
-unfolding dropAt
-dropped-length i xs h =
-    length-append (take i xs) (drop (suc i) xs)
-    ∙ (let p : length (take i xs) ≡ min i (length xs) = length-take i xs in omega (arith, length-drop (suc i) xs))
 
 -- those to keep, in place of the first a of recs, stand at the front of recs′, up to e; the records from a on are as before
 pub record Gathered (kept recs : List Record) (a : ℕ) (recs′ : List Record) (e : ℕ) : Type 0 where

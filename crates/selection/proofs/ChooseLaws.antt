@@ -21,6 +21,7 @@ use borrow.Author.Tests.{
 use lib.Dec.{ltb, eqb}
 use lib.ListN.{length, getD, take, drop, length-append}
 use lib.Seq.{getD-append-seam, getD-take, length-take-le}
+use Rattle.lists.specs.Lists.{dropAt}
 use Rattle.sizes.specs.Sizes.{recordWords}
 use Rattle.lists.proofs.Tests.{compared, ordered}
 use Rattle.lists.proofs.Slices.{all-so-each}
@@ -31,7 +32,7 @@ use Rattle.search.proofs.Pick.{picked-of}
 use Rattle.search.proofs.PlainSelection.{select-is-pick, lateBy, rankBy}
 use Rattle.stops.specs.Code.{emptyRecord}
 use Rattle.stops.specs.declared.node_record.Record.{Record}
-use Rattle.records.specs.Code.{records, dropAt, RunsTo}
+use Rattle.records.specs.Code.{records, RunsTo}
 use Rattle.selection.specs.Code.{Chosen, Ahead, NextAhead, boundAt, isBelow}
 use Rattle.records.proofs.ViewLaws.{records-at}
 

@@ -5,11 +5,11 @@ use mathlib.Core.List.{List}
 use Prim.Native.Nat.{ℕ, _≤_, _<_}
 use lib.Dec.{ltb, eqb}
 use lib.ListN.{length, getD}
+use Rattle.lists.specs.Lists.{dropAt}
 use Rattle.search.specs.Problem.{Problem}
 use Rattle.search.specs.Selection.{chosen, selectBy}
 use Rattle.stops.specs.Code.{emptyRecord}
 use Rattle.stops.specs.declared.node_record.Record.{Record}
-use Rattle.records.specs.Code.{dropAt}
 use Rattle.selection.specs.declared.Place.{Place}
 use Rattle.selection.specs.declared.Place.the-variants.{At, Refused}
 

@@ -9,15 +9,16 @@ use lib.Dec.{eqb}
 use lib.ListN.{length, take, drop, set, length-append, length-reverse, length-set, drop-of-length-le}
 use lib.Seq.{take-set-le, drop-cons, drop-set-lt, getD-set-same}
 use borrow.Author.Tests.{ne-eqb}
+use Rattle.lists.proofs.Parts.{dropped-length}
+use Rattle.lists.specs.Lists.{dropAt}
 use Rattle.search.specs.Problem.{State}
 use Rattle.search.specs.Step.{on, children₁, best₂, active₇, step}
 use Rattle.stops.specs.Code.{emptyRecord}
 use Rattle.stops.specs.declared.node_record.Record.{Record}
-use Rattle.records.specs.Code.{records, dropAt}
+use Rattle.records.specs.Code.{records}
 use Rattle.children.specs.Code.{Table, recProblem, farIn}
 use Rattle.children.specs.declared.setting.Setting.{Setting}
 use Rattle.replacement.specs.Code.{Replaced, farWith}
-use Rattle.replacement.proofs.ReplaceLaws.{dropped-length}
 use Rattle.step.specs.Code.{farOf, Ready, Shown, Expansion, spotOf, changeOf, farAfter, stepOf, runAfter}
 use Rattle.step.specs.declared.Expanded.{Expanded}
 use Rattle.step.specs.declared.Run.{Run}

@@ -1,18 +1,18 @@
 -- What the code of a step computes is the written step on records: the passes of the rules, one after the other, are its parts 3 to 7,
 -- and the one subtraction that counts the eliminated nodes is the sum over its parts.
 --   limit      the largest bound that rule 1 keeps: U, or any where rule 1 is off
-use mathlib.Core.Path.{_≡_, refl, sym, _∙_, ap, ap₂}
-use mathlib.Core.Bool.{Bool, true, false, not, _&&_, _||_, cond}
-use mathlib.Core.List.{List, [], _∷_, _++_, reverse, reverse-cons, List·Memᴰ·tail}
-use Prim.Native.Nat.{ℕ, _+_, _-_, _≤_}
+use mathlib.Core.Path.{_≡_, sym, _∙_, ap}
+use mathlib.Core.Bool.{Bool, true, false, not, _&&_, cond}
+use mathlib.Core.List.{List, [], _++_}
+use Prim.Native.Nat.{ℕ, _+_, _≤_}
 use native.Mathlib.Omega.{arith}
 use lib.Dec.{T, leb, ltb, le→leb, not-T}
 use lib.ListN.{length, length-append}
+use Rattle.lists.proofs.Any.{any-keep, any-reverse, any-same}
 use Rattle.sizes.specs.Sizes.{noLimit}
-use Rattle.lists.specs.Lists.{In, keep, any, put}
+use Rattle.lists.specs.Lists.{In, keep, any}
 use Rattle.lists.proofs.Tests.{to-true, same-tests, tests}
-use Rattle.lists.proofs.Members.{in-head}
-use Rattle.lists.proofs.Keep.{keep-same, keep-keep, keep-all, any-append}
+use Rattle.lists.proofs.Keep.{keep-same, keep-keep, keep-all}
 use Rattle.lists.proofs.Numbers.{keep-parts}
 use Rattle.search.specs.Problem.{Problem, Choices, State, upper}
 use Rattle.search.specs.Step.{on, children₁, best₂, over₃, children₃, rest₃, dominated₄, children₄, dominated₅, children₅, dominated₆, rest₆, step}
@@ -23,31 +23,6 @@ use Rattle.rivals.specs.Code.{isFree}
 use Rattle.children.specs.Code.{Table, recProblem, recChoices, childrenOf, survivorsOf, passing}
 use Rattle.children.specs.declared.setting.Setting.{Setting}
 use Rattle.step.specs.Code.{farOf}
-
--- any over a part, and over a list turned around
-any-keep : {A : Type 0} (p q : A → Bool) (xs : List A) → any p (keep q xs) ≡ any (λ x. q x && p x) xs
-any-keep p q [] = refl
-any-keep p q (x ∷ xs) = go (q x) (any-keep p q xs)
-  where
-    go : (b : Bool) → any p (keep q xs) ≡ any (λ y. q y && p y) xs → any p (put b x (keep q xs)) ≡ (b && p x || any (λ y. q y && p y) xs)
-    go true e = ap (λ (k : Bool). p x || k) e
-    go false e = e
-
-or-turn : (a b : Bool) → (a || (b || false)) ≡ (b || a)
-or-turn true true = refl
-or-turn true false = refl
-or-turn false true = refl
-or-turn false false = refl
-
-any-reverse : {A : Type 0} (p : A → Bool) (xs : List A) → any p (reverse xs) ≡ any p xs
-any-reverse p [] = refl
-any-reverse p (x ∷ xs) =
-    ap (any p) (reverse-cons x xs) ∙ any-append p (reverse xs) (x ∷ []) ∙ or-turn (any p (reverse xs)) (p x)
-    ∙ ap (λ (k : Bool). p x || k) (any-reverse p xs)
-
-any-same : {A : Type 0} (p q : A → Bool) (xs : List A) → ((x : A) → In x xs → p x ≡ q x) → any p xs ≡ any q xs
-any-same p q [] h = refl
-any-same p q (x ∷ xs) h = ap₂ _||_ (h x in-head) (any-same p q xs (λ y m. h y (List·Memᴰ·tail m)))
 
 -- no bound is above the largest number
 abbrev pub Bounded : List Record → Type 0

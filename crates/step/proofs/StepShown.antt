@@ -2,23 +2,23 @@
 --   stage-active    the active records afterwards are those of the written step
 --   stage-kept      the nodes to keep are as many as the code counts
 --   stage-changing  what parts 6 and 7 ask; where `all` says so, every active record but b stays
-use mathlib.Core.Path.{_≡_, sym, _∙_, ap, ap₂, subst}
+use mathlib.Core.Path.{_≡_, sym, _∙_, ap, ap₂}
 use mathlib.Core.Bool.{Bool, true, false, not, _&&_, cond}
-use mathlib.Core.List.{List, [], _∷_, _++_, reverse, List·Memᴰ·append-cases, List·Memᴰ·not-nil, Memᴰ·append-left, Memᴰ·append-right}
-use mathlib.Core.Logic.{_⊎_, inl, inr}
-use Prim.Native.Nat.{ℕ, suc, _+_, _-_, _≤_}
+use mathlib.Core.List.{List, [], _∷_, _++_, reverse, List·Memᴰ·not-nil}
+use Prim.Native.Nat.{ℕ, _+_, _-_, _≤_}
 use native.Mathlib.Omega.{arith}
 use lib.Dec.{T, leb, ltb, eqb, le→leb, eqb→eq}
-use lib.ListN.{length, take, drop, length-append, length-reverse, take-append-drop}
+use lib.ListN.{length, take, length-append, length-reverse}
+use Rattle.lists.proofs.Parts.{in-take, in-drop, in-dropAt}
 use Rattle.sizes.specs.Sizes.{noLimit}
-use Rattle.lists.specs.Lists.{In, keep}
+use Rattle.lists.specs.Lists.{In, keep, dropAt}
 use Rattle.lists.proofs.Tests.{tests, and-left, and-right, and-both}
 use Rattle.lists.proofs.Keep.{keep-all}
 use Rattle.search.specs.Problem.{Problem, Choices, State, upper}
 use Rattle.search.specs.Step.{on, learn, children₁, best₂, children₅, rest₆, active₇, step}
 use Rattle.search.specs.Run.{held, withBranched}
 use Rattle.stops.specs.declared.node_record.Record.{Record}
-use Rattle.records.specs.Code.{records, dropAt}
+use Rattle.records.specs.Code.{records}
 use Rattle.passes.specs.Code.{isStaying}
 use Rattle.rivals.specs.Code.{AllNear}
 use Rattle.children.specs.Code.{Table, recProblem, recChoices, childrenOf, survivorsOf, othersIn, farIn, Spotted}
@@ -32,20 +32,6 @@ use Rattle.step.specs.declared.Expanded.{Expanded}
 use Rattle.step.specs.declared.Run.{Run}
 use Rattle.step.proofs.ExpandLaws.{spotted-near}
 use Rattle.step.proofs.StepLaws.{Bounded, survivors-are, staying-are}
-
-in-take : {A : Type 0} (j : ℕ) (xs : List A) (x : A) → In x (take j xs) → In x xs
-in-take {A} j xs x m = subst (λ (l : List A). In x l) (take-append-drop j xs) (Memᴰ·append-left (drop j xs) m)
-
-in-drop : {A : Type 0} (j : ℕ) (xs : List A) (x : A) → In x (drop j xs) → In x xs
-in-drop {A} j xs x m = subst (λ (l : List A). In x l) (take-append-drop j xs) (Memᴰ·append-right (take j xs) m)
-
-in-dropAt : (i : ℕ) (xs : List Record) (x : Record) → In x (dropAt i xs) → In x xs
-unfolding dropAt
-in-dropAt i xs x m = go (List·Memᴰ·append-cases (take i xs) m)
-  where
-    go : In x (take i xs) ⊎ In x (drop (suc i) xs) → In x xs
-    go (inl h) = in-take i xs x h
-    go (inr h) = in-drop (suc i) xs x h
 
 -- what stays of the active records, from what parts 1 to 5 gave
 abbrev pub stayingAfter : Setting → List ℕ → ℕ → Record → Run → Expanded → List Record → List Record

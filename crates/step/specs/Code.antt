@@ -12,13 +12,13 @@ use Prim.Native.Nat.{ℕ, _+_, _-_, _^_, _≤_, _<_, max}
 use lib.Dec.{T, eqb, ltb}
 use lib.ListN.{length, getD, take}
 use Rattle.sizes.specs.Sizes.{mostStops, noLimit}
-use Rattle.lists.specs.Lists.{In}
+use Rattle.lists.specs.Lists.{In, dropAt}
 use Rattle.search.specs.Problem.{State}
 use Rattle.search.specs.Step.{on, learn, step}
 use Rattle.search.specs.Run.{held}
 use Rattle.stops.specs.Code.{emptyRecord}
 use Rattle.stops.specs.declared.node_record.Record.{Record}
-use Rattle.records.specs.Code.{records, dropAt}
+use Rattle.records.specs.Code.{records}
 use Rattle.children.specs.Code.{Table, Rows, Encoded, childrenOf, recProblem, recChoices, IsBest, othersIn, farIn, Surviving}
 use Rattle.children.specs.declared.best.Best.{Best}
 use Rattle.children.specs.declared.setting.Setting.{Setting}

@@ -1,6 +1,5 @@
 -- `fits` meets its contract: fewer records stay than were active, and all but one where none goes.
 use mathlib.Core.Path.{_≡_, sym, ap, _∙_}
-use mathlib.Core.Bool.{true}
 use Prim.Native.Nat.{ℕ, _+_, _-_, _≤_}
 use native.Mathlib.Omega.{arith}
 use lib.Dec.{T}
@@ -37,9 +36,6 @@ few c =
 -- the numbers are far below those that 64 bits hold
 room : (c : tie.Start) → c .args .spot .active ≤ length (records (c .args .w .now))
 room c = c .pre .0 .spotted .front
-
-sub-most : tie.Need-sub-most
-sub-most c = omega (arith, few (c .before .before .before))
 
 add-most : tie.Need-add-most
 add-most c =
@@ -81,7 +77,7 @@ pub fits-spec : {M : Type 1} → statement M
 fits-spec =
     tie.close
     (tie.spec
-    sub-most
+    (λ c. omega (arith, few (c .before .before .before)))
     add-most
     add-most-2
     returns

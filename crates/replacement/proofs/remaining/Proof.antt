@@ -16,9 +16,6 @@ staying-requires c κs =
     let s = c .before .before .pre in
     (omega arith, (omega (arith, s .inside, s .front), (s .few, s .near)))
 
-add-staying : tie.Need-add-staying
-add-staying c = let s = entry (c .before) .pre in omega (arith, s .inside)
-
 staying-requires-2 : tie.Need-staying-requires-2
 staying-requires-2 c κs =
     let s = entry (c .before) .pre in
@@ -43,4 +40,4 @@ add-result c =
     )
 
 pub remaining-spec : {M : Type 1} → statement M
-remaining-spec = tie.close (tie.spec staying-requires add-staying staying-requires-2 add-result returns)
+remaining-spec = tie.close (tie.spec staying-requires (λ c. let s = entry (c .before) .pre in omega (arith, s .inside)) staying-requires-2 add-result returns)

@@ -29,9 +29,6 @@ gathered c =
     let all : T (start .args .change .all) = rw (chosen c .if1 .taken) tt in
     slide-gathers _ _ _ _ (start .pre .0 .spotted) _ _ (start .pre .0 .right all) (c .take-out .ensures)
 
-take-out-requires : tie.Need-take-out-requires
-take-out-requires c κs = let s = entry (c .before) .pre .0 .spotted in (s .inside, s .front)
-
 write-at-requires : tie.Need-write-at-requires
 write-at-requires c κs =
     let out = c .before .before .before in
@@ -59,7 +56,7 @@ pub replace-spec : {M : Type 1} → statement M
 replace-spec =
     tie.close
     (tie.spec
-    take-out-requires
+    (λ c κs. let s = entry (c .before) .pre .0 .spotted in (s .inside, s .front))
     write-at-requires
     add-result
     (λ c. search needs)

@@ -35,9 +35,6 @@ sift-requires c κs =
     let s = c .before .before .before .pre .0 .spotted in
     (omega arith, (omega arith, (omega (arith, s .inside, s .front), (s .few, s .near))))
 
-add-sift : tie.Need-add-sift
-add-sift c = let s = entry (first c) .pre .0 .spotted in omega (arith, s .inside)
-
 sift-requires-2 : tie.Need-sift-requires-2
 sift-requires-2 c κs =
     let start = entry (first c) in
@@ -73,4 +70,4 @@ returns c =
 pub sifted-spec : {M : Type 1} → statement M
 sifted-spec =
     tie.close
-    (tie.spec sift-requires add-sift sift-requires-2 write-at-requires add-result (λ c. search needs) returns)
+    (tie.spec sift-requires (λ c. let s = entry (first c) .pre .0 .spotted in omega (arith, s .inside)) sift-requires-2 write-at-requires add-result (λ c. search needs) returns)

@@ -47,9 +47,6 @@ loop-again c =
     let none : not (any test (slice (loop .i) (loop .i + 4) l)) ≡ true = rw (← c .before .four-below .ensures) (c .if1 .taken) in
     (omega arith, all-so-four test emptyRecord l (a .from) (loop .i) (omega arith) (omega arith) (loop .inv .1) none)
 
-loop2-holds : tie.Need-loop2-holds Inv-loop μ-loop Inv-loop2 μ-loop2
-loop2-holds c = c .before .loop .inv
-
 returns : tie.Need-returns Inv-loop μ-loop Inv-loop2 μ-loop2
 returns c =
     let loop = c .before .before .before .loop2 in
@@ -91,7 +88,7 @@ next-below-spec =
     (λ c. omega arith)
     (λ c. omega arith)
     loop-again
-    loop2-holds
+    (λ c. c .before .loop .inv)
     (λ c κs. omega arith)
     returns
     (λ c. omega arith)

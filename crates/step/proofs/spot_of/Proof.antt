@@ -1,5 +1,4 @@
 -- `spot_of` meets its contract: the pool's words are as many records as they are sixes.
-use mathlib.Core.Path.{sym}
 use native.Mathlib.Omega.{arith}
 use Rattle.records.proofs.ViewLaws.{length-records}
 use Rattle.step.proofs.spot_of.Statement.{statement}

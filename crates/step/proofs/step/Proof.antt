@@ -29,7 +29,7 @@ use Rattle.step.proofs.step.Statement.{statement}
 use Rattle.step.proofs.step.Tie as tie
 
 -- the places before: the function's entry, seen from behind `expand`; that, seen from where `all_stay` has answered; this, seen from where
--- b's spot is known; and this, seen from where the nodes to keep fit
+-- b's spot is known; this, seen from where the nodes to keep fit; and `replace`, seen from behind `hold`
 abbrev entry : tie.After-expand → tie.Start
 entry c = c .before .before .before .before .before
 
@@ -41,6 +41,9 @@ asked c = c .before .before
 
 abbrev spotted : tie.Else1 → tie.After-spot-of
 spotted c = c .before .before .before .before
+
+abbrev replaced : tie.After-hold → tie.After-replace
+replaced c = c .before .before .before .before
 
 abbrev start : tie.After-spot-of → tie.Start
 start d = entry (expanded (asked d))
@@ -202,7 +205,7 @@ hold-requires c κs =
 
 counted-requires : tie.Need-counted-requires
 counted-requires c κs =
-    let r = c .before .before .before .before .before .before in
+    let r = replaced (c .before .before) in
     let d = spotted (r .before .before .before) in
     let ready = start d .pre in
     let stay : length (staying d) ≤ run d .active - 1 =
@@ -215,7 +218,7 @@ counted-requires c κs =
 returns-2 : tie.Need-returns-2
 returns-2 c s shown =
     let held = c .before .before .before in
-    let r = held .before .before .before .before in
+    let r = replaced held in
     let e = r .before .before .before in
     let d = spotted e in
     let after : List ℕ = held .hold .last .0 in

@@ -30,18 +30,6 @@ returns c =
 loop-holds : tie.Need-loop-holds Inv-loop μ-loop
 loop-holds c = (omega arith, λ t o best. best)
 
-load-requires : tie.Need-load-requires Inv-loop μ-loop
-load-requires c κs = omega arith
-
-better-requires : tie.Need-better-requires Inv-loop μ-loop
-better-requires c κs = search needs
-
-add-k : tie.Need-add-k Inv-loop μ-loop
-add-k c = omega arith
-
-loop-less : tie.Need-loop-less Inv-loop μ-loop
-loop-less c = omega arith
-
 loop-again : tie.Need-loop-again Inv-loop μ-loop
 loop-again c =
     let l = c .before .before .before in
@@ -66,9 +54,9 @@ learn-spec =
     μ-loop
     returns
     loop-holds
-    load-requires
-    better-requires
-    add-k
-    loop-less
+    (λ c κs. omega arith)
+    (λ c κs. search needs)
+    (λ c. omega arith)
+    (λ c. omega arith)
     loop-again
     returns-2)

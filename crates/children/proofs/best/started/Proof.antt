@@ -41,20 +41,8 @@ near c = let l = c .before in next-near _ (rows l) (order l) (flown l) (c .loop-
 returns : tie.Need-returns Inv-loop μ-loop
 returns c = let a = c .before .before .args in empty-best (encodeOf (a .setting) (a .t2)) (now (a .start)) (c .if1 .taken)
 
-empty-requires : tie.Need-empty-requires Inv-loop μ-loop
-empty-requires c κs = search needs
-
 loop-holds : tie.Need-loop-holds Inv-loop μ-loop
 loop-holds c d p o = let a = c .before .before .before .args in flown-none d (a .t2) (a .start .now) (c .empty .result) (c .empty .ensures)
-
-shared-slice-read-s : tie.Need-shared-slice-read-s Inv-loop μ-loop
-shared-slice-read-s c = omega arith
-
-cast-s : tie.Need-cast-s Inv-loop μ-loop
-cast-s c = omega (arith, near (c .before))
-
-further-requires : tie.Need-further-requires Inv-loop μ-loop
-further-requires c κs = let i = c .before .before in (flown (i .before) .near, near i)
 
 extended-requires : tie.Need-extended-requires Inv-loop μ-loop
 extended-requires c κs =
@@ -62,20 +50,11 @@ extended-requires c κs =
     let l = i .before in
     rw (c .further .ensures) (flown-wide _ (rows l) (order l) (flown l) (i .loop-test .taken))
 
-add-k : tie.Need-add-k Inv-loop μ-loop
-add-k c = omega arith
-
-loop-less : tie.Need-loop-less Inv-loop μ-loop
-loop-less c = omega arith
-
 loop-again : tie.Need-loop-again Inv-loop μ-loop
 loop-again c d p o =
     let i = c .before .before .before .before in
     let l = i .before in
     rw (c .extended .ensures, c .before .further .ensures) (flown-more _ p o (l .loop .inv d p o) (i .loop-test .taken))
-
-ahead-requires : tie.Need-ahead-requires Inv-loop μ-loop
-ahead-requires c κs = let l = c .before .before in (flown l .near, (omega arith, rows l .cheap))
 
 add-t19 : tie.Need-add-t19 Inv-loop μ-loop
 add-t19 c =
@@ -94,15 +73,15 @@ started-spec =
     Inv-loop
     μ-loop
     returns
-    empty-requires
+    (λ c κs. search needs)
     loop-holds
-    shared-slice-read-s
-    cast-s
-    further-requires
+    (λ c. omega arith)
+    (λ c. omega (arith, near (c .before)))
+    (λ c κs. let i = c .before .before in (flown (i .before) .near, near i))
     extended-requires
-    add-k
-    loop-less
+    (λ c. omega arith)
+    (λ c. omega arith)
     loop-again
-    ahead-requires
+    (λ c κs. let l = c .before .before in (flown l .near, (omega arith, rows l .cheap)))
     add-t19
     returns-2)

@@ -20,9 +20,6 @@ made c =
     let a = c .before .before .args in
     c .extended .ensures ∙ ap (extended (a .b) (a .s)) (c .before .further .ensures)
 
-without-requires : tie.Need-without-requires
-without-requires c κs = let q = c .before .before .pre in (kid-places q .1, q .stop)
-
 ahead-requires : tie.Need-ahead-requires
 ahead-requires c κs =
     let q = c .before .before .before .pre in
@@ -52,7 +49,7 @@ child-spec =
     (tie.spec
     (λ c κs. omega (arith, kid-places (c .pre)))
     extended-requires
-    without-requires
+    (λ c κs. let q = c .before .before .pre in (kid-places q .1, q .stop))
     ahead-requires
     add-x
     returns)

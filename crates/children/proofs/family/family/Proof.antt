@@ -36,24 +36,12 @@ head c = c .before .before
 abbrev stepped : tie.After-child Inv-loop μ-loop → tie.After-next Inv-loop μ-loop
 stepped c = c .before .before .before .before
 
-last-requires : tie.Need-last-requires Inv-loop μ-loop
-last-requires c κs = search needs
-
-shl-rest : tie.Need-shl-rest Inv-loop μ-loop
-shl-rest c = let h = entry (c .before) .pre .0 .few in omega arith
-
 -- 2 to the power n is small, and b's set is below it
 sums :
     (c : tie.After-last Inv-loop μ-loop)
     → let a = entry c .args in
     (a .b .set + restOf (a .setting) (a .b) + 1 ≡ 2 ^ a .setting .n) × (2 ^ a .setting .n ≤ 2 ^ mostStops)
 sums c = let p = entry c .pre in rest-sum (p .0) (p .1 .0)
-
-sub-rest : tie.Need-sub-rest Inv-loop μ-loop
-sub-rest c = omega (arith, sums (c .before))
-
-sub-rest-2 : tie.Need-sub-rest-2 Inv-loop μ-loop
-sub-rest-2 c = omega (arith, sums (c .before .before))
 
 loop-holds : tie.Need-loop-holds Inv-loop μ-loop
 unfolding restOf
@@ -64,17 +52,11 @@ loop-holds c =
     let e : 1 * 2 ^ a .setting .n % 2 ^ 32 - 1 - a .b .set ≡ restOf (a .setting) (a .b) = omega (arith, sums last) in
     (e, refl, written-starts e (rest-small (a .setting .n) (p .0 .few) (a .b .set)) (p .1 .1))
 
-next-requires : tie.Need-next-requires Inv-loop μ-loop
-next-requires c κs = let h = c .before .loop .inv .2 .small in omega arith
-
 -- what `next` gives is the first of the stops left
 first : (c : tie.After-next Inv-loop μ-loop) → First (head c .loop .left) (c .next .result)
 first c =
     let l = head c .loop in
     first-out (l .left) (c .next .result) (omega arith) (l .inv .2 .small) (c .next .ensures .0)
-
-later-requires : tie.Need-later-requires Inv-loop μ-loop
-later-requires c κs = let h = head c .loop .inv .2 .small in omega arith
 
 -- what `later` gives is the others
 rest-left : (c : tie.After-later Inv-loop μ-loop) → c .later .result ≡ head (c .before) .loop .left - 2 ^ (c .before .next .result - 1)
@@ -99,12 +81,6 @@ child-requires c κs =
       stop = rw (l .loop .inv .0) (l .loop .inv .2 .part _ (first n .member));
     }
 
-store-requires : tie.Need-store-requires Inv-loop μ-loop
-store-requires c κs = omega (arith, room (stepped c))
-
-add-m : tie.Need-add-m Inv-loop μ-loop
-add-m c = omega (arith, room (stepped (c .before .before .before)))
-
 loop-less : tie.Need-loop-less Inv-loop μ-loop
 loop-less c =
     let born = c .before .before .before in
@@ -120,9 +96,6 @@ loop-again c =
       written-again (l .inv .2) (first n) (rest-left (s .before .before .before .before)) (s .before .child .ensures) (s .store .ensures),
     )
 
-same-length : tie.Need-same-length Inv-loop μ-loop
-same-length c = c .before .loop .inv .1
-
 returns : tie.Need-returns Inv-loop μ-loop
 unfolding childrenOf
 returns c = written-ends (c .before .loop .inv .2) (c .loop-test .left)
@@ -133,17 +106,17 @@ family-spec =
     (tie.spec
     Inv-loop
     μ-loop
-    last-requires
-    shl-rest
-    sub-rest
-    sub-rest-2
+    (λ c κs. search needs)
+    (λ c. let h = entry (c .before) .pre .0 .few in omega arith)
+    (λ c. omega (arith, sums (c .before)))
+    (λ c. omega (arith, sums (c .before .before)))
     loop-holds
-    next-requires
-    later-requires
+    (λ c κs. let h = c .before .loop .inv .2 .small in omega arith)
+    (λ c κs. let h = head c .loop .inv .2 .small in omega arith)
     child-requires
-    store-requires
-    add-m
+    (λ c κs. omega (arith, room (stepped c)))
+    (λ c. omega (arith, room (stepped (c .before .before .before))))
     loop-less
     loop-again
-    same-length
+    (λ c. c .before .loop .inv .1)
     returns)

@@ -6,9 +6,6 @@ use Rattle.children.proofs.KidLaws.{all-small, root-made}
 use Rattle.children.proofs.family.root.Statement.{statement}
 use Rattle.children.proofs.family.root.Tie as tie
 
-sub-ahead : tie.Need-sub-ahead
-sub-ahead c = omega (arith, all-small (c .before .before .before .pre))
-
 ahead-requires : tie.Need-ahead-requires
 ahead-requires c κs =
     let rows = c .before .before .before .pre in
@@ -21,4 +18,4 @@ returns c =
     root-made (made .before .pre) _ _ (made .empty .ensures) (c .ahead .ensures)
 
 pub root-spec : {M : Type 1} → statement M
-root-spec = tie.close (tie.spec (λ c κs. search needs) (λ c. search needs) sub-ahead ahead-requires returns)
+root-spec = tie.close (tie.spec (λ c κs. search needs) (λ c. search needs) (λ c. omega (arith, all-small (c .before .before .before .pre))) ahead-requires returns)

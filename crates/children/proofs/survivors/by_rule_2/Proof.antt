@@ -26,9 +26,6 @@ unrivalled-requires c κs =
     let p = entry (c .before .before) .pre in
     ((p .few, p .near), (omega arith, omega (arith, p .inside, p .front)))
 
-add-unrivalled : tie.Need-add-unrivalled
-add-unrivalled c = let p = entry (chosen (first c) .before) .pre in omega (arith, p .inside)
-
 unrivalled-requires-2 : tie.Need-unrivalled-requires-2
 unrivalled-requires-2 c κs =
     let before = first c .unrivalled .ensures in
@@ -67,7 +64,7 @@ by-rule-2-spec =
     (tie.spec
     (λ c κs. search needs)
     unrivalled-requires
-    add-unrivalled
+    (λ c. let p = entry (chosen (first c) .before) .pre in omega (arith, p .inside))
     unrivalled-requires-2
     (λ c. search needs)
     returns

@@ -17,9 +17,6 @@ entry c = c .before .before .before
 abbrev chosen : tie.After-unrivalled → tie.Then1
 chosen c = c .before .before .before
 
-sub-from : tie.Need-sub-from
-sub-from c = let p = entry (c .before .before) .pre in omega (arith, p .whole, p .back)
-
 unrivalled-requires : tie.Need-unrivalled-requires
 unrivalled-requires c κs =
     let p = entry (c .before .before .before) .pre in
@@ -44,4 +41,4 @@ returns-2 c =
 
 pub by-rule-4-spec : {M : Type 1} → statement M
 by-rule-4-spec =
-    tie.close (tie.spec (λ c κs. search needs) sub-from unrivalled-requires (λ c. search needs) returns returns-2)
+    tie.close (tie.spec (λ c κs. search needs) (λ c. let p = entry (c .before .before) .pre in omega (arith, p .whole, p .back)) unrivalled-requires (λ c. search needs) returns returns-2)

@@ -118,9 +118,6 @@ loop-holds c =
     let t = tabled b in
     (refl, (_, run-begins (call (entry t)) (ok (entry t)) (t .rows .ensures) (b .begun .ensures)))
 
-take-turn-requires : tie.Need-take-turn-requires Inv-loop μ-loop
-take-turn-requires c κs = let inv = c .before .loop .inv in (_, inv .1 .0, inv .1 .1)
-
 loop-less : tie.Need-loop-less Inv-loop μ-loop
 loop-less c =
     let turn = further (c .before) in
@@ -139,7 +136,8 @@ settle-requires c κs = let turn = finish (c .before) in settle-ready (stands (h
 stops-of-requires : tie.Need-stops-of-requires Inv-loop μ-loop
 unfolding callOf
 stops-of-requires c κs =
-    let turn = finish (c .before .before .before .before .before) in
+    let settle = c .before .before .before in
+    let turn = finish (settle .before .before) in
     ok (entry (tabled (began (head turn)))) .few
 
 same-length : tie.Need-same-length Inv-loop μ-loop
@@ -209,7 +207,7 @@ search-spec =
     rows-requires
     begun-requires
     loop-holds
-    take-turn-requires
+    (λ c κs. let inv = c .before .loop .inv in (_, inv .1 .0, inv .1 .1))
     (λ c. search needs)
     loop-less
     loop-again

@@ -19,9 +19,6 @@ chose :
     → let a = entry c .args in Chose (a .setting .n) (take (a .r .active) (records (a .w .now))) (a .setting .selection) place
 chose c place e = rw (← e) (c .choose .ensures)
 
-choose-requires : tie.Need-choose-requires
-choose-requires c κs = turn-chooses (c .before .before .pre .2)
-
 turn-at-requires : tie.Need-turn-at-requires
 turn-at-requires c κs =
     let known = c .before .before in
@@ -38,7 +35,7 @@ pub take-turn-spec : {M : Type 1} → statement M
 take-turn-spec =
     tie.close
     (tie.spec
-    choose-requires
+    (λ c κs. turn-chooses (c .before .before .pre .2))
     (λ c. search needs)
     turn-at-requires
     (λ c. search needs)

@@ -20,12 +20,6 @@ loaded c = c .before .before
 abbrev tested : tie.After-step → tie.Else1
 tested c = c .before .before
 
-load-requires : tie.Need-load-requires
-load-requires c κs = let p = c .before .before .pre in turn-loads (p .1 .2) (p .0)
-
-finishes-requires : tie.Need-finishes-requires
-finishes-requires c κs = entry (c .before) .pre .1 .2 .selects
-
 returns : tie.Need-returns
 returns c first s running =
     let test = c .before in
@@ -69,8 +63,8 @@ pub turn-at-spec : {M : Type 1} → statement M
 turn-at-spec =
     tie.close
     (tie.spec
-    load-requires
-    finishes-requires
+    (λ c κs. let p = c .before .before .pre in turn-loads (p .1 .2) (p .0))
+    (λ c κs. entry (c .before) .pre .1 .2 .selects)
     (λ c. search needs)
     returns
     step-requires

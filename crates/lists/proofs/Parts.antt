@@ -1,0 +1,37 @@
+-- Laws of the parts of a list: its first elements, those behind them, the list without one of them, and one of them.
+--   in-take, in-drop, in-dropAt, in-getD    what stands in a part stands in the list
+--   dropped-length                          the list without one element is shorter by one
+use mathlib.Core.Path.{_≡_, subst, _∙_}
+use mathlib.Core.List.{List, [], _∷_, List·Memᴰ·append-cases, List·Memᴰ·tail, Memᴰ·append-left, Memᴰ·append-right}
+use mathlib.Core.Logic.{_⊎_, inl, inr}
+use Prim.Native.Nat.{ℕ, zero, suc, _-_, _<_, min}
+use native.Mathlib.Omega.{arith}
+use lib.ListN.{length, getD, take, drop, length-append, length-take, length-drop, take-append-drop}
+use Rattle.lists.specs.Lists.{In, dropAt}
+use Rattle.lists.proofs.Members.{in-head}
+
+module _ {A : Type 0} where
+  pub in-take : (j : ℕ) (xs : List A) (x : A) → In x (take j xs) → In x xs
+  in-take j xs x m = subst (λ (l : List A). In x l) (take-append-drop j xs) (Memᴰ·append-left (drop j xs) m)
+
+  pub in-drop : (j : ℕ) (xs : List A) (x : A) → In x (drop j xs) → In x xs
+  in-drop j xs x m = subst (λ (l : List A). In x l) (take-append-drop j xs) (Memᴰ·append-right (take j xs) m)
+
+  pub in-dropAt : (i : ℕ) (xs : List A) (x : A) → In x (dropAt i xs) → In x xs
+  unfolding dropAt
+  in-dropAt i xs x m = go (List·Memᴰ·append-cases (take i xs) m)
+    where
+      go : In x (take i xs) ⊎ In x (drop (suc i) xs) → In x xs
+      go (inl h) = in-take i xs x h
+      go (inr h) = in-drop (suc i) xs x h
+
+  pub in-getD : (xs : List A) (i : ℕ) (d : A) → i < length xs → In (getD xs i d) xs
+  in-getD [] i d h = absurd (omega arith)
+  in-getD (x ∷ xs) zero d h = in-head
+  in-getD (x ∷ xs) (suc i) d h = List·Memᴰ·tail (in-getD xs i d (omega arith))
+
+  pub dropped-length : (i : ℕ) (xs : List A) → i < length xs → length (dropAt i xs) ≡ length xs - 1
+  unfolding dropAt
+  dropped-length i xs h =
+      length-append (take i xs) (drop (suc i) xs)
+      ∙ (let p : length (take i xs) ≡ min i (length xs) = length-take i xs in omega (arith, length-drop (suc i) xs))
