@@ -30,24 +30,24 @@ fn turn(w: &mut [u32], from: usize, to: usize)
 }
 
 // Clears the records from `from` on.
-fn clear(w: &mut [u32], count: usize, from: usize)
-    requires { ⌜ (count ≡ length (records (now w))) × (from ≤ count) ⌝ }
-    ensures { λ u. ⌜ records (now (w .exit)) ≡ take from (records (now (w .entry))) ++ replicate (count - from) emptyRecord ⌝ }
+fn clear(w: &mut [u32], capacity: usize, from: usize)
+    requires { ⌜ (capacity ≡ length (records (now w))) × (from ≤ capacity) ⌝ }
+    ensures { λ u. ⌜ records (now (w .exit)) ≡ take from (records (now (w .entry))) ++ replicate (capacity - from) emptyRecord ⌝ }
 {
     let mut k = from;
-    while k < count {
+    while k < capacity {
         store(w, k, Record::empty());
         k += 1;
     }
 }
 
-// Settles a pool of some records with its first a active and its last b branched.
-pub fn settle(w: &mut [u32], count: usize, a: usize, b: usize)
-    requires { ⌜ (count ≡ length (records (now w))) × (a + b ≤ count) ⌝ }
-    ensures { λ u. ⌜ records (now (w .exit)) ≡ take a (records (now (w .entry))) ++ (reverse (drop (count - b) (records (now (w .entry)))) ++ replicate (count - (a + b)) emptyRecord) ⌝ }
+// Settles a pool with its first records active and its last ones, at the far end, branched.
+pub fn settle(w: &mut [u32], capacity: usize, active: usize, far: usize)
+    requires { ⌜ (capacity ≡ length (records (now w))) × (active + far ≤ capacity) ⌝ }
+    ensures { λ u. ⌜ records (now (w .exit)) ≡ take active (records (now (w .entry))) ++ (reverse (drop (capacity - far) (records (now (w .entry)))) ++ replicate (capacity - (active + far)) emptyRecord) ⌝ }
 {
-    let far = count - b;
-    turn(w, far, count);
-    let end = slide(w, far, count, a);
-    clear(w, count, end);
+    let from = capacity - far;
+    turn(w, from, capacity);
+    let end = slide(w, from, capacity, active);
+    clear(w, capacity, end);
 }

@@ -17,10 +17,12 @@ use stops::node_record::Record;
 
 // The least number that a word does not hold, and the mask of a word's bits.
 const ABOVE_WORD: u64 = 4_294_967_296;
+
 const WORD_MASK: u64 = 4_294_967_295;
 
 // How many records are gathered at a time, and their words.
 const ROOM: usize = 32;
+
 const ROOM_WORDS: usize = ROOM * RECORD_WORDS;
 
 // Whether record i dominates x. Sets are compared before anything else is read.

@@ -1,5 +1,5 @@
 -- `pool::settle::clear` meets its contract. The loop's invariant: the records cleared from k on are the records at entry cleared from
--- `from` on. Assumes nothing.
+-- `from` on.
 use mathlib.Core.Path.{_≡_, refl, sym, ap, _∙_}
 use Prim.Native.Nat.{_-_, _≤_}
 use native.Mathlib.Omega.{arith}
@@ -12,29 +12,17 @@ use Rattle.pool.proofs.settle.clear.Statement.{statement}
 use Rattle.pool.proofs.settle.clear.Tie as tie
 
 abbrev Inv-loop : tie.InvT-loop
-Inv-loop w₀ count from k₀ w k =
-    (k ≤ count)
-    × (count ≡ length (records w))
+Inv-loop w₀ capacity from k₀ w k =
+    (k ≤ capacity)
+    × (capacity ≡ length (records w))
     × (length w ≡ length w₀)
-    × (cleared count emptyRecord k (records w) ≡ cleared count emptyRecord from (records w₀))
+    × (cleared capacity emptyRecord k (records w) ≡ cleared capacity emptyRecord from (records w₀))
 
 abbrev μ-loop : tie.MeasureT-loop
-μ-loop w₀ count from k₀ w k = count - k
+μ-loop w₀ capacity from k₀ w k = capacity - k
 
 loop-holds : tie.Need-loop-holds Inv-loop μ-loop
 loop-holds c = (c .before .pre .1, c .before .pre .0, refl, refl)
-
-empty-requires : tie.Need-empty-requires Inv-loop μ-loop
-empty-requires c κs = search needs
-
-store-requires : tie.Need-store-requires Inv-loop μ-loop
-store-requires c κs = omega arith
-
-add-k : tie.Need-add-k Inv-loop μ-loop
-add-k c = omega arith
-
-loop-less : tie.Need-loop-less Inv-loop μ-loop
-loop-less c = omega arith
 
 loop-again : tie.Need-loop-again Inv-loop μ-loop
 loop-again c =
@@ -62,10 +50,10 @@ clear-spec =
     Inv-loop
     μ-loop
     loop-holds
-    empty-requires
-    store-requires
-    add-k
-    loop-less
+    (λ c κs. search needs)
+    (λ c κs. omega arith)
+    (λ c. omega arith)
+    (λ c. omega arith)
     loop-again
     same-length
     returns)

@@ -1,5 +1,5 @@
 -- `pool::settle::settle` meets its contract: `turn`, `slide` and `clear` one after the other, joined by `settle-joins`. What `slide` and
--- `clear` require rests on turning and sliding keeping the number of records. Assumes nothing.
+-- `clear` require rests on turning and sliding keeping the number of records.
 use mathlib.Core.Path.{_≡_, _∙_}
 use Prim.Native.Nat.{_-_}
 use native.Mathlib.Omega.{arith}
@@ -13,16 +13,7 @@ use Rattle.pool.proofs.settle.settle.Tie as tie
 turned-long : (c : tie.After-turn) → length (records (c .turn .last .0)) ≡ length (records (c .before .before .before .args .w .now))
 turned-long c =
     let a = c .before .before .before .args in
-    rw (c .turn .ensures) (length-turned (a .count - a .b) (a .count) (records (a .w .now)) (omega arith))
-
-sub-far : tie.Need-sub-far
-sub-far c = search needs
-
-turn-requires : tie.Need-turn-requires
-turn-requires c κs = search needs
-
-slide-requires : tie.Need-slide-requires
-slide-requires c κs = omega (arith, turned-long (c .before .before .before))
+    rw (c .turn .ensures) (length-turned (a .capacity - a .far) (a .capacity) (records (a .w .now)) (omega arith))
 
 clear-requires : tie.Need-clear-requires
 clear-requires c κs =
@@ -31,9 +22,6 @@ clear-requires c κs =
     let long = turned-long at-turn in
     let slid = at-slide .slide .ensures in
     omega (arith, long, slid .same-length, slide-end (records (at-turn .turn .last .0)) _ _ _ _ _ (omega (arith, long)) slid)
-
-same-length : tie.Need-same-length
-same-length c = search needs
 
 returns : tie.Need-returns
 returns c =
@@ -47,4 +35,11 @@ returns c =
 
 pub settle-spec : {M : Type 1} → statement M
 settle-spec =
-    tie.close (tie.spec sub-far turn-requires slide-requires clear-requires same-length returns)
+    tie.close
+    (tie.spec
+    (λ c. search needs)
+    (λ c κs. search needs)
+    (λ c κs. omega (arith, turned-long (c .before .before .before)))
+    clear-requires
+    (λ c. search needs)
+    returns)
