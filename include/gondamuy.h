@@ -65,11 +65,11 @@ enum gondamuy_refusal {
     GONDAMUY_REFUSED_TABLE_LENGTH = 2,
     /* a leg is above 1,000,000 or a diagonal entry is not 0. */
     GONDAMUY_REFUSED_LEG = 3,
-    /* selection is above 3, rules above 15 or bound above 1. */
+    /* there is no such selection (0 to 3), sum of rules (0 to 15) or bound (0 or 1). */
     GONDAMUY_REFUSED_CHOICE = 4,
-    /* the starting order is neither empty nor a permutation of 1 to n. Name each stop once, or hand in none. */
+    /* the starting order is not empty, and does not name each of 1 to n once. Name each once, or hand in none. */
     GONDAMUY_REFUSED_START = 5,
-    /* the pool has no whole record, or a part record. Lend a multiple of six words, six at least. */
+    /* the pool is empty, or does not end with a whole record. Lend a multiple of six words, six at least. */
     GONDAMUY_REFUSED_POOL = 6,
     /* the pool is full. Lend more records, or search in fewer, if longer: LIFO, rule 1, close, a starting order. */
     GONDAMUY_REFUSED_FULL = 7,
@@ -116,7 +116,7 @@ struct gondamuy_written {
 /* A record of the pool, six words in a row: a node, the stops that are flown first. */
 struct gondamuy_record {
     uint32_t size;      /* how many stops */
-    uint32_t set;       /* stop s adds 2 to the power s-1 */
+    uint32_t set;       /* bit s-1 is stop s's */
     uint32_t path;      /* the cost of the legs flown */
     uint32_t bound;
     uint32_t first;     /* s-1 in four bits each, the first eight stops, first stop lowest */

@@ -58,12 +58,12 @@ module _ (c : Call) (s : State Node) where
           let over : Bool = ltb (recordsIn (c .pool)) (length (held (choicesOf c .rules) after)) in
           record { b = b; rest = rest; selects = q; ends = test (finishes (problemOf c) (choicesOf c) (s .best) b rest) over after e }
 
-  pub holds-finish : FinishTestHolds c s → (records : ℕ) → next (problemOf c) (choicesOf c) records s ≡ finish
+  pub holds-finish : FinishTestHolds c s → (capacity : ℕ) → next (problemOf c) (choicesOf c) capacity s ≡ finish
   unfolding next decide
   holds-finish h records = rw (h .selects, to-true (finishes (problemOf c) (choicesOf c) (s .best) (h .b) (h .rest)) (h .ends))
 
 made-branched :
-    {N : Type 0} {P : Problem N} {C : Choices N} {records : ℕ} {s e : State N} (steps : Steps P C records s e)
+    {N : Type 0} {P : Problem N} {C : Choices N} {capacity : ℕ} {s e : State N} (steps : Steps P C capacity s e)
     → length (e .branched) ≡ length (s .branched) + made steps
 unfolding step
 made-branched none = omega arith

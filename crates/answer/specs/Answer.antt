@@ -1,5 +1,5 @@
 -- The one function from what a caller hands in to the report and the pool's words afterwards: `answer`.
--- Document 01, "The report", "The pool" and "Causes and numbers". Assumes nothing.
+-- Document 01, "The report", "The pool" and "Causes and numbers".
 use mathlib.Core.List.{List, [], _∷_}
 use mathlib.Core.Option.{Option, none, some}
 use Prim.Native.Nat.{ℕ, zero, suc}
@@ -45,7 +45,8 @@ abbrev pub stopsOf : Option Node → List ℕ
 stopsOf none = []
 stopsOf (some x) = x
 
--- "Number 0, cost, order (zeros past n), and five 64-bit counts"; 7: "number, counts of the steps done, cost and order zero"
+-- A report at the end of a run: with 0 it has the cost and the order, in as many places as there may be stops; with 7 it has zeros there.
+-- The counts are those of the state that the run ended at.
 unfoldable pub reportWith : ℕ → ℕ → List ℕ → State Node → Report
 reportWith number cost order s = record {
   number = number;
@@ -58,7 +59,7 @@ reportWith number cost order s = record {
   most = s .most;
 }
 
--- "Contents before the run play no part": only the pool's length is looked at.
+-- Of the pool before the run, only the length is looked at.
 unfoldable pub wordsOf : Call → State Node → List ℕ
 wordsOf c s = poolWords (c .job .n) (dayOf c) (c .job .bound) (c .job .rules) (length (c .pool)) s
 

@@ -120,7 +120,7 @@ case-e : Holds e
 unfolding e tableT computed
 case-e = refl
 
--- f₁. As e, pool of one record: the same.
+-- f₁. e's job again, in a pool of one record: its report.
 f₁ : Case
 f₁ = reports (call 3 tableT 3 1 1 (1 ∷ 2 ∷ 3 ∷ []) 1) (found 13 order123 2 6 3 1 1)
 

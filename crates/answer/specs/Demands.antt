@@ -54,7 +54,7 @@ RunIsWritten P = (c : Call) (a : Answer) → P c a → a ≡ answer c
 abbrev pub CountsBalance : Planner → Type 0
 CountsBalance P = (c : Call) (a : Answer) → P c a → a .report .generated ≡ a .report .branched + a .report .eliminated + a .report .active
 
--- The pool is called full when, and only when, the run comes to a step after which the nodes to keep outnumber the records.
+-- Number 7 has one cause, which always brings it: the run comes to a step that would leave more nodes to keep than there are records.
 abbrev pub FullIff : Planner → Type 0
 FullIff P = (c : Call) (a : Answer) → P c a → (a .report .number ≡ 7) ↔ ComesTo c NextDoesNotFit
 

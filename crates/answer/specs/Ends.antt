@@ -21,7 +21,7 @@ use Rattle.answer.specs.Checks.{cause}
 use Rattle.answer.specs.Answer.{problemOf, choicesOf, StateOf, stopsOf, reportWith, wordsOf}
 
 -- how many steps lead from one state of a run to another
-abbrev pub made : {N : Type 0} {P : Problem N} {C : Choices N} {records : ℕ} {s e : State N} → Steps P C records s e → ℕ
+abbrev pub made : {N : Type 0} {P : Problem N} {C : Choices N} {capacity : ℕ} {s e : State N} → Steps P C capacity s e → ℕ
 made none = 0
 made (more before last) = suc (made before)
 

@@ -1,13 +1,13 @@
 // Checks 1 to 5, which look at a job, its table and its starting order: `job_cause`. What it answers is `jobCause` of crate `answer`
-// (specs/Checks), whose proofs/JobCause ties that to the cause of a call with a pool. `wrong_n` and `table_cause` are for callers that look
-// at less. The functions are public for the crates above and not for hosts; what they require, those crates meet.
+// (specs/Checks), whose proofs/JobCause ties that to the cause of a call with a pool. `wrong_n` is for a caller that knows n alone. Both
+// are public for the crates above and not for hosts; they ask nothing.
 ghost use mathlib.Core.Path.{_≡_};
 ghost use Prim.Native.Nat.{_≤_};
 ghost use Rattle.sizes.specs.Sizes.{mostStops};
 ghost use Rattle.answer.specs.Checks.{cause₁, cause₄, cause₅, jobCause};
 ghost use Rattle.checks.specs.Code.{tableCause};
 
-pub mod order;
+mod order;
 
 use crate::order::is_order;
 use answer::Job;
@@ -26,7 +26,7 @@ pub fn wrong_n(n: u32) -> bool
 }
 
 // The number of the first of causes 1 to 3 that applies, 0 if none does.
-pub fn table_cause(n: u32, table: &[u32]) -> u32
+fn table_cause(n: u32, table: &[u32]) -> u32
     ensures { λ r. ⌜ r ≡ tableCause n (now (table .entry)) 0 ⌝ }
 {
     if wrong_n(n) {

@@ -1,4 +1,4 @@
--- Part 2 of a step: what children do to the numbers that stand for U's order (`src/best.rt`).
+-- Part 2 of a step: what children do to U and its order (`src/best.rt`).
 --   Learnt, learn-keeps, learn-replaces    of one child
 --   learn-none, learn-more                 of a list without a complete child, and of one record more of a list
 use mathlib.Core.Path.{_≡_, refl, sym}
@@ -28,7 +28,7 @@ learn-append :
 learn-append P o [] x = refl
 learn-append P o (c ∷ cs) x = learn-append P (replace (P .complete c && ltb (P .cost c) (upper P o)) c o) cs x
 
--- U is a number of a, whatever order that stands for
+-- U is a word of a, whatever order that stands for
 pub upper-best : (d : Setting) (t : Table) (a : Best) (o : Option Record) → IsBest a o → upper (recProblem d t) o ≡ a .upper
 unfolding recProblem
 upper-best d t a none h = sym (h .0)

@@ -1,8 +1,8 @@
 -- The starting order made into a record, stop by stop (`src/best.rt`, `started`).
 --   empty-best, order-given             no order is given, or one is
 --   Flown, flown-none, flown-more       after some stops
---   next-near, flown-wide, flown-room   the numbers of the next stop, and of what lies ahead at the end, have room
---   flown-best                          at the end the record's numbers are those of the order
+--   next-near, flown-wide, flown-room   the words of the next stop, and of what lies ahead at the end, have room
+--   flown-best                          at the end the record's words are those of the order
 use mathlib.Core.Path.{_≡_, refl, ap, sym, _∙_, subst}
 use mathlib.Core.List.{[], _∷_, _++_, Memᴰ·append-right}
 use mathlib.Core.Logic.{_⊎_, inl, inr, _≢_}

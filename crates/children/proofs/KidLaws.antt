@@ -1,6 +1,6 @@
--- What the code of `child` and `root` needs: the numbers of a node's record have room for one stop more.
+-- What the code of `child` and `root` needs: the words of a node's record have room for one stop more.
 --   kid-places              the last stop of a record and those that it leaves are places of the table
---   kid-wide, kid-small     its numbers have room for one of those stops, and 32 bits hold the child's bound
+--   kid-wide, kid-small     its words have room for one of those stops, and 32 bits hold the child's bound
 --   kid-made                the record extended, with what the bound adds, is the child
 --   all-small, root-made    the set of all stops fits, and e with the bound of that set is the root's record
 use mathlib.Core.Path.{_≡_, ap, ap₂, sym, subst, _∙_}
@@ -52,7 +52,7 @@ module _ {d : Setting} {t : Table} (rows : Rows d t) where
       let short : length x ≤ mostStops = omega (arith, partial-size (d .n) x (e .partial), size-left (d .n) x, rows .few) in
       (same, omega (arith, path-small t (rows .cheap) (d .n) x, mul-le-mul-right dearest short))
 
-  -- the set of all stops, as a number, is one less than 2 to the power n
+  -- the set of all stops, as a word, is one less than 2 to the power n
   pub all-small : (1 ≤ 2 ^ d .n) × (2 ^ d .n ≤ 2 ^ mostStops)
   all-small = (pow-pos (d .n), pow-mono {i = d .n} {j = mostStops} (rows .few))
 

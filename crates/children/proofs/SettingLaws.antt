@@ -3,7 +3,7 @@
 --   setting-counts                           no count of a run is above the number of all nodes
 --   choice-selection, choice-rules           the caller's choices are the setting's
 --   given-known, given-valid                 a starting order is a complete node of the tree, and a partial order
---   encode-size, order-numbers               the record of a node has its size; that of an order has its cost and its words
+--   encode-size, order-words                 the record of a node has its size; that of an order has its cost and its words
 --   call-rows, call-problem, call-choices    a call's problem and choices are those of its job's setting and its table's rows
 --   call-words                               and its words are those of such nodes' records
 use mathlib.Core.Path.{_≡_, refl, ap, sym, subst}
@@ -92,12 +92,12 @@ module _ {d : Setting} {t : Table} (ok : Rows d t) where
   unfolding problemOf
   setting-solvable = day-solvable (d .n) (dayOn (d .n) t) (order-below t (ok .cheap) (d .n) (ok .few))
 
-  pub order-numbers :
+  pub order-words :
       (x : Node) → Order (d .n) x
       → (encodeOf d t x .bound ≡ problemOf d t .cost x)
       × (encodeOf d t x .first ≡ orderWord (take wordStops x)) × (encodeOf d t x .second ≡ orderWord (drop wordStops x))
   unfolding encodeOf encode problemOf problem
-  order-numbers x o = (bound-exact (rows-walk (d .n) t) (d .bound) (ok .bound) x (order-complete (d .n) x o), refl, refl)
+  order-words x o = (bound-exact (rows-walk (d .n) t) (d .bound) (ok .bound) x (order-complete (d .n) x o), refl, refl)
 
 module _ (c : Call) {t : Table} (e : t ≡ rows (c .job .n) (c .table)) where
   pub call-rows : Passes c → Rows (settingOf (c .job)) t

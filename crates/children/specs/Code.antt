@@ -6,7 +6,7 @@
 --   childrenOf, rootOf                the children of a record, in ascending stop order, and the record of e
 --   recProblem, recChoices            the same problem and choices on records
 --   Encoded, Kid                      a record is that of a node; and a stop is one that it leaves
---   IsBest                            the numbers that stand for U's order
+--   IsBest                            what stands for U and its order
 --   othersIn, farIn, Spotted          where the active records stand, the one that is branched and those branched before
 --   survivorsOf, Surviving            what rules 1, 2 and 4 leave of the children
 use mathlib.Core.Path.{_≡_}

@@ -20,14 +20,14 @@ use stops::bound::ahead;
 use stops::node_record::Record;
 use stops::table::further;
 
-// The cost of the best order known, and its two words; the largest number and zeros if none is known.
+// The cost of the best order known, and its two words; `ABOVE_EVERY_COST` and zeros if none is known.
 pub struct Best {
     pub upper: u32,
     pub first: u32,
     pub second: u32,
 }
 
-// A complete node cheaper than U replaces U and its order; an equal one does not.
+// The best order known after a child: the child's, if it is complete and costs less than U.
 fn better(setting: Setting, best: Best, x: Record) -> Best
     ensures { λ r. ⌜ ((t : Table) (o : Option Record) → IsBest best o → IsBest r (learn (recProblem setting t) o (x ∷ []))) ⌝ }
 {

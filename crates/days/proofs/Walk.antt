@@ -33,7 +33,7 @@ pub record Alike (n : ℕ) (D : Day) (R : Reckoning) (w x : Node) : Type 0 where
   pub place : R .place w ≡ R .place x
   pub cheaper : D .path w ≤ D .path x
 
--- The laws of a day of n stops whose bounds have the numbers 0 to most.
+-- The laws of a day of n stops whose bounds are 0 to most.
 pub record Walk (n most : ℕ) (D : Day) (R : Reckoning) : Type 0 where
   -- e is at place 0, with no path cost
   pub path-root : D .path [] ≡ 0
@@ -41,7 +41,7 @@ pub record Walk (n most : ℕ) (D : Day) (R : Reckoning) : Type 0 where
   -- one stop more
   pub path-extend : (x : Node) (s : ℕ) → In s (left n x) → D .path (extend x s) ≡ D .path x + R .further (R .place x) s
   pub place-extend : (x : Node) (s : ℕ) → In s (left n x) → R .place (extend x s) ≡ R .after (R .place x) s
-  -- a bound is the path cost and what lies ahead; where no stop is to come that makes the cost, whatever the bound's number
+  -- a bound is the path cost and what lies ahead; where no stop is to come that makes the cost, whichever the bound
   pub bound-ahead : (k : ℕ) → k ≤ most → (x : Node) → D .bound k x ≡ D .path x + R .ahead k (R .place x) (left n x)
   pub cost-ahead : (k : ℕ) → k ≤ most → (x : Node) → D .cost x ≡ D .path x + R .ahead k (R .place x) []
   -- a stop lowers what lies ahead by at most what it adds to the path cost

@@ -10,5 +10,5 @@ pub record Reckoning : Type 0 where
   -- what a stop adds to the path cost at a place, and where it leads
   pub further : ℕ → ℕ → ℕ
   pub after : ℕ → ℕ → ℕ
-  -- what the bound of a number adds to the path cost at a place, with the stops of a list to come
+  -- what a bound adds to the path cost at a place, with the stops of a list to come
   pub ahead : ℕ → ℕ → List ℕ → ℕ

@@ -12,7 +12,7 @@ pub record Day : Type 0 where
   pub path : Node → ℕ
   -- the cost of an order
   pub cost : Node → ℕ
-  -- a node's lower bound, by the bound's number
+  -- a node's lower bound, by which bound is chosen
   pub bound : ℕ → Node → ℕ
   -- y dominates z: `dominates y z`
   pub dominates : Node → Node → Bool
@@ -28,6 +28,6 @@ problem n D = record {
   above = aboveEveryCost;
 }
 
--- the choices of a caller, by their numbers: selection, sum of the rules, bound
+-- the choices of a caller: selection, sum of the rules, bound
 unfoldable pub choices : Day → ℕ → ℕ → ℕ → Choices Node
 choices D selection rules bound = record { selection = selection; rules = rules; bound = D .bound bound }

@@ -27,11 +27,11 @@ use Rattle.node_answers.specs.Nodes.{flownStops, isRecordOf, isNode}
 use Rattle.node_answers.specs.Answers.{fits, longer}
 use Rattle.node_answers.proofs.NodeLaws.{NodeRecord, node-record, record-node}
 use Rattle.node_answers.proofs.LongerLaws.{Fits, fits-parts, parts-fit}
-use Rattle.inspection.specs.Code.{ofNumbers}
+use Rattle.inspection.specs.Code.{ofFour}
 
 -- whether a record is a node's lies with its size, its set and its order alone
-pub node-same : (n : ℕ) (x : Record) → isNode n (ofNumbers (x .size) (x .set) (x .first) (x .second)) ≡ isNode n x
-unfolding isNode isRecordOf flownStops ofNumbers
+pub node-same : (n : ℕ) (x : Record) → isNode n (ofFour (x .size) (x .set) (x .first) (x .second)) ≡ isNode n x
+unfolding isNode isRecordOf flownStops ofFour
 node-same n x = refl
 
 module _ (x : Record) (stop leg : ℕ) where
@@ -56,9 +56,9 @@ module _ (x : Record) (stop leg : ℕ) where
     q : NodeRecord mostStops x y
     q = node-record mostStops x (subst T (sym node) tt)
 
-    held : flown (stopsIn (x .set)) stop ≡ flown y stop
+    flown-same : flown (stopsIn (x .set)) stop ≡ flown y stop
     unfolding setOf
-    held =
+    flown-same =
         ap (λ (m : ℕ). flown (stopsIn m) stop) (q .set-is) ∙ ap (λ (l : List ℕ). flown l stop) (stops-set mostStops (q .few) y)
         ∙ same-tests (flown (setOf mostStops y) stop) (flown y stop)
         (λ t. in-set mostStops y stop (flown-in (setOf mostStops y) stop t) .2)
@@ -66,7 +66,7 @@ module _ (x : Record) (stop leg : ℕ) where
 
     pub unfit-flown : flown (stopsIn (x .set)) stop ≡ true → false ≡ fits x stop leg
     unfit-flown e =
-        unfit (λ f. T-not (flown y stop) (in-left mostStops y stop (f .leaves) .2) (subst T (sym (sym held ∙ e)) tt))
+        unfit (λ f. T-not (flown y stop) (in-left mostStops y stop (f .leaves) .2) (subst T (sym (sym flown-same ∙ e)) tt))
 
     -- the path cost is left to test
     pub fits-last :
@@ -75,7 +75,7 @@ module _ (x : Record) (stop leg : ℕ) where
         same-tests (leb leg (4294967295 - x .path)) (fits x stop leg)
         (λ t. parts-fit x stop leg (record {
           node = q;
-          leaves = left-in mostStops y stop some few (subst (λ (b : Bool). T (not b)) (sym (sym held ∙ e)) tt);
+          leaves = left-in mostStops y stop some few (subst (λ (b : Bool). T (not b)) (sym (sym flown-same ∙ e)) tt);
           small = omega (arith, leb→le leg (4294967295 - x .path) t);
         }))
         (λ t. let f = fits-parts x stop leg t in le→leb leg (4294967295 - x .path) (omega (arith, f .small)))

@@ -24,7 +24,7 @@ use Rattle.stops.proofs.StopsWalk.{rows-walk}
 use Rattle.records.proofs.Mask.{mask-stops, rest-left}
 use Rattle.answer.specs.Checks.{cause₁, cause₂, cause₃, cause₄, cause₅, orLater, jobCause}
 use Rattle.answer.specs.declared.Job.{Job}
-use Rattle.inspection.specs.Code.{ofNumbers}
+use Rattle.inspection.specs.Code.{ofFour}
 use Rattle.node_answers.specs.Nodes.{flownStops, isRecordOf, isNode}
 use Rattle.node_answers.specs.Answers.{isInside, recordAt, found, noFigures, figuresBy, figures}
 use Rattle.node_answers.specs.declared.Found.{Found}
@@ -133,16 +133,16 @@ module _ (x : Record) (job : Job) (table : List ℕ) where
   figures-other none e = rw (none, e) refl
 
 -- figures lie with the size, the set and the order of a record alone
-figures-numbers :
+figures-words :
     (inside : Bool) (x : Record) (job : Job) (table : List ℕ)
-    → figures inside (ofNumbers (x .size) (x .set) (x .first) (x .second)) job table ≡ figures inside x job table
-unfolding figures figuresBy isNode isRecordOf flownStops ofNumbers
-figures-numbers false x job table = refl
-figures-numbers true x job table = go (isNode (job .n) x) (jobCause job table [] 0)
+    → figures inside (ofFour (x .size) (x .set) (x .first) (x .second)) job table ≡ figures inside x job table
+unfolding figures figuresBy isNode isRecordOf flownStops ofFour
+figures-words false x job table = refl
+figures-words true x job table = go (isNode (job .n) x) (jobCause job table [] 0)
   where
     go :
         (b : Bool) (k : ℕ)
-        → figuresBy b k (ofNumbers (x .size) (x .set) (x .first) (x .second)) job (dayOn (job .n) (rows (job .n) table))
+        → figuresBy b k (ofFour (x .size) (x .set) (x .first) (x .second)) job (dayOn (job .n) (rows (job .n) table))
         ≡ figuresBy b k x job (dayOn (job .n) (rows (job .n) table))
     go true zero = refl
     go true (suc k) = refl
@@ -150,7 +150,7 @@ figures-numbers true x job table = go (isNode (job .n) x) (jobCause job table []
 
 pub figures-found :
     (ys : List Record) (i : ℕ) (r : Found) → r ≡ found ys i → (job : Job) (table : List ℕ)
-    → figures (r .inside) (ofNumbers (r .node .size) (r .node .set) (r .node .first) (r .node .second)) job table
+    → figures (r .inside) (ofFour (r .node .size) (r .node .set) (r .node .first) (r .node .second)) job table
     ≡ figures (isInside ys i) (recordAt ys i) job table
 unfolding found
-figures-found ys i r e job table = rw e (figures-numbers (isInside ys i) (recordAt ys i) job table)
+figures-found ys i r e job table = rw e (figures-words (isInside ys i) (recordAt ys i) job table)

@@ -45,7 +45,7 @@ module _ {t : List (List ℕ)} {x : Record} {count : ℕ} where
         let e : length (take k (flownStops x)) ≡ k = length-take-le k (flownStops x) (omega (arith, a .up-to, a .all)) in
         omega (arith, a .spent-is 0, path-small t w 0 (take k (flownStops x)))
 
-    -- one leg more still fits a number of 32 bits
+    -- one leg more still fits a word
     pub along-fits : Cheap t → k < count → (s : ℕ) → spent + reckonOn t .further place s < 2 ^ 32
     along-fits w h s = omega (arith, along-small w, a .few, further-small t w place s)
 

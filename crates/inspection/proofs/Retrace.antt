@@ -1,5 +1,5 @@
 -- A node put together again from its order, stop by stop, as `check::is_record` does. What is built from the first k stops is the record of
--- the node that they are, but for its path cost and bound: so the numbers of a record are a node's just when every stop can be added
+-- the node that they are, but for its path cost and bound: so the words of a record are a node's just when every stop can be added
 -- and what is built has its set and its order.
 use mathlib.Core.Path.{_≡_, refl, ap, sym, _∙_, subst}
 use mathlib.Core.Bool.{Bool, true, false, not}
@@ -86,9 +86,9 @@ module _ {n : ℕ} {x w : Record} {k : ℕ} (r : Retraced n x w k) where
   set-same = ap (λ (v : Record). v .set) (r .same) ∙ built-set n (take k (flownStops x))
 
   -- whether the set that is built holds a stop is whether it is flown
-  held : (s : ℕ) → 1 ≤ s → s ≤ n → flown (stopsIn (w .set)) s ≡ flown z s
+  flown-same : (s : ℕ) → 1 ≤ s → s ≤ n → flown (stopsIn (w .set)) s ≡ flown z s
   unfolding setOf
-  held s h j =
+  flown-same s h j =
       ap (λ (m : ℕ). flown (stopsIn m) s) set-same ∙ ap (λ (l : List ℕ). flown l s) (stops-set n (r .few) z)
       ∙ same-tests (flown (setOf n z) s) (flown z s) (λ t. in-set n z s (flown-in (setOf n z) s t) .2)
       (λ t. in-flown (setOf n z) s (keep-in (flown z) (stops n) s (stops-in n s h j) t))
@@ -120,13 +120,13 @@ module _ {n : ℕ} {x w : Record} {k : ℕ} (r : Retraced n x w k) where
           no-node n x (λ q. append-apart z (stopOf x k ∷ drop (k + 1) y) (subst Distinct parts (q .node .once)) (stopOf x k) member in-head)
         where
           member : In (stopOf x k) z
-          member = flown-in z (stopOf x k) (subst T (h ∙ held (stopOf x k) (stop-range (x .first) (x .second) k .0) small) tt)
+          member = flown-in z (stopOf x k) (subst T (h ∙ flown-same (stopOf x k) (stop-range (x .first) (x .second) k .0) small) tt)
 
       module _ (new : false ≡ flown (stopsIn (w .set)) (stopOf x k)) where
         free-stop : In (stopOf x k) (left n z)
         free-stop =
             left-in n z (stopOf x k) (stop-range (x .first) (x .second) k .0) small
-            (subst (λ (b : Bool). T (not b)) (new ∙ held (stopOf x k) (stop-range (x .first) (x .second) k .0) small) tt)
+            (subst (λ (b : Bool). T (not b)) (new ∙ flown-same (stopOf x k) (stop-range (x .first) (x .second) k .0) small) tt)
 
         pub stop-fits : Wide w (stopOf x k) 0
         unfolding y z
@@ -152,22 +152,22 @@ module _ {n : ℕ} {x w : Record} {k : ℕ} (r : Retraced n x w k) where
     all-stops = take-all k (flownStops x) (omega (arith, stops-length x))
 
     -- what is built has the set and the order of the stops
-    numbers :
+    words-are :
         (w .set ≡ mask (setOf n (flownStops x))) × (w .first ≡ orderWord (take wordStops (flownStops x)))
         × (w .second ≡ orderWord (drop wordStops (flownStops x)))
     unfolding encode
-    numbers = rw (r .same, all-stops) (refl, refl, refl)
+    words-are = rw (r .same, all-stops) (refl, refl, refl)
 
     pub other-set : x .set ≢ w .set → false ≡ isNode n x
-    other-set h = no-node n x (λ q. h (q .set-is ∙ sym (numbers .0)))
+    other-set h = no-node n x (λ q. h (q .set-is ∙ sym (words-are .0)))
 
     pub other-first : x .first ≢ w .first → false ≡ isNode n x
-    other-first h = no-node n x (λ q. h (q .first-is ∙ sym (numbers .1)))
+    other-first h = no-node n x (λ q. h (q .first-is ∙ sym (words-are .1)))
 
     pub same-record : x .set ≡ w .set → x .first ≡ w .first → eqb (x .second) (w .second) ≡ isNode n x
     same-record s f =
         same-tests (eqb (x .second) (w .second)) (isNode n x) to
-        (λ t. let e : x .second ≡ w .second = node-record n x t .second-is ∙ sym (numbers .2) in rw e (eqb-refl (w .second)))
+        (λ t. let e : x .second ≡ w .second = node-record n x t .second-is ∙ sym (words-are .2) in rw e (eqb-refl (w .second)))
       where
         to : T (eqb (x .second) (w .second)) → T (isNode n x)
         to t =
@@ -177,7 +177,7 @@ module _ {n : ℕ} {x w : Record} {k : ℕ} (r : Retraced n x w k) where
               few = r .few;
               node = p;
               size-is = omega (arith, partial-size n (flownStops x) p, stops-length x, r .short, r .few);
-              set-is = s ∙ numbers .0;
-              first-is = f ∙ numbers .1;
-              second-is = eqb→eq (x .second) (w .second) t ∙ numbers .2;
+              set-is = s ∙ words-are .0;
+              first-is = f ∙ words-are .1;
+              second-is = eqb→eq (x .second) (w .second) t ∙ words-are .2;
             })

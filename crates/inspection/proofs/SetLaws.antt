@@ -1,4 +1,4 @@
--- A stop's bit in the number of a set: document 01, "The pool".
+-- A stop's bit in the word of a set: document 01, "The pool".
 use mathlib.Core.Path.{_≡_, refl, ap, sym, _∙_}
 use mathlib.Core.Bool.{Bool, true, false}
 use Prim.Native.Nat.{ℕ, zero, suc, _+_, _-_, _^_, _/_, _%_, _≤_, _<_}

@@ -1,4 +1,4 @@
-// Whether numbers are those of a node's record.
+// Whether words are those of a node's record.
 ghost use mathlib.Core.Path.{_≡_};
 ghost use Prim.Native.Nat.{_≤_};
 ghost use Rattle.sizes.specs.Sizes.{mostStops};
@@ -6,7 +6,7 @@ ghost use Rattle.orders.specs.Orders.{flown};
 ghost use Rattle.stops.specs.Code.{stopsIn};
 ghost use Rattle.node_answers.specs.Answers.{verdict};
 ghost use Rattle.node_answers.specs.Nodes.{isNode};
-ghost use Rattle.inspection.specs.Code.{ofNumbers};
+ghost use Rattle.inspection.specs.Code.{ofFour};
 use node_answers::Verdict;
 use records::order::stop_at;
 use sizes::MOST_STOPS;
@@ -20,9 +20,9 @@ pub fn holds(set: u32, s: u32) -> bool
     (set >> (s - 1)) % 2 == 1
 }
 
-// Whether numbers are those of a node's record, for n stops: the node is put together again, stop by stop.
+// Whether four words are those of a node's record, for n stops: the node is put together again, stop by stop.
 pub fn is_record(size: u32, set: u32, first: u32, second: u32, n: u32) -> bool
-    ensures { λ r. ⌜ r ≡ isNode n (ofNumbers size set first second) ⌝ }
+    ensures { λ r. ⌜ r ≡ isNode n (ofFour size set first second) ⌝ }
 {
     if n == 0 {
         return false;
@@ -57,7 +57,7 @@ pub fn is_record(size: u32, set: u32, first: u32, second: u32, n: u32) -> bool
 
 // The verdict on a record; none that is not inside is a node.
 pub fn verdict_of(inside: bool, size: u32, set: u32, first: u32, second: u32, n: u32) -> Verdict
-    ensures { λ r. ⌜ r ≡ verdict inside (ofNumbers size set first second) n ⌝ }
+    ensures { λ r. ⌜ r ≡ verdict inside (ofFour size set first second) n ⌝ }
 {
     if !inside {
         return Verdict {

@@ -9,7 +9,7 @@ ghost use Rattle.stops.specs.Code.{Cheap};
 ghost use Rattle.answer.specs.Checks.{jobCause};
 ghost use Rattle.node_answers.specs.Answers.{figures, noFigures};
 ghost use Rattle.node_answers.specs.Nodes.{isNode};
-ghost use Rattle.inspection.specs.Code.{ofNumbers, Flew};
+ghost use Rattle.inspection.specs.Code.{ofFour, Flew};
 use crate::check::is_record;
 use answer::Job;
 use checks::job_cause;
@@ -29,7 +29,7 @@ struct Walked {
 // Flies the stops of a record's order.
 fn along(t: &[[u32; PLACES]; PLACES], size: u32, first: u32, second: u32) -> Walked
     requires { ⌜ (size ≤ mostStops) × Cheap (now t) ⌝ }
-    ensures { λ r. ⌜ Flew (now (t .entry)) (ofNumbers size 0 first second) (r .path) (r .place) ⌝ }
+    ensures { λ r. ⌜ Flew (now (t .entry)) (ofFour size 0 first second) (r .path) (r .place) ⌝ }
 {
     let mut path = 0;
     let mut place = 0;
@@ -58,8 +58,8 @@ fn no_figures(inside: bool, number: u32) -> Figures
 
 // The figures of a node's record, against a table that every check lets pass.
 fn reckoned(size: u32, set: u32, first: u32, second: u32, job: Job, table: &[u32]) -> Figures
-    requires { ⌜ T (isNode (job .n) (ofNumbers size set first second)) × (jobCause job (now table) [] 0 ≡ 0) ⌝ }
-    ensures { λ r. ⌜ r ≡ figures true (ofNumbers size set first second) job (now (table .entry)) ⌝ }
+    requires { ⌜ T (isNode (job .n) (ofFour size set first second)) × (jobCause job (now table) [] 0 ≡ 0) ⌝ }
+    ensures { λ r. ⌜ r ≡ figures true (ofFour size set first second) job (now (table .entry)) ⌝ }
 {
     let t = rows(job.n as usize, table);
     let w = along(&t, size, first, second);
@@ -84,7 +84,7 @@ pub fn figures_of(
     job: Job,
     table: &[u32],
 ) -> Figures
-    ensures { λ r. ⌜ r ≡ figures inside (ofNumbers size set first second) job (now (table .entry)) ⌝ }
+    ensures { λ r. ⌜ r ≡ figures inside (ofFour size set first second) job (now (table .entry)) ⌝ }
 {
     if !inside {
         return no_figures(false, 0);

@@ -21,7 +21,8 @@ use Rattle.job_file.specs.Promise.{returned}
 use Rattle.job_file.specs.Code.{checked, Laid}
 use Rattle.job_file.specs.declared.reader.Reading.{Reading as Returned}
 use Rattle.checks.proofs.CauseLaws.{few-stops}
-use Rattle.job_format.proofs.ByteLaws.{length-words, take-padded}
+use Rattle.lists.proofs.Padded.{take-padded}
+use Rattle.job_format.proofs.ByteLaws.{length-words}
 use Rattle.job_format.proofs.JobLaws.{passed}
 use Rattle.job_format.proofs.LayoutLaws.{layout-of}
 use Rattle.job_format.proofs.ReadLaws.{length-last}

@@ -6,7 +6,7 @@ use mathlib.Core.Path.{_≡_, ap, sym, _∙_}
 use mathlib.Core.List.{List}
 use Prim.Native.Nat.{ℕ, zero, suc, _≤_}
 use native.Mathlib.Omega.{arith}
-use lib.ListN.{length, take, length-append}
+use lib.ListN.{length, take}
 use Rattle.sizes.specs.Sizes.{mostStops, tableNumbers, orderPlaces}
 use Rattle.lists.specs.Lists.{padded}
 use Rattle.job_format.specs.Bytes.{overwrite}
@@ -17,7 +17,8 @@ use Rattle.job_format.specs.Writer.{Writing, writeCause, writingBy, write}
 use Rattle.job_file.specs.Promise.{returned, contentsFrom}
 use Rattle.job_file.specs.Demands.{ReadsBack, Rewrites, NeverTwo, Left, Leaves}
 use Rattle.job_file.specs.declared.reader.Reading.{Reading as Returned}
-use Rattle.job_format.proofs.ByteLaws.{take-overwrite, take-padded}
+use Rattle.lists.proofs.Padded.{take-padded, padded-longer}
+use Rattle.job_format.proofs.ByteLaws.{take-overwrite}
 use Rattle.job_format.proofs.JobLaws.{Passed, passed}
 use Rattle.job_format.proofs.Accepted.{accepted-passes}
 use Rattle.job_format.proofs.WriteLaws.{Done, done, writes}
@@ -33,10 +34,6 @@ contents-returned number c square = λ i. record {
   table = (ap (λ (k : ℕ). take k (padded tableNumbers (c .table))) (sym square) ∙ take-padded tableNumbers (c .table)) i;
   start = take-padded orderPlaces (c .start) i;
 }
-
-padded-longer : (n : ℕ) (xs : List ℕ) → length xs ≤ length (padded n xs)
-unfolding padded
-padded-longer n xs = simp length-append (omega arith)
 
 pub record Accepted (file : List ℕ) (r : Returned) : Type 0 where
   pub none : read file .number ≡ 0

@@ -3,8 +3,8 @@
 --   checked       what the reader answers of contents that stand in their place
 --   Laid          the bytes of a file and of its trailer are long enough for the trailer's job
 --   trailerBy     a trailer by its parts
---   Small         a job whose numbers are bytes
---   Fits          contents whose numbers fit their bytes, and a buffer that their file fits
+--   Small         a job whose fields are bytes
+--   Fits          contents that fit the layout, and a buffer that their file fits
 use mathlib.Core.Path.{_≡_}
 use mathlib.Core.List.{List}
 use Prim.Native.Nat.{ℕ, _+_, _≤_, _<_}

@@ -1,5 +1,5 @@
-// Bytes read and written: words, which are numbers of 32 bits with the least byte first, and runs of bytes, as crate `job_format` says
-// (specs/Bytes). The functions are public for the crates above and not for hosts; what they require, those crates meet.
+// Bytes read and written: words, 32 bits with the least byte first, and runs of bytes, as crate `job_format` says
+// (specs/Bytes). The functions are this crate's own; what they require, its other functions meet.
 ghost use mathlib.Core.Path.{_≡_};
 ghost use Prim.Native.Nat.{_+_, _≤_, _<_};
 ghost use lib.ListN.{length};

@@ -4,7 +4,7 @@ ghost use Prim.Native.Nat.{_≤_};
 ghost use Rattle.sizes.specs.Sizes.{mostStops, tableNumbers};
 ghost use Rattle.job_format.specs.Contents.{area};
 
-// Bytes of a word, a number of 32 bits.
+// Bytes of a word.
 pub const WORD_BYTES: usize = 4;
 
 // Bytes of the trailer.

@@ -1,7 +1,7 @@
 -- Laws of bytes.
 --   overwrite-none, overwrite-next, overwrite-one, length-overwrite, take-overwrite    a buffer whose front is written, a few bytes at a time
 --   overwrite-behind    a part of a buffer, behind what is written, is lent and written in its turn
---   padded-overwrite, take-padded    an array of zeros whose front is written
+--   padded-overwrite    an array of zeros whose front is written
 --   take-next, words-next, table-next    the lists that the loops write, one element more
 --   each-append, length-words, length-each-word    these lists in parts, and their lengths
 --   four-bytes    the word at a place, byte by byte
@@ -68,10 +68,6 @@ drop-zeros (suc k) (suc n) = drop-zeros k n ∙ ap zeros (let e : n - k ≡ suc 
 pub padded-overwrite : (n : ℕ) (xs : List ℕ) → padded n xs ≡ overwrite xs (zeros n)
 unfolding padded overwrite
 padded-overwrite n xs = ap (λ (l : List ℕ). xs ++ l) (sym (drop-zeros (length xs) n))
-
-pub take-padded : (n : ℕ) (xs : List ℕ) → take (length xs) (padded n xs) ≡ xs
-unfolding padded
-take-padded n xs = take-append-seam xs (zeros (n - length xs))
 
 -- the lists that the loops write, one element more
 pub take-next : (xs : List ℕ) (k : ℕ) → k < length xs → take (k + 1) xs ≡ take k xs ++ (getD xs k 0 ∷ [])

@@ -50,7 +50,7 @@ trailerBytes t =
     word (t .tablePlace) ++ word (t .startPlace)
     ++ (t .job .n ∷ t .startLength ∷ t .job .selection ∷ t .job .rules ∷ t .job .bound ∷ [])
 
--- the table, the starting order a byte a stop, and the trailer
+-- a word for each number of the table, a byte for each stop of the starting order, and the trailer
 unfoldable pub bytesOf : Contents → List ℕ
 bytesOf c = each word (c .table) ++ c .start ++ trailerBytes (trailerOf c)
 

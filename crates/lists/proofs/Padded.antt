@@ -1,10 +1,10 @@
--- A list with zeros behind it, written one element further (`padded-one`).
+-- A list with zeros behind it: written one element further (`padded-one`), taken out again (`take-padded`), and its length (`padded-longer`).
 use mathlib.Core.Path.{_≡_, sym, _∙_}
 use mathlib.Core.List.{List, [], _∷_, _++_}
-use Prim.Native.Nat.{ℕ, suc, _-_, _<_}
+use Prim.Native.Nat.{ℕ, suc, _-_, _≤_, _<_}
 use native.Mathlib.Omega.{arith}
-use lib.ListN.{length, set, replicate, length-append}
-use lib.Seq.{set-at, append-snoc}
+use lib.ListN.{length, set, take, replicate, length-append}
+use lib.Seq.{set-at, append-snoc, take-append-seam}
 use Rattle.lists.specs.Lists.{padded}
 
 pub padded-one :
@@ -14,3 +14,11 @@ padded-one n xs zs k y e f h =
     let room : n - length xs ≡ suc (n - suc k) = omega arith in
     let less : n - length (xs ++ (y ∷ [])) ≡ n - suc k = omega (arith, length-append xs (y ∷ [])) in
     rw (f, room, less) (set-at xs 0 (replicate (n - suc k) 0) y k e ∙ sym (append-snoc xs y (replicate (n - suc k) 0)))
+
+pub take-padded : (n : ℕ) (xs : List ℕ) → take (length xs) (padded n xs) ≡ xs
+unfolding padded
+take-padded n xs = take-append-seam xs (replicate (n - length xs) 0)
+
+pub padded-longer : (n : ℕ) (xs : List ℕ) → length xs ≤ length (padded n xs)
+unfolding padded
+padded-longer n xs = simp length-append (omega arith)

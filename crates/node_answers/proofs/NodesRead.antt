@@ -1,6 +1,6 @@
 -- The records that the pool holds, read back: the record of a node passes `isNode`, and its stops are the node. With `NodeLaws`, whose
 -- `NodeRecord` is what every record that passes is, the records that pass are just those of nodes, whatever path cost and bound they hold.
---   stops-numbers                of numbers that are a node's
+--   stops-words                  of words that are a node's
 --   stops-record, record-passes  of such a record
 --   stops-encode, node-encode    of the record that the pool holds
 use mathlib.Core.Path.{_≡_, refl, sym, subst}
@@ -22,16 +22,16 @@ use Rattle.node_answers.specs.Nodes.{flownStops, isNode}
 use Rattle.node_answers.proofs.NodeLaws.{NodeRecord, record-node}
 
 module _ (n : ℕ) (few : n ≤ mostStops) (x : Record) (y : Node) (p : Partial n y) where
-  pub stops-numbers :
+  pub stops-words :
       x .size ≡ size n y → x .first ≡ orderWord (take wordStops y) → x .second ≡ orderWord (drop wordStops y) → flownStops x ≡ y
   unfolding flownStops
-  stops-numbers e f g =
+  stops-words e f g =
       let all : min (x .size) orderPlaces ≡ length y = omega (arith, e, partial-size n y p, size-left n y) in
       rw (all, f, g) (stops-read y (partial-digits n few y p))
 
 module _ {n : ℕ} {x : Record} {y : Node} (r : NodeRecord n x y) where
   pub stops-record : flownStops x ≡ y
-  stops-record = stops-numbers n (r .few) x y (r .node) (r .size-is) (r .first-is) (r .second-is)
+  stops-record = stops-words n (r .few) x y (r .node) (r .size-is) (r .first-is) (r .second-is)
 
   pub record-passes : T (isNode n x)
   record-passes = record-node n x (subst (NodeRecord n x) (sym stops-record) r)
@@ -39,7 +39,7 @@ module _ {n : ℕ} {x : Record} {y : Node} (r : NodeRecord n x y) where
 module _ (n : ℕ) (few : n ≤ mostStops) (D : Day) (k : ℕ) (x : Node) (p : Partial n x) where
   pub stops-encode : flownStops (encode n D k x) ≡ x
   unfolding encode
-  stops-encode = stops-numbers n few (encode n D k x) x p refl refl refl
+  stops-encode = stops-words n few (encode n D k x) x p refl refl refl
 
   pub node-encode : 1 ≤ n → T (isNode n (encode n D k x))
   unfolding encode

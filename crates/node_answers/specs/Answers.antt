@@ -68,7 +68,7 @@ figures true x job table = figuresBy (isNode (job .n) x) (jobCause job table [] 
 figures false x job table = noFigures false 0
 
 -- A stop and its leg fit on a record: it is a node's, for as many stops as a day may have; the node leaves the stop; and its path cost
--- with the leg is still a number of 32 bits.
+-- with the leg still fits a word.
 unfoldable pub fits : Record → ℕ → ℕ → Bool
 fits x stop leg = isNode mostStops x && flown (left mostStops (flownStops x)) stop && ltb (x .path + leg) (2 ^ 32)
 

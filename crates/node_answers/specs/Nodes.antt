@@ -13,7 +13,7 @@ use Rattle.orders.specs.Orders.{Node, stops, flown, setOf, size, mask}
 use Rattle.stops.specs.declared.node_record.Record.{Record}
 use Rattle.records.specs.Records.{orderWord, stopAt}
 
--- as many as the size says, of those that the two numbers have bits for
+-- as many as the size says, of those that the two words have bits for
 unfoldable pub flownStops : Record → Node
 flownStops x = map (stopAt (x .first) (x .second)) (from 0 (min (x .size) orderPlaces))
 
@@ -22,7 +22,7 @@ abbrev pub distinct : Node → Bool
 distinct [] = true
 distinct (s ∷ x) = not (flown x s) && distinct x
 
--- The stops y that the order of x gives are distinct stops of 1 to n, the size and the set are theirs, and so are the two numbers for
+-- The stops y that the order of x gives are distinct stops of 1 to n, the size and the set are theirs, and so are the two words for
 -- the order, whose unused bits are 0.
 unfoldable pub isRecordOf : ℕ → Record → Node → Bool
 isRecordOf n x y =

@@ -1,4 +1,4 @@
--- The call of `extended_of` in the walk of `extend`: it is passed the numbers of a record and what is added. All that is known of it is that
+-- The call of `extended_of` in the walk of `extend`: it is passed the words of a record and what is added. All that is known of it is that
 -- it meets its contract.
 --   Callee            that contract
 --   extends-record    the call as a step: the answer is `extension`, spelled out

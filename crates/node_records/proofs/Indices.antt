@@ -39,7 +39,7 @@ module _ (ys : List Record) (i : ℕ) where
   unfolding found recordAt
   found-outside h = rw (is-outside h, getD-outside ys i (nltb→le i (length ys) h)) refl
 
-  -- the record extended, as the numbers of record i give it, and the run with it in its place
+  -- the record extended, as the words of record i give it, and the run with it in its place
   module _ (stop leg : ℕ) where
     pub extended-inside :
         (w : Extended) → T (ltb i (length ys)) →

@@ -2,7 +2,7 @@
 -- beside the lifetime's token, which comes back, and one is kept. All that is known of `read` is that it meets its contract.
 --   ReadAt           that contract, and what is passed
 --   reads-record     the call as a step: the answer is `found`, spelled out
---   numbers          the numbers of what is found fit 32 bits
+--   fits-words       the words of what is found fit 32 bits
 --
 use mathlib.Core.Path.{_≡_, subst}
 use Prim.Native.Nat.{ℕ, _<_, _^_}
@@ -46,15 +46,15 @@ use Rattle.node_records.proofs.read.Symbol.{name as #read}
 abbrev pub mach : Found → Val
 mach r = LL.val F.the-type F′.the-laws r
 
--- the numbers of what is found fit 32 bits, and it has its type
+-- the words of what is found fit 32 bits, and it has its type
 pub record Numbers (x : Record) : Type 0 where
   pub size : x .size < 2 ^ 32
   pub set : x .set < 2 ^ 32
   pub first : x .first < 2 ^ 32
   pub second : x .second < 2 ^ 32
 
-pub numbers : (r : Found) → Is F.the-row r (mach r ∷ []) → Numbers (r .node)
-numbers r is =
+pub fits-words : (r : Found) → Is F.the-row r (mach r ∷ []) → Numbers (r .node)
+fits-words r is =
     let w = LL.owed T.the-type T′.the-laws (r .node) _ (LL.owed F.the-type F′.the-laws r _ is .1 .0) in
     record { size = w .0 .1; set = w .1 .0 .1; first = w .1 .1 .1 .1 .0 .1; second = w .1 .1 .1 .1 .1 .0 .1 }
 

@@ -15,9 +15,9 @@ unfolding node
 its-set = refl
 
 -- bits 0 and 2
-its-number : mask (setOf 3 node) ≡ 5
+its-mask : mask (setOf 3 node) ≡ 5
 unfolding node
-its-number = refl
+its-mask = refl
 
 its-last : last node ≡ 1
 unfolding node

@@ -25,7 +25,7 @@ setOf n x = keep (flown x) (stops n)
 unfoldable pub left : ℕ → Node → List ℕ
 left n x = keep (λ s. not (flown x s)) (stops n)
 
--- a set of stops as a number: stop s adds 2 to the power s-1
+-- a set of stops as a word: bit s-1 is stop s's
 unfoldable pub mask : List ℕ → ℕ
 mask stops = sum (λ s. 2 ^ (s - 1)) stops
 
@@ -72,7 +72,7 @@ count s x = length (keep (eqb s) x)
 unfoldable pub isOrder : ℕ → Node → Bool
 isOrder n x = all (λ s. eqb (count s x) 1) (stops n) && all (flown (stops n)) x
 
--- The n! orders: e extended n times in every way. (`proofs/` shows that these are the orders, each once, and that they number n!.)
+-- The n! orders: e extended n times in every way. (`proofs/` shows that these are the orders, each once, and that there are n!.)
 unfoldable pub level : ℕ → ℕ → List Node
 level n zero = [] ∷ []
 level n (suc k) = each (children n) (level n k)

@@ -1,7 +1,7 @@
 -- Laws for the passes over active records, as `stays` and the loops of `staying`, `unbeaten` and `next_gone` need them. `isStaying`
 -- is false above the limit (`stays-above`), and true up to it where none of the kids dominates (`stays-free`); where there is no suspect all stay
 -- (`stay-on`). What holds at a partial index holds at the next: none of the first k passes a test (`free-more`), so many records pass
--- (`count-passes`, `count-fails`). Assumes nothing.
+-- (`count-passes`, `count-fails`).
 use mathlib.Core.Path.{_≡_, refl, ap, _∙_}
 use mathlib.Core.Bool.{Bool, true, false, _||_}
 use mathlib.Core.List.{List, [], _∷_, append-nil}

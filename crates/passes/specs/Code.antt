@@ -1,4 +1,4 @@
--- The tests of rules 1 and 8 on records. Assumes nothing.
+-- The tests of rules 1 and 8 on records.
 use mathlib.Core.Bool.{Bool, not, _&&_, _||_}
 use mathlib.Core.List.{List}
 use Prim.Native.Nat.{ℕ}

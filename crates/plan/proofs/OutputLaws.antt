@@ -1,26 +1,22 @@
 -- Laws behind what is printed for an input.
 --   text-fits                     a text is within its array
---   Accepted, accepted            what holds of what the reader returns with number 0
 --   file-refused, job-printed     a file that the reader refuses, and one whose job is planned
 --   long-output, short-output     input longer than the longest job, and the others
 use mathlib.Core.Path.{_≡_, refl, ap, sym, _∙_}
 use mathlib.Core.List.{List}
 use mathlib.Core.Logic.{_≢_}
 use Prim.Native.Nat.{ℕ, zero, suc, _≤_, _<_}
-use native.Mathlib.Omega.{arith}
-use lib.ListN.{length, take, replicate, length-append}
+use lib.ListN.{length, take, replicate}
 use borrow.Author.Tests.{lt-ltb, le-ltb}
-use Rattle.lists.specs.Lists.{padded}
-use Rattle.sizes.specs.Sizes.{mostStops, tableNumbers, orderPlaces, longest}
+use Rattle.lists.proofs.Padded.{padded-longer}
+use Rattle.sizes.specs.Sizes.{longest}
 use Rattle.answer.specs.Call.{Answer, callOf}
 use Rattle.answer.specs.declared.Report.{Report}
 use Rattle.job_format.specs.Contents.{Contents, contentsOf, area}
 use Rattle.job_format.specs.Reader.{read}
 use Rattle.job_file.specs.Promise.{returned, contentsFrom}
 use Rattle.job_file.specs.declared.reader.Reading.{Reading as Returned}
-use Rattle.job_format.proofs.JobLaws.{Passed, passed}
-use Rattle.job_format.proofs.Accepted.{accepted-passes}
-use Rattle.job_file.proofs.Returns.{contents-returned}
+use Rattle.job_file.proofs.Returns.{Accepted}
 use Rattle.planner.specs.Promise.{Promised}
 use Rattle.report_format.specs.Printed.{refusedLine, printed}
 use Rattle.printing.specs.Promise.{textPlaces, textOf}
@@ -28,34 +24,9 @@ use Rattle.printing.specs.declared.Text.{Text}
 use Rattle.plan.specs.Output.{poolLength, callBy, answered, output}
 use Rattle.plan.specs.Cases
 
-padded-longer : (n : ℕ) (xs : List ℕ) → length xs ≤ length (padded n xs)
-unfolding padded
-padded-longer n xs = simp length-append (omega arith)
-
 pub text-fits : (t : Text) (xs : List ℕ) → t ≡ textOf xs → t .length ≤ length (t .bytes)
 unfolding textOf
 text-fits t xs e = rw e (padded-longer textPlaces xs)
-
-pub record Accepted (file : List ℕ) (r : Returned) : Type 0 where
-  pub none : read file .number ≡ 0
-  pub few : r .job .n ≤ mostStops
-  pub table : area (r .job .n) ≤ length (r .table)
-  pub start : r .stops ≤ length (r .start)
-  pub same : contentsFrom r ≡ read file .contents
-
-pub accepted : (file : List ℕ) (r : Returned) → r ≡ returned (read file) → r .number ≡ 0 → Accepted file r
-unfolding returned
-accepted file r e number =
-    let none : read file .number ≡ 0 = sym (ap (λ (x : Returned). x .number) e) ∙ number in
-    let c : Contents = read file .contents in
-    let p : Passed c = passed c (accepted-passes file none) in
-    rw e (record {
-      none = none;
-      few = p .few;
-      table = omega (arith, p .square, padded-longer tableNumbers (c .table));
-      start = padded-longer orderPlaces (c .start);
-      same = contents-returned (read file .number) c (p .square);
-    })
 
 refused-by : (k : ℕ) (c : Contents) → k ≢ 0 → refusedLine k ≡ answered k c
 unfolding answered

@@ -36,7 +36,7 @@ use Rattle.answer.proofs.Ending.{Finished}
 use Rattle.answer.proofs.Demand3.{Solved, solved}
 use Rattle.children.specs.Code.{Table, settingOf, encodeOf, IsBest}
 use Rattle.children.specs.declared.setting.Setting.{Setting}
-use Rattle.children.proofs.SettingLaws.{call-problem, call-choices, call-words, order-numbers}
+use Rattle.children.proofs.SettingLaws.{call-problem, call-choices, call-words, order-words}
 use Rattle.step.specs.Code.{farOf, Shown}
 use Rattle.step.specs.declared.Run.{Run}
 use Rattle.step.proofs.ExpandLaws.{same-records}
@@ -89,24 +89,24 @@ module _ {c : Call} {t : Table} {w : List ℕ} {r : Run} (here : Stands c t w r)
   abbrev shown : Shown (settingOf (c .job)) w r (recordsOf (settingOf (c .job)) t s)
   shown = here .running .shows
 
-  count-same : length (records w) ≡ recordsIn (c .pool)
+  capacity-same : length (records w) ≡ recordsIn (c .pool)
   unfolding recordsIn
-  count-same = length-records w ∙ ap (λ (m : ℕ). m / recordWords) (here .long)
+  capacity-same = length-records w ∙ ap (λ (m : ℕ). m / recordWords) (here .long)
 
   pub settle-ready :
       (w₁ : List ℕ) → length w₁ ≡ length w
       → (recordsIn (c .pool) ≡ length (records w₁)) × (r .active + r .far ≤ recordsIn (c .pool))
-  settle-ready w₁ kept = omega (arith, count-same, same-records w w₁ kept, shown .fits)
+  settle-ready w₁ kept = omega (arith, capacity-same, same-records w w₁ kept, shown .fits)
 
   state-of : StateOf c s
   state-of =
-      rw (← count-same, ← call-problem c (here .table), ← call-choices c (here .table)) (here .running .steps)
+      rw (← capacity-same, ← call-problem c (here .table), ← call-choices c (here .table)) (here .running .steps)
 
   -- what comes next, in words of the call
   next-same : nextOf d t w s ≡ next (problemOf c) (choicesOf c) (recordsIn (c .pool)) s
   next-same =
       ap₂ (λ (P : Problem Node) (C : Choices Node). next P C (length (records w)) s) (call-problem c (here .table)) (call-choices c (here .table))
-      ∙ ap (λ (m : ℕ). next (problemOf c) (choicesOf c) m s) count-same
+      ∙ ap (λ (m : ℕ). next (problemOf c) (choicesOf c) m s) capacity-same
 
   settled-words : (w₁ w₂ : List ℕ) → w₁ ≡ w → Settled (recordsIn (c .pool)) w₁ r w₂ → w₂ ≡ wordsOf c s
   unfolding held recordsOf
@@ -119,7 +119,7 @@ module _ {c : Call} {t : Table} {w : List ℕ} {r : Run} (here : Stands c t w r)
       free =
           omega (
             arith,
-            count-same,
+            capacity-same,
             same-records w w₂ (settled .kept ∙ ap length same),
             held-count f (s .active) (s .branched) (on 4 (c .job .rules)),
             shown .active-count,
@@ -130,7 +130,7 @@ module _ {c : Call} {t : Table} {w : List ℕ} {r : Run} (here : Stands c t w r)
           records w₂ ≡ map f (held (c .job .rules) s) ++ replicate (length (records w₂) - length (held (c .job .rules) s)) emptyRecord
       layout =
           settled .layout
-          ∙ rw (same, free, ← count-same, shown .active, shown .far)
+          ∙ rw (same, free, ← capacity-same, shown .active, shown .far)
           (held-records f (s .active) (s .branched) (on 4 (c .job .rules))
           (replicate (length (records w₂) - length (held (c .job .rules) s)) emptyRecord))
 
@@ -164,18 +164,18 @@ module _ {c : Call} {t : Table} {w : List ℕ} {r : Run} (here : Stands c t w r)
     abbrev x : Node
     x = order-known .x
 
-    -- the numbers that stand for U's order are its cost and its words
-    numbers-known :
+    -- what stands for U and its order are its cost and its words
+    best-known :
         (r .best .upper ≡ problemOf c .cost x) × (r .best .first ≡ orderWord (take wordStops x)) × (r .best .second ≡ orderWord (drop wordStops x))
     unfolding recordsOf
-    numbers-known =
+    best-known =
         let best : IsBest (r .best) (some (f x)) = rw (order-known .best) at (shown .best) in
-        let (cost, one, two) = order-numbers (here .running .rows) x (order-known .order) in
+        let (cost, one, two) = order-words (here .running .rows) x (order-known .order) in
         (best .0 ∙ cost ∙ ap (λ (P : Problem Node). P .cost x) (call-problem c (here .table)), best .1 ∙ one, best .2 ∙ two)
 
     known-reported : reportWith 0 (r .best .upper) x s ≡ reportWith 0 (upper (problemOf c) (s .best)) (stopsOf (s .best)) s
     known-reported =
-        ap (λ (u : ℕ). reportWith 0 u x s) (numbers-known .0)
+        ap (λ (u : ℕ). reportWith 0 u x s) (best-known .0)
         ∙ ap (λ (b : Option Node). reportWith 0 (upper (problemOf c) b) (stopsOf b) s) (sym (order-known .best))
 
   pub finish-answers :
@@ -189,7 +189,7 @@ module _ {c : Call} {t : Table} {w : List ℕ} {r : Run} (here : Stands c t w r)
       ∙ counts-reported 0 (r .best .upper) places (x end)
       (stops
       ∙ ap (padded orderPlaces)
-      (order-stops (c .job .n) (passes c (here .passed) .few) (x end) (order-known end .order) _ _ (numbers-known end .1) (numbers-known end .2)))
+      (order-stops (c .job .n) (passes c (here .passed) .few) (x end) (order-known end .order) _ _ (best-known end .1) (best-known end .2)))
       ∙ known-reported end)
       (settled-words w₁ w₂ (turned .1) settled)
       ∙ ap (ending c) (sym (ran end))

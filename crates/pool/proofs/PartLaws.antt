@@ -1,6 +1,6 @@
 -- Laws for what is written into a part of the pool, as the loops of `write` and `move_up` need them: the first k records are written
 -- (`write-more`), words move up by six (`up-next`, `up-length`, `up-records`). And what a part of the pool's words that is lent on is as
--- records (`lent-records`, `lent-back`, `lent-out`). Assumes nothing.
+-- records (`lent-records`, `lent-back`, `lent-out`).
 use mathlib.Core.Path.{_≡_, ap, sym, _∙_}
 use mathlib.Core.List.{List, _++_, append-nil}
 use Prim.Native.Nat.{ℕ, _+_, _*_, _-_, _≤_, _<_}

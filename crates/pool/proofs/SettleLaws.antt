@@ -1,6 +1,6 @@
 -- Laws of lists that settling rests on: what one turn of `turn` and of `clear` does to the list that is still to be reached, where
 -- their loops end, and how the passes of `settle` join. Each loop's invariant is that the list to be reached, made from the list at
--- hand, is the one made from the list at entry. Assumes nothing.
+-- hand, is the one made from the list at entry.
 use mathlib.Core.Path.{_≡_, refl, sym, ap, _∙_}
 use mathlib.Core.List.{List, [], _∷_, _++_, reverse, reverse-cons, reverse-append, append-assoc, append-nil}
 use Prim.Native.Nat.{ℕ, suc, _+_, _-_, _≤_, _<_}

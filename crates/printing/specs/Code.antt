@@ -1,9 +1,9 @@
 -- What the functions of this crate compute between one another. These definitions are the code's own: a reader of the promises needs none of
 -- them.
---   Put        some bytes written into a buffer from a place on, the others as they were, and the place behind them
---   mostDigits how many digits a number of 64 bits has at most
---   decimalRoom how many bytes one takes at most, printed: a space and its digits
---   lineRoom   .. and a line of numbers: its name, the numbers and the line's end
+--   Put                        some bytes written into a buffer from a place on, the others as they were, and the place behind them
+--   mostDigits                 how many digits a value of 64 bits has at most
+--   decimalRoom                how many bytes one takes at most, printed: a space and its digits
+--   lineRoom                   .. and a line of some: its name, the values and the line's end
 --   answerLines, countLines    the first two of the seven lines, and the other five
 --   answerRoom, countsRoom     how many bytes these take at most
 use mathlib.Core.Path.{_≡_}

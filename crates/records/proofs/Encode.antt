@@ -1,10 +1,10 @@
 -- The record of a node holds what document 01 says of it: what is computed on records (stops/specs/Code) is what the definitions on
 -- orders give, for partial orders of the stops of a day.
---   record-of-encode    the record's numbers are the six words of document 01
+--   record-of-encode    the record's fields are the six words of document 01
 --   encode-set-small    its set has a bit for no more stops than a day has
 --   encode-last         the last stop
 --   encode-extend       one more stop and what it adds to the path cost, but for the bound
---   encode-wide         the numbers have room for one more stop
+--   encode-wide         the words have room for one more stop
 use mathlib.Core.Path.{_≡_, refl, sym, _∙_}
 use mathlib.Core.Bool.{cond}
 use mathlib.Core.List.{[], _∷_}

@@ -37,7 +37,7 @@ alikeTests w x = eqb (w .size) (x .size) && eqb (w .set) (x .set) && leb (w .pat
 wordTests : (w x : Record) → Bool
 wordTests w x = eqb (w .first) (x .first) && eqb (w .second) (x .second)
 
--- Both dominances ask for one set, one place and no more path cost (`Alike`), and that the nodes differ: the sets' numbers are equal just
+-- Both dominances ask for one set, one place and no more path cost (`Alike`), and that the nodes differ: the sets' words are equal just
 -- when the sets are, the places are the last stops, and the order words of two nodes of one size are equal just when the nodes are.
 module _
     {n most : ℕ} {D : Day} {R : Reckoning} (walk : Walk n most D R) (ends : (x : Node) → R .place x ≡ last x) (few : n ≤ mostStops) (k : ℕ)

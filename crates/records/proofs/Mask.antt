@@ -1,8 +1,8 @@
--- The sets of a node as numbers (`mask`: stop s adds 2 to the power s-1): the stops that it flies and those that it leaves.
---   mask-stops, set-small      together the two numbers are 2 to the power n, less 1
+-- The sets of a node as words (`mask`: bit s-1 is stop s's): the stops that it flies and those that it leaves.
+--   mask-stops, set-small      together the two words are 2 to the power n, less 1
 --   stops-set, stops-left      the stops can be read back
---   rest-small                 what a number leaves of n stops are stops of a day
---   rest-left                  where the number is that of a node's set, these are the stops that the node leaves
+--   rest-small                 what a word leaves of n stops are stops of a day
+--   rest-left                  where the word is that of a node's set, these are the stops that the node leaves
 --   ones-set                   and those flown counted
 --   mask-extend, stops-child   what one more stop does to both
 use mathlib.Core.Path.{_≡_, ap, _∙_}

@@ -1,4 +1,4 @@
--- The stops of an order as its two numbers give them, read place by place into the places of an order with zeros behind.
+-- The stops of an order as its two words give them, read place by place into the places of an order with zeros behind.
 --   stops-more     one place more is read
 --   stops-read     the stops that a node's words give are the node
 --   order-stops    .. and of an order of n stops, those of its first n places

@@ -93,7 +93,7 @@ module _ (x : Node) (d : Digits x) where
       go (inl k) = rw (le-ltb i wordStops k) (second-digit i h k)
       go (inr k) = rw (lt-ltb i wordStops k) (first-digit i h k)
 
--- whatever the two numbers are
+-- whatever the two words are
 pub stop-range : (first second k : ℕ) → (1 ≤ stopAt first second k) × (stopAt first second k ≤ stopBase)
 unfolding stopAt
 stop-range first second k = go (ltb k wordStops)

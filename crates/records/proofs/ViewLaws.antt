@@ -1,5 +1,5 @@
 -- Laws of the view of words as records: how many there are, which words make the one at i (`recordAt`), what six stores, a part dropped
--- and parts joined do to it, that `words` is its other way, and that 32-bit words make records of 32-bit numbers (`Small`). Most go by
+-- and parts joined do to it, that `words` is its other way, and that 32-bit words make records of 32-bit words (`Small`). Most go by
 -- `by-sixes`, induction on words six at a time.
 use mathlib.Core.Path.{_≡_, refl, ap, sym, _∙_}
 use mathlib.Core.List.{List, [], _∷_, _++_, append-assoc, List·Memᴰ·cases-cons, List·Memᴰ·not-nil}

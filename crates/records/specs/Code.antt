@@ -33,7 +33,7 @@ six x = x .size ∷ x .set ∷ x .path ∷ x .bound ∷ x .first ∷ x .second �
 unfoldable pub words : List Record → List ℕ
 words xs = each six xs
 
--- the record of a node: `Records.record-of`, as six named numbers
+-- the record of a node: `Records.record-of`, as six named words
 unfoldable pub encode : ℕ → Day → ℕ → Node → Record
 encode n D bound x = record {
   size = size n x;

@@ -1,4 +1,4 @@
-// Node records: a record's six numbers and the pool's words for a state are document 01's (specs/Records); words are seen as a list of
+// Node records: a record's six words and the pool's words for a state are document 01's (specs/Records); words are seen as a list of
 // records (specs/Code), and one is read and written here; `order` reads the stops of an order. The functions are public for the crates above
 // and not for hosts; what they require, those crates meet.
 ghost use mathlib.Core.Path.{_≡_};

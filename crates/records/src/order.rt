@@ -1,4 +1,4 @@
-// The order of a node in its two numbers: a digit for each stop, in the second number once the first is full.
+// The order of a node in its two words: a digit for each stop, in the second word once the first is full.
 ghost use mathlib.Core.Path.{_≡_};
 ghost use mathlib.Core.List.{map};
 ghost use Prim.Native.Nat.{_≤_, _<_, min};

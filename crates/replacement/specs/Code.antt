@@ -1,6 +1,6 @@
 -- What parts 6 and 7 of a step do to the pool's records. These definitions are the code's own: a reader of the promise needs none of them.
 --   stayingOf    what rules 1 and 8 leave of the active records
---   Changing     what the functions ask of the numbers that they go by
+--   Changing     what the functions ask of the spot and the change that they go by
 --   Replaced     what the pool's records are afterwards
 --   farWith      the branched node at the far end
 use mathlib.Core.Path.{_≡_}

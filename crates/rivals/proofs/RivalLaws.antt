@@ -1,7 +1,7 @@
 -- Records that can dominate a child. Of records that are all near a set, each is dominated only by records that are near it (`apart`), so it
 -- is free of some records if it is free of those of them that are near (`free-near`). Gathering these goes from one near record to the
 -- next (`gathered-none`, `gathered-run`, `gathered-passes`), and passes over children by what was gathered of one slice after another are
--- one pass by the whole slice (`sifted-near`). Assumes nothing.
+-- one pass by the whole slice (`sifted-near`).
 use mathlib.Core.Path.{_≡_, refl, ap, subst, _∙_}
 use mathlib.Core.Bool.{Bool, true, false, not, _&&_, _||_, and-false}
 use mathlib.Core.List.{List, [], _++_, append-nil}

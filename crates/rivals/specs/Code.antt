@@ -1,4 +1,4 @@
--- Which records dominate a child, and which can. Assumes nothing.
+-- Which records dominate a child, and which can.
 use mathlib.Core.Path.{_≡_}
 use mathlib.Core.Bool.{Bool, not, _&&_}
 use mathlib.Core.List.{List}

@@ -15,7 +15,7 @@ use records::store;
 use sizes::RECORD_WORDS;
 use stops::node_record::Record;
 
-// The least number that a word does not hold, and the mask of a word's bits.
+// The least value that a word does not hold, and the mask of a word's bits.
 const ABOVE_WORD: u64 = 4_294_967_296;
 
 const WORD_MASK: u64 = 4_294_967_295;
@@ -70,7 +70,7 @@ fn undominated(kids: &mut [u32], m: usize, w: &[u32], from: usize, to: usize, li
     r
 }
 
-// Whether a record has some size and its set holds every stop of base. Size and set are tested as one number, since they stand side by
+// Whether a record has some size and its set holds every stop of base. Size and set are tested as one value, since they stand side by
 // side and which of the two fails follows no pattern.
 pub fn near(x: Record, size: u32, base: u32) -> bool
     ensures { λ r. ⌜ r ≡ near size base x ⌝ }

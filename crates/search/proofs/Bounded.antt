@@ -26,7 +26,7 @@ pub record Bounded {N : Type 0} (limit : ℕ) (s : State N) : Type 0 where
   pub most : s .most ≤ limit
   pub active : length (s .active) ≤ limit
 
-module _ {N : Type 0} (P : Problem N) (C : Choices N) (records : ℕ) {weight : N → ℕ} (weighs : Weighs P weight) where
+module _ {N : Type 0} (P : Problem N) (C : Choices N) (capacity : ℕ) {weight : N → ℕ} (weighs : Weighs P weight) where
   -- how many nodes can come of x yet
   abbrev coming : N → ℕ
   coming x = weight x - 1
@@ -60,23 +60,23 @@ module _ {N : Type 0} (P : Problem N) (C : Choices N) (records : ℕ) {weight : 
   move-most s b rest agree h = omega arith
 
   module _ (best : Option N) where
-    reached-foreseen : {s : State N} → Reached (tree P) (planOf P C) (cutOf C) records (start P best) s → Foreseen s
+    reached-foreseen : {s : State N} → Reached (tree P) (planOf P C) (cutOf C) capacity (start P best) s → Foreseen s
     unfolding start
     reached-foreseen r =
-        reached-keeps (tree P) (planOf P C) (cutOf C) records Foreseen
+        reached-keeps (tree P) (planOf P C) (cutOf C) capacity Foreseen
         (λ s b rest e goes h. move-foreseen s b rest e h) r (omega (arith, weighs (P .root)))
 
     -- at no time were more nodes active than are generated
-    reached-most : {s : State N} → Reached (tree P) (planOf P C) (cutOf C) records (start P best) s → s .most ≤ s .generated
+    reached-most : {s : State N} → Reached (tree P) (planOf P C) (cutOf C) capacity (start P best) s → s .most ≤ s .generated
     unfolding start
     reached-most here = omega arith
     reached-most (then {s′} {s″} r e) =
-        let m : Moved (tree P) (planOf P C) (cutOf C) records s′ s″ = onward-moved (tree P) (planOf P C) (cutOf C) records s′ e in
-        let a : Agree s″ = counts-agree (tree P) (planOf P C) (cutOf C) (adds P) records best (then r e) in
+        let m : Moved (tree P) (planOf P C) (cutOf C) capacity s′ s″ = onward-moved (tree P) (planOf P C) (cutOf C) capacity s′ e in
+        let a : Agree s″ = counts-agree (tree P) (planOf P C) (cutOf C) (adds P) capacity best (then r e) in
         rw (m .moves) (move-most s′ (m .b) (m .rest) (subst Agree (m .moves) a) (reached-most r))
 
-    pub counts-bounded : C .selection ≤ 3 → {s : State N} → Steps P C records (start P best) s → Bounded (weight (P .root)) s
+    pub counts-bounded : C .selection ≤ 3 → {s : State N} → Steps P C capacity (start P best) s → Bounded (weight (P .root)) s
     counts-bounded known {s} steps =
-        let r : Reached (tree P) (planOf P C) (cutOf C) records (start P best) s = steps-reached P C records known steps in
-        let a : Agree s = counts-agree (tree P) (planOf P C) (cutOf C) (adds P) records best r in
+        let r : Reached (tree P) (planOf P C) (cutOf C) capacity (start P best) s = steps-reached P C capacity known steps in
+        let a : Agree s = counts-agree (tree P) (planOf P C) (cutOf C) (adds P) capacity best r in
         omega (arith, reached-foreseen r, reached-most r)

@@ -27,7 +27,7 @@ module _ {N : Type 0} (P : Problem N) where
     pub covers : Covers by x
 
   pub record Covered (v : ℕ) (s : State N) : Type 0 where
-    pub top : v ≤ upper P (s .best) → Good P v (P .root) → Cover s (P .root)
+    pub root-covered : v ≤ upper P (s .best) → Good P v (P .root) → Cover s (P .root)
     pub child : v ≤ upper P (s .best) → (z x : N) → In z (s .branched) → In x (P .children z) → Good P v x → Cover s x
 
   pub record Sound (s : State N) : Type 0 where

@@ -112,7 +112,7 @@ module _
     pub step-keeps-cover : (v : ℕ) → Covered (t .problem) v s → Covered (t .problem) v (move t p c s b rest)
     unfolding move
     step-keeps-cover v h = record {
-      top = λ within g. cover-stays v within (t .problem .root) (h .top (earlier within) g) g;
+      root-covered = λ within g. cover-stays v within (t .problem .root) (h .root-covered (earlier within) g) g;
       child = λ within z x m i g. go within x g z i (next-branched t p c s b rest z m);
     }
       where

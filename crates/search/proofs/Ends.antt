@@ -53,7 +53,7 @@ module _ {N : Type 0} (t : Tree N) (p : Plan N) (c : Cut N) (weight : N → ℕ)
             let k : sum weight (s′ .active) < sum weight (s .active) = onward-lighter (onward-moved t p c pool s o) in
             again s′ (omega arith) q
 
-module _ {N : Type 0} (P : Problem N) (C : Choices N) (records : ℕ) where
+module _ {N : Type 0} (P : Problem N) (C : Choices N) (capacity : ℕ) where
   -- a selection that document 01 does not know ends the run at once
   unknown-selects : (k : ℕ) → 3 < k → (xs : List N) → selectBy P (C .bound) k xs ≡ nothing
   unfolding selectBy
@@ -63,29 +63,29 @@ module _ {N : Type 0} (P : Problem N) (C : Choices N) (records : ℕ) where
   unknown-selects (suc (suc (suc zero))) h xs = absurd (omega arith)
   unknown-selects (suc (suc (suc (suc k)))) h xs = refl
 
-  unknown-finishes : 3 < C .selection → (fuel : ℕ) (s : State N) → run P C records (suc fuel) s ≡ finished s
+  unknown-finishes : 3 < C .selection → (fuel : ℕ) (s : State N) → run P C capacity (suc fuel) s ≡ finished s
   unfolding run next select decide
   unknown-finishes h fuel s = rw (unknown-selects (C .selection) h (s .active))
 
   pub run-ends :
       {weight : N → ℕ} → Weighs P weight → (fuel : ℕ) (s : State N) → sum weight (s .active) < fuel → (e : State N)
-      → run P C records fuel s ≡ unfinished e → ⊥
+      → run P C capacity fuel s ≡ unfinished e → ⊥
   run-ends {weight} weighs fuel s h e q = go fuel h q (ordered (C .selection) 3)
     where
       go :
-          (fuel : ℕ) → sum weight (s .active) < fuel → run P C records fuel s ≡ unfinished e → (C .selection ≤ 3) ⊎ (3 < C .selection)
+          (fuel : ℕ) → sum weight (s .active) < fuel → run P C capacity fuel s ≡ unfinished e → (C .selection ≤ 3) ⊎ (3 < C .selection)
           → ⊥
       go fuel h q (inl known) =
-          search-ends (tree P) (planOf P C) (cutOf C) weight weighs records fuel s h e (unfinished-stuck P C records known fuel s e q)
+          search-ends (tree P) (planOf P C) (cutOf C) weight weighs capacity fuel s h e (unfinished-stuck P C capacity known fuel s e q)
       go zero h q (inr unknown) = omega arith
       go (suc fuel) h q (inr unknown) =
-          let r : run P C records (suc fuel) s ≡ finished s = unknown-finishes unknown fuel s in
+          let r : run P C capacity (suc fuel) s ≡ finished s = unknown-finishes unknown fuel s in
           let z : _≡_ {A = ℕ} 0 1 = cc in
           omega arith
 
   -- from the start: fuel above the weight of the empty node
   pub start-ends :
       {weight : N → ℕ} → Weighs P weight → (fuel : ℕ) (best : Option N) → weight (P .root) < fuel → (e : State N)
-      → run P C records fuel (start P best) ≡ unfinished e → ⊥
+      → run P C capacity fuel (start P best) ≡ unfinished e → ⊥
   unfolding start
   start-ends {weight} weighs fuel best h e q = run-ends weighs fuel (start P best) (omega arith) e q

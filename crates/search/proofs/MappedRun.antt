@@ -20,7 +20,7 @@ module _
     {N M : Type 0} {f : N → M} {Valid : N → Type 0} {P : Problem N} {Q : Problem M} {C : Choices N} {D : Choices M}
     (maps : Maps f Valid P Q C D)
   where
-    module _ (records : ℕ) where
+    module _ (capacity : ℕ) where
       held-maps : (s : State N) → length (held (D .rules) (mapState f s)) ≡ length (held (C .rules) s)
       unfolding held
       held-maps s = rw (maps .rules) (cases (on 4 (C .rules)))
@@ -33,7 +33,7 @@ module _
 
       decide-maps :
           (s : State N) (c : Choice N) → ValidState Valid P s → ValidChoice Valid c
-          → decide Q D records (mapState f s) (mapChoice f c) ≡ mapNext f (decide P C records s c)
+          → decide Q D capacity (mapState f s) (mapChoice f c) ≡ mapNext f (decide P C capacity s c)
       unfolding decide fitting
       decide-maps s nothing valid picked = refl
       decide-maps s (chosen b rest) valid picked =
@@ -42,7 +42,7 @@ module _
             step-maps maps s b rest valid (picked .0) (picked .1),
             held-maps (step P C s b rest),
           )
-          (cases (finishes P C (s .best) b rest) (ltb records (length (held (C .rules) (step P C s b rest)))))
+          (cases (finishes P C (s .best) b rest) (ltb capacity (length (held (C .rules) (step P C s b rest)))))
         where
           cases :
               (ends over : Bool)
@@ -51,7 +51,7 @@ module _
           cases false true = refl
           cases false false = refl
 
-      pub next-maps : (s : State N) → ValidState Valid P s → next Q D records (mapState f s) ≡ mapNext f (next P C records s)
+      pub next-maps : (s : State N) → ValidState Valid P s → next Q D capacity (mapState f s) ≡ mapNext f (next P C capacity s)
       unfolding next
       next-maps s valid =
           rw (select-maps maps (s .active) (valid .active))
@@ -63,45 +63,45 @@ module _
       ValidNext overflow = Unit {0}
       ValidNext (go s) = ValidState Valid P s
 
-      decide-valid : (s : State N) (c : Choice N) → ValidState Valid P s → ValidChoice Valid c → ValidNext (decide P C records s c)
+      decide-valid : (s : State N) (c : Choice N) → ValidState Valid P s → ValidChoice Valid c → ValidNext (decide P C capacity s c)
       unfolding decide fitting
       decide-valid s nothing valid picked = tt
       decide-valid s (chosen b rest) valid picked =
-          cases (finishes P C (s .best) b rest) (ltb records (length (held (C .rules) (step P C s b rest))))
+          cases (finishes P C (s .best) b rest) (ltb capacity (length (held (C .rules) (step P C s b rest))))
         where
           cases : (ends over : Bool) → ValidNext (unless ends (goUnless over (step P C s b rest)))
           cases true over = tt
           cases false true = tt
           cases false false = step-valid maps s b rest valid (picked .0) (picked .1)
 
-      pub next-valid : (s s′ : State N) → ValidState Valid P s → next P C records s ≡ go s′ → ValidState Valid P s′
+      pub next-valid : (s s′ : State N) → ValidState Valid P s → next P C capacity s ≡ go s′ → ValidState Valid P s′
       unfolding next
       next-valid s s′ valid e =
           subst ValidNext e (decide-valid s (select P C (s .active)) valid (select-valid Valid P C (s .active) (valid .active)))
 
-      stepped-valid : {s s′ : State N} → Stepped P C records s s′ → ValidState Valid P s → ValidState Valid P s′
+      stepped-valid : {s s′ : State N} → Stepped P C capacity s s′ → ValidState Valid P s → ValidState Valid P s′
       stepped-valid {s} h valid = rw (h .steps) (step-valid maps s (h .b) (h .rest) valid (picked .0) (picked .1))
         where
           picked : ValidChoice Valid (chosen (h .b) (h .rest))
           picked = subst (ValidChoice Valid) (h .selects) (select-valid Valid P C (s .active) (valid .active))
 
-      pub steps-valid : {s e : State N} → Steps P C records s e → ValidState Valid P s → ValidState Valid P e
+      pub steps-valid : {s e : State N} → Steps P C capacity s e → ValidState Valid P s → ValidState Valid P e
       steps-valid none valid = valid
       steps-valid (more r h) valid = stepped-valid h (steps-valid r valid)
 
       -- by recursion on the fuel: what comes next commutes with the map, and the state that it leaves is valid again
       pub run-maps :
-          (fuel : ℕ) (s : State N) → ValidState Valid P s → run Q D records fuel (mapState f s) ≡ mapOutcome f (run P C records fuel s)
+          (fuel : ℕ) (s : State N) → ValidState Valid P s → run Q D capacity fuel (mapState f s) ≡ mapOutcome f (run P C capacity fuel s)
       unfolding run
       run-maps zero s valid = refl
       run-maps (suc fuel) s valid =
-          rw (next-maps s valid) (cases (next P C records s) (λ s′ e. next-valid s s′ valid e) (λ s′ v. run-maps fuel s′ v))
+          rw (next-maps s valid) (cases (next P C capacity s) (λ s′ e. next-valid s s′ valid e) (λ s′ v. run-maps fuel s′ v))
         where
           cases :
               (n : Next N) → ((s′ : State N) → n ≡ go s′ → ValidState Valid P s′)
-              → ((s′ : State N) → ValidState Valid P s′ → run Q D records fuel (mapState f s′) ≡ mapOutcome f (run P C records fuel s′))
-              → follow Q D records (run Q D records fuel) (mapState f s) (mapNext f n)
-              ≡ mapOutcome f (follow P C records (run P C records fuel) s n)
+              → ((s′ : State N) → ValidState Valid P s′ → run Q D capacity fuel (mapState f s′) ≡ mapOutcome f (run P C capacity fuel s′))
+              → follow Q D capacity (run Q D capacity fuel) (mapState f s) (mapNext f n)
+              ≡ mapOutcome f (follow P C capacity (run P C capacity fuel) s n)
           cases finish v again = refl
           cases overflow v again = refl
           cases (go s′) v again = again s′ (v s′ refl)
@@ -119,6 +119,6 @@ module _
     start-image best = rw (maps .root)
 
     pub start-maps :
-        (records fuel : ℕ) (best : Option N) → ValidBest Valid P best
-        → run Q D records fuel (start Q (Option·map f best)) ≡ mapOutcome f (run P C records fuel (start P best))
-    start-maps records fuel best valid = rw (start-image best) (run-maps records fuel (start P best) (start-valid best valid))
+        (capacity fuel : ℕ) (best : Option N) → ValidBest Valid P best
+        → run Q D capacity fuel (start Q (Option·map f best)) ≡ mapOutcome f (run P C capacity fuel (start P best))
+    start-maps capacity fuel best valid = rw (start-image best) (run-maps capacity fuel (start P best) (start-valid best valid))

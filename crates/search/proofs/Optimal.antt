@@ -82,7 +82,7 @@ module _
         reached-keeps t p c pool (Covered (t .problem) v)
         (λ s b rest e goes h. step-keeps-cover t p c lawful bounds s b rest (picked-of (p .rank) (p .late) (s .active) b rest e) v h) r
         (record {
-          top = λ within g. record { by = t .problem .root; live = inl in-head; covers = inl refl };
+          root-covered = λ within g. record { by = t .problem .root; live = inl in-head; covers = inl refl };
           child = λ within z x m i g. absurd (List·Memᴰ·not-nil m);
         })
 
@@ -95,7 +95,7 @@ module _
         → Good (t .problem) v (t .problem .root) → (x : N) × In x (s .active) × Good (t .problem) v x
     reached-alive s r v within g =
         let covered : Covered (t .problem) v s = reached-covered v s r in
-        let k : Cover (t .problem) s (t .problem .root) = covered .top within g in
+        let k : Cover (t .problem) s (t .problem .root) = covered .root-covered within g in
         climb lawful s v within covered (reached-sound s r) (suc limit) (k .by) (omega arith) (k .live)
         (covers-good lawful v (k .by) (t .problem .root) (k .covers) g)
 

@@ -47,71 +47,71 @@ module _ {N : Type 0} (t : Tree N) (p : Plan N) (c : Cut N) (pool : ℕ) where
   pub search-ended : (fuel : ℕ) (s : State N) (result : Result N) → search t p c pool fuel s ≡ result → Ended s result
   search-ended fuel s result e = subst (Ended s) e (search-from fuel here)
 
-module _ {N : Type 0} (P : Problem N) (C : Choices N) (records : ℕ) where
+module _ {N : Type 0} (P : Problem N) (C : Choices N) (capacity : ℕ) where
   -- what comes next of a state says how it comes
   abbrev Says : State N → Next N → Type 0
   Says s finish = Unit {0}
-  Says s overflow = Overflows P C records s
-  Says s (go s′) = Stepped P C records s s′
+  Says s overflow = Overflows P C capacity s
+  Says s (go s′) = Stepped P C capacity s s′
 
-  next-says : (s : State N) → Says s (next P C records s)
+  next-says : (s : State N) → Says s (next P C capacity s)
   unfolding next decide fitting
   next-says s = at (select P C (s .active)) refl
     where
-      at : (c : Choice N) → select P C (s .active) ≡ c → Says s (decide P C records s c)
+      at : (c : Choice N) → select P C (s .active) ≡ c → Says s (decide P C capacity s c)
       at nothing e = tt
       at (chosen b rest) e =
-          cases (finishes P C (s .best) b rest) (ltb records kept) (λ h. h) (ltb→lt records kept) (nltb→le records kept)
+          cases (finishes P C (s .best) b rest) (ltb capacity kept) (λ h. h) (ltb→lt capacity kept) (nltb→le capacity kept)
         where
           kept : ℕ
           kept = length (held (C .rules) (step P C s b rest))
 
           cases :
-              (f o : Bool) → (T (not f) → T (not (finishes P C (s .best) b rest))) → (T o → records < kept) → (T (not o) → kept ≤ records)
+              (f o : Bool) → (T (not f) → T (not (finishes P C (s .best) b rest))) → (T o → capacity < kept) → (T (not o) → kept ≤ capacity)
               → Says s (unless f (goUnless o (step P C s b rest)))
           cases true o goes over fits = tt
           cases false true goes over fits = record { b = b; rest = rest; selects = e; goes = goes tt; outnumber = over tt }
           cases false false goes over fits = record { b = b; rest = rest; selects = e; goes = goes tt; fits = fits tt; steps = refl }
 
-  pub next-stepped : {s s′ : State N} → next P C records s ≡ go s′ → Stepped P C records s s′
+  pub next-stepped : {s s′ : State N} → next P C capacity s ≡ go s′ → Stepped P C capacity s s′
   next-stepped {s} e = subst (Says s) e (next-says s)
 
-  pub next-overflows : {s : State N} → next P C records s ≡ overflow → Overflows P C records s
+  pub next-overflows : {s : State N} → next P C capacity s ≡ overflow → Overflows P C capacity s
   next-overflows {s} e = subst (Says s) e (next-says s)
 
   -- a step that the finish test lets through is put to the pool
   goes-next :
       (s : State N) (b : N) (rest : List N) → select P C (s .active) ≡ chosen b rest → T (not (finishes P C (s .best) b rest))
-      → next P C records s ≡ fitting P C records (step P C s b rest)
+      → next P C capacity s ≡ fitting P C capacity (step P C s b rest)
   unfolding next decide
   goes-next s b rest e h = rw (e, to-false (finishes P C (s .best) b rest) h)
 
-  stepped-next : {s s′ : State N} → Stepped P C records s s′ → next P C records s ≡ go s′
+  stepped-next : {s s′ : State N} → Stepped P C capacity s s′ → next P C capacity s ≡ go s′
   unfolding fitting
   stepped-next {s} h =
       rw (
         goes-next s (h .b) (h .rest) (h .selects) (h .goes),
-        to-false (ltb records (length (held (C .rules) (step P C s (h .b) (h .rest)))))
-            (not-T (ltb records (length (held (C .rules) (step P C s (h .b) (h .rest))))) (λ o. omega (arith, tests))),
+        to-false (ltb capacity (length (held (C .rules) (step P C s (h .b) (h .rest)))))
+            (not-T (ltb capacity (length (held (C .rules) (step P C s (h .b) (h .rest))))) (λ o. omega (arith, tests))),
         h .steps,
       )
 
-  overflows-next : {s : State N} → Overflows P C records s → next P C records s ≡ overflow
+  overflows-next : {s : State N} → Overflows P C capacity s → next P C capacity s ≡ overflow
   unfolding fitting
   overflows-next {s} h =
       rw (
         goes-next s (h .b) (h .rest) (h .selects) (h .goes),
-        to-true (ltb records (length (held (C .rules) (step P C s (h .b) (h .rest))))) (omega (arith, tests)),
+        to-true (ltb capacity (length (held (C .rules) (step P C s (h .b) (h .rest))))) (omega (arith, tests)),
       )
 
   -- Where the finish test ends a run, the pool has no say.
-  pub finish-whatever-pool : (s : State N) → next P C records s ≡ finish → (r : ℕ) → next P C r s ≡ finish
+  pub finish-whatever-pool : (s : State N) → next P C capacity s ≡ finish → (r : ℕ) → next P C r s ≡ finish
   unfolding next decide fitting
   finish-whatever-pool s e r = at (select P C (s .active)) e
     where
-      at : (c : Choice N) → decide P C records s c ≡ finish → decide P C r s c ≡ finish
+      at : (c : Choice N) → decide P C capacity s c ≡ finish → decide P C r s c ≡ finish
       at nothing e = refl
-      at (chosen b rest) e = cases (finishes P C (s .best) b rest) (ltb records (length (held (C .rules) (step P C s b rest)))) e
+      at (chosen b rest) e = cases (finishes P C (s .best) b rest) (ltb capacity (length (held (C .rules) (step P C s b rest)))) e
         where
           cases :
               (f o : Bool) → unless f (goUnless o (step P C s b rest)) ≡ finish → unless f (fitting P C r (step P C s b rest)) ≡ finish
@@ -121,82 +121,82 @@ module _ {N : Type 0} (P : Problem N) (C : Choices N) (records : ℕ) where
 
   -- What an outcome says of the state that the run began at.
   abbrev Means : State N → Outcome N → Type 0
-  Means s (finished e) = Steps P C records s e × (next P C records e ≡ finish)
-  Means s (full e) = Steps P C records s e × Overflows P C records e
-  Means s (unfinished e) = Steps P C records s e
+  Means s (finished e) = Steps P C capacity s e × (next P C capacity e ≡ finish)
+  Means s (full e) = Steps P C capacity s e × Overflows P C capacity e
+  Means s (unfinished e) = Steps P C capacity s e
 
-  run-from : (fuel : ℕ) {s s′ : State N} → Steps P C records s s′ → Means s (run P C records fuel s′)
+  run-from : (fuel : ℕ) {s s′ : State N} → Steps P C capacity s s′ → Means s (run P C capacity fuel s′)
   unfolding run
   run-from zero r = r
-  run-from (suc fuel) {s} {s′} r = cases (next P C records s′) refl (next-says s′) (λ s″ k. run-from fuel k)
+  run-from (suc fuel) {s} {s′} r = cases (next P C capacity s′) refl (next-says s′) (λ s″ k. run-from fuel k)
     where
       cases :
-          (n : Next N) → next P C records s′ ≡ n → Says s′ n → ((s″ : State N) → Steps P C records s s″ → Means s (run P C records fuel s″))
-          → Means s (follow P C records (run P C records fuel) s′ n)
+          (n : Next N) → next P C capacity s′ ≡ n → Says s′ n → ((s″ : State N) → Steps P C capacity s s″ → Means s (run P C capacity fuel s″))
+          → Means s (follow P C capacity (run P C capacity fuel) s′ n)
       cases finish e h again = (r, e)
       cases overflow e h again = (r, h)
       cases (go s″) e h again = again s″ (more r h)
 
-  pub finished-means : (fuel : ℕ) (s e : State N) → run P C records fuel s ≡ finished e → Steps P C records s e × (next P C records e ≡ finish)
+  pub finished-means : (fuel : ℕ) (s e : State N) → run P C capacity fuel s ≡ finished e → Steps P C capacity s e × (next P C capacity e ≡ finish)
   finished-means fuel s e q = subst (Means s) q (run-from fuel none)
 
-  pub full-means : (fuel : ℕ) (s e : State N) → run P C records fuel s ≡ full e → Steps P C records s e × Overflows P C records e
+  pub full-means : (fuel : ℕ) (s e : State N) → run P C capacity fuel s ≡ full e → Steps P C capacity s e × Overflows P C capacity e
   full-means fuel s e q = subst (Means s) q (run-from fuel none)
 
   -- The converses. The run from s goes through the states that its steps come to, so with more fuel it ends as the run from any of
   -- them does; and a run that has ended ends the same with more fuel.
   abbrev EndsWith : ℕ → State N → Type 0
-  EndsWith fuel s = (e : State N) → run P C records fuel s ≡ unfinished e → ⊥
+  EndsWith fuel s = (e : State N) → run P C capacity fuel s ≡ unfinished e → ⊥
 
-  more-fuel : (f f′ : ℕ) (s : State N) → f ≤ f′ → EndsWith f s → run P C records f s ≡ run P C records f′ s
+  more-fuel : (f f′ : ℕ) (s : State N) → f ≤ f′ → EndsWith f s → run P C capacity f s ≡ run P C capacity f′ s
   unfolding run
   more-fuel zero f′ s h ends = absurd (ends s refl)
   more-fuel (suc f) zero s h ends = absurd (omega arith)
-  more-fuel (suc f) (suc f′) s h ends = cases (next P C records s) ends (λ s′ k. more-fuel f f′ s′ (omega arith) k)
+  more-fuel (suc f) (suc f′) s h ends = cases (next P C capacity s) ends (λ s′ k. more-fuel f f′ s′ (omega arith) k)
     where
       cases :
-          (n : Next N) → ((e : State N) → follow P C records (run P C records f) s n ≡ unfinished e → ⊥)
-          → ((s′ : State N) → EndsWith f s′ → run P C records f s′ ≡ run P C records f′ s′)
-          → follow P C records (run P C records f) s n ≡ follow P C records (run P C records f′) s n
+          (n : Next N) → ((e : State N) → follow P C capacity (run P C capacity f) s n ≡ unfinished e → ⊥)
+          → ((s′ : State N) → EndsWith f s′ → run P C capacity f s′ ≡ run P C capacity f′ s′)
+          → follow P C capacity (run P C capacity f) s n ≡ follow P C capacity (run P C capacity f′) s n
       cases finish ends again = refl
       cases overflow ends again = refl
       cases (go s′) ends again = again s′ ends
 
-  steps-run : {s e : State N} → Steps P C records s e → (f : ℕ) → (f′ : ℕ) × (f ≤ f′) × (run P C records f′ s ≡ run P C records f e)
+  steps-run : {s e : State N} → Steps P C capacity s e → (f : ℕ) → (f′ : ℕ) × (f ≤ f′) × (run P C capacity f′ s ≡ run P C capacity f e)
   unfolding run
   steps-run none f = (f, omega arith, refl)
   steps-run (more {s′} r h) f =
       let (f′, k, q) = steps-run r (suc f) in
-      (f′, omega arith, q ∙ ap (follow P C records (run P C records f) s′) (stepped-next h))
+      (f′, omega arith, q ∙ ap (follow P C capacity (run P C capacity f) s′) (stepped-next h))
 
   module _
-      {weight : N → ℕ} (weighs : Weighs P weight) (fuel : ℕ) {s e : State N} (enough : sum weight (s .active) < fuel) (steps : Steps P C records s e)
+      {weight : N → ℕ} (weighs : Weighs P weight) (fuel : ℕ) {s e : State N} (enough : sum weight (s .active) < fuel) (steps : Steps P C capacity s e)
     where
-      stands : run P C records fuel s ≡ run P C records (suc fuel) e
+      stands : run P C capacity fuel s ≡ run P C capacity (suc fuel) e
       stands =
           let (f, k, q) = steps-run steps (suc fuel) in
-          more-fuel fuel f s (omega arith) (run-ends P C records weighs fuel s enough) ∙ q
+          more-fuel fuel f s (omega arith) (run-ends P C capacity weighs fuel s enough) ∙ q
 
-      pub finish-finished : next P C records e ≡ finish → run P C records fuel s ≡ finished e
+      pub finish-finished : next P C capacity e ≡ finish → run P C capacity fuel s ≡ finished e
       unfolding run
-      finish-finished h = stands ∙ ap (follow P C records (run P C records fuel) e) h
+      finish-finished h = stands ∙ ap (follow P C capacity (run P C capacity fuel) e) h
 
-      pub overflow-full : Overflows P C records e → run P C records fuel s ≡ full e
+      pub overflow-full : Overflows P C capacity e → run P C capacity fuel s ≡ full e
       unfolding run
-      overflow-full h = stands ∙ ap (follow P C records (run P C records fuel) e) (overflows-next h)
+      overflow-full h = stands ∙ ap (follow P C capacity (run P C capacity fuel) e) (overflows-next h)
 
   -- The steps of the written run are those of the general run.
   module _ (known : C .selection ≤ 3) where
-    pub steps-reached : {s e : State N} → Steps P C records s e → Reached (tree P) (planOf P C) (cutOf C) records s e
+    pub steps-reached : {s e : State N} → Steps P C capacity s e → Reached (tree P) (planOf P C) (cutOf C) capacity s e
     steps-reached none = here
-    steps-reached (more {s′} r h) = then (steps-reached r) (next-is-verdict P C records known s′ ∙ ap verdictOf (stepped-next h))
+    steps-reached (more {s′} r h) = then (steps-reached r) (next-is-verdict P C capacity known s′ ∙ ap verdictOf (stepped-next h))
 
-    pub reached-steps : {s e : State N} → Reached (tree P) (planOf P C) (cutOf C) records s e → Steps P C records s e
+    pub reached-steps : {s e : State N} → Reached (tree P) (planOf P C) (cutOf C) capacity s e → Steps P C capacity s e
     reached-steps here = none
     reached-steps (then {s′} {s″} r v) =
-        more (reached-steps r) (cases (next P C records s′) (next-says s′) (sym (next-is-verdict P C records known s′) ∙ v))
+        more (reached-steps r) (cases (next P C capacity s′) (next-says s′) (sym (next-is-verdict P C capacity known s′) ∙ v))
       where
-        cases : (n : Next N) → Says s′ n → verdictOf n ≡ onward s″ → Stepped P C records s′ s″
+        cases : (n : Next N) → Says s′ n → verdictOf n ≡ onward s″ → Stepped P C capacity s′ s″
         cases finish h e = absurd (let z : _≡_ {A = ℕ} 0 1 = cc in omega arith)
         cases overflow h e = absurd (let z : _≡_ {A = ℕ} 0 1 = cc in omega arith)
-        cases (go s‴) h e = let q : s‴ ≡ s″ = cc in subst (Stepped P C records s′) q h
+        cases (go s‴) h e = let q : s‴ ≡ s″ = cc in subst (Stepped P C capacity s′) q h

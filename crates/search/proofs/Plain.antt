@@ -1,5 +1,5 @@
 -- The run that document 01 writes (specs/) is the general run (`General`) at one instance: the price of a cost is the cost, there are
--- no dead children, every number of branchings is allowed, a bound can end the run, and the selection's number gives side and rank.
+-- no dead children, every number of branchings is allowed, a bound can end the run, and the selection gives side and rank.
 --   tree, planOf, cutOf    the instance
 --   step-is-move, finishes-is-ends, held-is-kept, next-is-verdict    the parts of the run are the general run's parts
 --   search-is-run, run-is-search    so are the outcomes; no general run of this instance is `paused`
@@ -64,7 +64,7 @@ module _ {N : Type 0} where
 pub adds : {N : Type 0} (P : Problem N) → Adds (tree P)
 adds P b k = omega arith
 
--- How each selection lets a run end at a complete node; by the number, for a record's field cannot be split.
+-- How each selection lets a run end at a complete node; by cases, for a record's field cannot be split.
 module _ {N : Type 0} (P : Problem N) (bound : N → ℕ) (laws : BoundLaws (tree P) bound) where
   -- under a least bound: b's bound is its cost, and it is at most the bound of x
   cost-le : (b x : N) (v : ℕ) → T (P .complete b) → bound b ≤ bound x → bound x ≤ v → P .cost b ≤ v
@@ -97,18 +97,18 @@ module _ {N : Type 0} (P : Problem N) (C : Choices N) where
   unfolding finishes ends cap
   finishes-is-ends s b rest = refl
 
-  pub held-is-kept : (records : ℕ) (s : State N) → held (C .rules) s ≡ kept (tree P) (planOf P C) (cutOf C) records s
+  pub held-is-kept : (capacity : ℕ) (s : State N) → held (C .rules) s ≡ kept (tree P) (planOf P C) (cutOf C) capacity s
   unfolding held kept
-  held-is-kept records s = refl
+  held-is-kept capacity s = refl
 
-  module _ (records : ℕ) where
+  module _ (capacity : ℕ) where
     decide-is-verdictOn :
-        (s : State N) (c : Choice N) → verdictOn (tree P) (planOf P C) (cutOf C) records s c ≡ verdictOf (decide P C records s c)
+        (s : State N) (c : Choice N) → verdictOn (tree P) (planOf P C) (cutOf C) capacity s c ≡ verdictOf (decide P C capacity s c)
     unfolding decide fitting verdictOn
     decide-is-verdictOn s nothing = refl
     decide-is-verdictOn s (chosen b rest) =
         rw (← finishes-is-ends, ← step-is-move, ← held-is-kept)
-        (cases (finishes P C (s .best) b rest) (ltb records (length (held (C .rules) (step P C s b rest)))))
+        (cases (finishes P C (s .best) b rest) (ltb capacity (length (held (C .rules) (step P C s b rest)))))
       where
         cases : (f o : Bool) → stopIf f (refuseIf o (step P C s b rest)) ≡ verdictOf (unless f (goUnless o (step P C s b rest)))
         cases true o = refl
@@ -116,43 +116,43 @@ module _ {N : Type 0} (P : Problem N) (C : Choices N) where
         cases false false = refl
 
     pub next-is-verdict :
-        C .selection ≤ 3 → (s : State N) → verdict (tree P) (planOf P C) (cutOf C) records s ≡ verdictOf (next P C records s)
+        C .selection ≤ 3 → (s : State N) → verdict (tree P) (planOf P C) (cutOf C) capacity s ≡ verdictOf (next P C capacity s)
     unfolding verdict next select
     next-is-verdict h s = rw (← select-is-pick P (C .bound) (C .selection) h (s .active)) (decide-is-verdictOn s (select P C (s .active)))
 
     -- by recursion on the fuel: what is the same of one state is the same of the run
     pub search-is-run :
         C .selection ≤ 3 → (fuel : ℕ) (s : State N)
-        → search (tree P) (planOf P C) (cutOf C) records fuel s ≡ resultOf (run P C records fuel s)
+        → search (tree P) (planOf P C) (cutOf C) capacity fuel s ≡ resultOf (run P C capacity fuel s)
     unfolding search run
     search-is-run known zero s = refl
     search-is-run known (suc fuel) s =
-        rw (next-is-verdict known s) (cases (next P C records s) (λ s′. search-is-run known fuel s′))
+        rw (next-is-verdict known s) (cases (next P C capacity s) (λ s′. search-is-run known fuel s′))
       where
         more : State N → Result N
-        more = search (tree P) (planOf P C) (cutOf C) records fuel
+        more = search (tree P) (planOf P C) (cutOf C) capacity fuel
 
         cases :
-            (n : Next N) → ((s′ : State N) → more s′ ≡ resultOf (run P C records fuel s′))
-            → obey (tree P) (planOf P C) (cutOf C) records more s (verdictOf n) ≡ resultOf (follow P C records (run P C records fuel) s n)
+            (n : Next N) → ((s′ : State N) → more s′ ≡ resultOf (run P C capacity fuel s′))
+            → obey (tree P) (planOf P C) (cutOf C) capacity more s (verdictOf n) ≡ resultOf (follow P C capacity (run P C capacity fuel) s n)
         cases finish again = refl
         cases overflow again = refl
         cases (go s′) again = again s′
 
     module _ (known : C .selection ≤ 3) (fuel : ℕ) (s : State N) where
-      pub run-is-search : run P C records fuel s ≡ plainly (search (tree P) (planOf P C) (cutOf C) records fuel s)
-      run-is-search = sym (ap plainly (search-is-run known fuel s) ∙ plainly-resultOf (run P C records fuel s))
+      pub run-is-search : run P C capacity fuel s ≡ plainly (search (tree P) (planOf P C) (cutOf C) capacity fuel s)
+      run-is-search = sym (ap plainly (search-is-run known fuel s) ∙ plainly-resultOf (run P C capacity fuel s))
 
       pub finished-iff-done :
-          (e : State N) → (run P C records fuel s ≡ finished e) ↔ (search (tree P) (planOf P C) (cutOf C) records fuel s ≡ done e)
+          (e : State N) → (run P C capacity fuel s ≡ finished e) ↔ (search (tree P) (planOf P C) (cutOf C) capacity fuel s ≡ done e)
       finished-iff-done e = (λ q. search-is-run known fuel s ∙ ap resultOf q, λ q. run-is-search ∙ ap plainly q)
 
       pub full-iff-overfull :
-          (e : State N) → (run P C records fuel s ≡ full e) ↔ (search (tree P) (planOf P C) (cutOf C) records fuel s ≡ overfull e)
+          (e : State N) → (run P C capacity fuel s ≡ full e) ↔ (search (tree P) (planOf P C) (cutOf C) capacity fuel s ≡ overfull e)
       full-iff-overfull e = (λ q. search-is-run known fuel s ∙ ap resultOf q, λ q. run-is-search ∙ ap plainly q)
 
       pub unfinished-stuck :
-          (e : State N) → run P C records fuel s ≡ unfinished e → search (tree P) (planOf P C) (cutOf C) records fuel s ≡ stuck e
+          (e : State N) → run P C capacity fuel s ≡ unfinished e → search (tree P) (planOf P C) (cutOf C) capacity fuel s ≡ stuck e
       unfinished-stuck e q = search-is-run known fuel s ∙ ap resultOf q
 
   pub strict : Strict (tree P) (planOf P C)

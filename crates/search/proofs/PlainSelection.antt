@@ -1,7 +1,7 @@
 -- The four selections that document 01 writes are the selection by rank (`pick`), each at a side and a rank:
 --   0: the earliest of the least bound      2 (FIFO): the earliest, all ranks 0
 --   1: the latest of the least bound        3 (LIFO): the latest, an incomplete node of rank 0, a complete one of rank 1
--- Each writes "the earliest, or the latest, node that passes a test", and the test passes at just the nodes of some rank m below which
+-- Each takes the earliest, or the latest, node that passes a test, and the test passes at just the nodes of some rank m below which
 -- no node ranks: such a node is what `pick` chooses, if there is one.
 use mathlib.Core.Path.{_≡_, refl, sym, subst}
 use mathlib.Core.Bool.{Bool, true, false, not, cond}
@@ -84,8 +84,8 @@ above-cons rank m x xs h above y i = go (List·Memᴰ·cases-cons i)
 
 -- none ranks above the greatest rank
 above-none : {N : Type 0} (rank : N → ℕ) (m : ℕ) → ((x : N) → rank x ≤ m) → (xs : List N) → Above rank m xs → xs ≡ []
-above-none rank m top [] above = refl
-above-none rank m top (x ∷ xs) above = absurd (omega (arith, top x, above x in-head))
+above-none rank m greatest [] above = refl
+above-none rank m greatest (x ∷ xs) above = absurd (omega (arith, greatest x, above x in-head))
 
 -- A choice found a node of rank m, the one that `pick` chooses; or there is none of that rank.
 data Found {N : Type 0} (late : Bool) (rank : N → ℕ) (m : ℕ) (xs : List N) : Choice N → Type 0 where

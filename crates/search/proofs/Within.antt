@@ -69,9 +69,9 @@ module _ {N : Type 0} (P : Problem N) (C : Choices N) where
             (in-keep _ (children₃ P C s b rest) x (in-keep _ (children₄ P C s b rest) x k .0) .0) .1)
 
   pub active-within :
-      (records : ℕ) (best : Option N) → C .bound (P .root) ≤ upper P best → T (on 1 (C .rules))
-      → {s : State N} → Steps P C records (start P best) s → (x : N) → In x (s .active) → C .bound x ≤ upper P (s .best)
+      (capacity : ℕ) (best : Option N) → C .bound (P .root) ≤ upper P best → T (on 1 (C .rules))
+      → {s : State N} → Steps P C capacity (start P best) s → (x : N) → In x (s .active) → C .bound x ≤ upper P (s .best)
   unfolding start
-  active-within records best low rule none x m = rw (List·Memᴰ·eq-of-singleton m) low
-  active-within records best low rule (more {s′} r h) x m =
+  active-within capacity best low rule none x m = rw (List·Memᴰ·eq-of-singleton m) low
+  active-within capacity best low rule (more {s′} r h) x m =
       rw (h .steps) (step-within s′ (h .b) (h .rest) rule x (subst (λ (z : State N). In x (z .active)) (h .steps) m))

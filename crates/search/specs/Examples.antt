@@ -26,7 +26,7 @@ record Free : Type 0 where
 
 outcomeOf : Free → ℕ → ℕ → ℕ → Outcome ℕ
 unfolding children₁ best₂ over₃ children₃ rest₃ dominated₄ children₄ dominated₅ children₅ dominated₆ rest₆ active₇ step selectBy select finishes held fitting decide next run start
-outcomeOf f selection rules records =
+outcomeOf f selection rules capacity =
     let P : Problem ℕ = record {
       root = 0;
       children = λ x. getD (f .kids) x [];
@@ -35,7 +35,7 @@ outcomeOf f selection rules records =
       dominates = λ y z. any (λ k. eqb (k / 10) y && eqb (k % 10) z) (f .rivals);
       above = 99;
     } in
-    run P (record { selection = selection; rules = rules; bound = λ x. getD (f .bounds) x 0 }) records 30 (start P none)
+    run P (record { selection = selection; rules = rules; bound = λ x. getD (f .bounds) x 0 }) capacity 30 (start P none)
 
 abbrev state : List ℕ → List ℕ → Option ℕ → ℕ → ℕ → ℕ → State ℕ
 state active branched best generated eliminated most =

@@ -15,13 +15,13 @@ pub record Problem (N : Type 0) : Type 0 where
   pub cost : N → ℕ
   -- y dominates z: `dominates y z`
   pub dominates : N → N → Bool
-  -- a number above every cost
+  -- above every cost
   pub above : ℕ
 
 pub record Choices (N : Type 0) : Type 0 where
   -- 0 to 3
   pub selection : ℕ
-  -- the sum of the rules' numbers, 0 to 15
+  -- the sum of the rules that are on, 0 to 15
   pub rules : ℕ
   -- the lower bound
   pub bound : N → ℕ
@@ -38,7 +38,7 @@ pub record State (N : Type 0) : Type 0 where
   pub eliminated : ℕ
   pub most : ℕ
 
--- U: the cost of the best order known; while none is known, a number that no order costs
+-- U: the cost of the best order known; while none is known, more than any order costs
 abbrev pub upper : {N : Type 0} → Problem N → Option N → ℕ
 upper P none = P .above
 upper P (some x) = P .cost x

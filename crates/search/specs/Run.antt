@@ -39,10 +39,10 @@ abbrev pub goUnless : {N : Type 0} → Bool → State N → Next N
 goUnless true s = overflow
 goUnless false s = go s
 
--- The parameters of a run: the problem, the choices, and how many records the pool has.
-module _ {N : Type 0} (P : Problem N) (C : Choices N) (records : ℕ) where
+-- The parameters of a run: the problem, the choices, and the pool's capacity: how many records it has.
+module _ {N : Type 0} (P : Problem N) (C : Choices N) (capacity : ℕ) where
   unfoldable pub fitting : State N → Next N
-  fitting s = goUnless (ltb records (length (held (C .rules) s))) s
+  fitting s = goUnless (ltb capacity (length (held (C .rules) s))) s
 
   -- A state with no active node ends the run; it never comes.
   unfoldable pub decide : State N → Choice N → Next N
@@ -67,7 +67,7 @@ module _ {N : Type 0} (P : Problem N) (C : Choices N) (records : ℕ) where
     pub rest : List N
     pub selects : select P C (s .active) ≡ chosen b rest
     pub goes : T (not (finishes P C (s .best) b rest))
-    pub fits : length (held (C .rules) (step P C s b rest)) ≤ records
+    pub fits : length (held (C .rules) (step P C s b rest)) ≤ capacity
     pub steps : s′ ≡ step P C s b rest
 
   -- Some of them, from s to e.
@@ -81,4 +81,4 @@ module _ {N : Type 0} (P : Problem N) (C : Choices N) (records : ℕ) where
     pub rest : List N
     pub selects : select P C (s .active) ≡ chosen b rest
     pub goes : T (not (finishes P C (s .best) b rest))
-    pub outnumber : records < length (held (C .rules) (step P C s b rest))
+    pub outnumber : capacity < length (held (C .rules) (step P C s b rest))

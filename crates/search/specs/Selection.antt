@@ -31,8 +31,8 @@ abbrev pub latest : {N : Type 0} → (N → Bool) → List N → Choice N
 latest test [] = nothing
 latest test (x ∷ xs) = orElse (behind x (latest test xs)) (cond (test x) (chosen x xs) nothing)
 
--- The node to branch, by the number of the selection. LLB: of the nodes with the least bound the earliest (0) or the latest (1). FIFO
--- (2): the earliest of all. LIFO (3): the latest that is not complete or, where every node is, the latest. Other numbers have cause 4.
+-- The node to branch, by selection. LLB: of the nodes with the least bound the earliest (0) or the latest (1). FIFO
+-- (2): the earliest of all. LIFO (3): the latest that is not complete or, where every node is, the latest. Any other has cause 4.
 unfoldable pub selectBy : {N : Type 0} → Problem N → (N → ℕ) → ℕ → List N → Choice N
 selectBy P bound zero active = earliest (λ x. eqb (bound x) (least bound active)) active
 selectBy P bound (suc zero) active = latest (λ x. eqb (bound x) (least bound active)) active

@@ -16,7 +16,7 @@ pub enum Place {
     Refused(u32),
 }
 
-// The number below which a bound goes before a least one: at an equal bound too if the side is late.
+// What a bound must be below to go before a least one: at an equal bound too if the side is late.
 fn edge(least: u32, late: bool) -> u64
     ensures { λ r. ⌜ r ≡ cond late (least + 1) least ⌝ }
 {
@@ -106,7 +106,7 @@ fn latest_open(w: &[u32], a: usize, n: u32) -> usize
     a - 1
 }
 
-// The place of the node that the selection's number picks among the first a records.
+// The place of the node that a selection picks among the first a records.
 pub fn choose(w: &[u32], a: usize, n: u32, selection: u32) -> Place
     requires { ⌜ (0 < a) × (a ≤ length (records (now w))) ⌝ }
     ensures { λ r. ⌜ Chose n (take a (records (now (w .entry)))) selection r ⌝ }

@@ -24,7 +24,7 @@ use Rattle.children.specs.Code.{Table, recProblem, recChoices, childrenOf, surv
 use Rattle.children.specs.declared.setting.Setting.{Setting}
 use Rattle.step.specs.Code.{farOf}
 
--- no bound is above the largest number
+-- no bound is above the limit that every bound keeps
 abbrev pub Bounded : List Record → Type 0
 Bounded xs = (x : Record) → In x xs → x .bound ≤ noLimit
 

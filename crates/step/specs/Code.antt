@@ -1,9 +1,9 @@
 -- A step on records. `proofs/` shows that it is the written step of crate `search`, node by node. These definitions are the code's own: a
 -- reader of the promise needs none of them.
---   Shown                       the state that a run's numbers and the pool's words show
+--   Shown                       the state that a run and the pool's words show
 --   Ready, Expansion, Stepping  what a step asks, what its parts 1 to 5 give, and what it gives
 --   spotOf, changeOf, farAfter  where b stands, what parts 6 and 7 go by, and the branched records held afterwards
---   stepOf, runAfter            the written step, and the run's numbers after it
+--   stepOf, runAfter            the written step, and the run after it
 use mathlib.Core.Path.{_≡_}
 use mathlib.Core.Bool.{Bool, true, false, not, cond, _&&_}
 use mathlib.Core.List.{List, [], reverse}
@@ -96,7 +96,7 @@ farAfter d r = cond (on 4 (d .rules)) (r .far + 1) 0
 unfoldable pub stepOf : Setting → Table → ℕ → Record → State Record → State Record
 stepOf d t i b s = step (recProblem d t) (recChoices d) s b (dropAt i (s .active))
 
--- a run's numbers after a step that generated some children and left some nodes active
+-- a run after a step that generated some children and left some nodes active
 unfoldable pub runAfter : Run → Best → ℕ → ℕ → ℕ → Run
 runAfter r best generated active far = record {
   active = active;

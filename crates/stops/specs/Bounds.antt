@@ -7,7 +7,7 @@ use Rattle.lists.specs.Lists.{sum, least, without, same}
 use Rattle.orders.specs.Orders.{Node, setOf, left, last, complete}
 use Rattle.stops.specs.Legs.{Legs, path, cost}
 
--- plain, number 0: the path cost, and the leg home where no stop is left
+-- plain, bound 0: the path cost, and the leg home where no stop is left
 unfoldable pub plain : ℕ → Legs → Node → ℕ
 plain n L x = cond (complete n x) (cost L x) (path L x)
 
@@ -19,11 +19,11 @@ cheapestInto L place rest s = least (λ r. L .leg r s) (place ∷ without s rest
 unfoldable pub remainder : Legs → ℕ → List ℕ → ℕ
 remainder L place rest = sum (cheapestInto L place rest) rest + least (L .home) rest
 
--- close, number 1: the path cost and the remainder; of a complete node, as plain
+-- close, bound 1: the path cost and the remainder; of a complete node, as plain
 unfoldable pub close : ℕ → Legs → Node → ℕ
 close n L x = cond (complete n x) (cost L x) (path L x + remainder L (last x) (left n x))
 
--- the bound by its number; any other number is refused before the run
+-- which of the two a caller chose; any other is refused before the run
 unfoldable pub boundBy : ℕ → ℕ → Legs → Node → ℕ
 boundBy zero n L x = plain n L x
 boundBy (suc zero) n L x = close n L x

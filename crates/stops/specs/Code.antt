@@ -1,14 +1,14 @@
--- A node as the six numbers of its record: what the functions of this crate compute on them. `proofs/` shows that these are the numbers
+-- A node as the six words of its record: what the functions of this crate compute on them. `proofs/` shows that these are the words
 -- that document 01's definitions give.
---   stopsIn set           the stops of a set, ascending (stop s adds 2 to the power s-1)
+--   stopsIn set           the stops of a set, ascending (bit s-1 is stop s's)
 --   extended x s leg      x with stop s and its leg added; its bound is not yet known
---   lastStop x            the last stop flown; 0 for e, and for numbers that are no node's
+--   lastStop x            the last stop flown; 0 for e, and for words that are no node's
 --   recDominates y z      dominance, on records
---   ahead k L place rest  what the bound of number k adds to the path cost at a place, with the stops of rest to come
+--   ahead k L place rest  what bound k adds to the path cost at a place, with the stops of rest to come
 --   reckonOn rows         the day of the planner's rows as a walk from stop to stop
 --   Cheap rows            no leg of theirs is above the dearest (Within m L: none is above m)
---   rowOf n numbers       a row of the planner's
---   Wide x s leg          what `extended` asks, so that no number wraps
+--   rowOf n entries       a row of the planner's
+--   Wide x s leg          what `extended` asks, so that no word overflows
 --   emptyRecord           six zeros, e's record before it has a bound
 use mathlib.Core.Bool.{Bool, not, _&&_, cond}
 use mathlib.Core.List.{List, [], _∷_, map}
@@ -35,7 +35,7 @@ stopsIn set = bits mostStops 1 set
 unfoldable pub emptyRecord : Record
 emptyRecord = record { size = 0; set = 0; path = 0; bound = 0; first = 0; second = 0 }
 
--- a stop is a digit of the order, in the second number once the first is full
+-- a stop is a digit of the order, in the second word once the first is full
 unfoldable pub extended : Record → ℕ → ℕ → Record
 extended x stop leg = record {
   size = ones (x .set + 2 ^ (stop - 1));
@@ -52,7 +52,7 @@ lastStop x =
     (cond (leb (x .size) wordStops) (x .first / stopBase ^ (x .size - 1) % stopBase + 1)
     (cond (leb (x .size) mostStops) (x .second / stopBase ^ (x .size - 1 - wordStops) % stopBase + 1) 0))
 
--- the numbers have room for one stop more
+-- the words have room for one stop more
 pub record Wide (x : Record) (stop leg : ℕ) : Type 0 where
   pub some : 1 ≤ stop
   pub few : stop ≤ mostStops
@@ -81,7 +81,7 @@ reckonOn rows = reckoning (legs rows)
 
 -- a row: the first n + 1 of some numbers of the table, and zeros
 unfoldable pub rowOf : ℕ → List ℕ → List ℕ
-rowOf n numbers = map (λ j. cond (leb j n) (getD numbers j 0) 0) (from 0 places)
+rowOf n entries = map (λ j. cond (leb j n) (getD entries j 0) 0) (from 0 places)
 
 pub record Within (m : ℕ) (L : Legs) : Type 0 where
   pub leg : (i j : ℕ) → L .leg i j ≤ m

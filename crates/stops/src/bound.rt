@@ -1,4 +1,4 @@
-// What a bound adds to the path cost. A set of stops is a number: stop s adds 2 to the power s-1.
+// What a bound adds to the path cost. A set of stops is a word: bit s-1 is stop s's.
 ghost use mathlib.Core.Path.{_≡_};
 ghost use mathlib.Core.List.{_∷_};
 ghost use Prim.Native.Nat.{_+_, _-_, _^_, _≤_, _<_, min};
@@ -111,7 +111,7 @@ fn remainder(t: &Rows, place: u32, rest: u32) -> u32
     sum
 }
 
-// What a bound, by its number, adds to the path cost of a node at a place that has the stops of rest to come.
+// What a bound, plain (0) or close, adds to the path cost of a node at a place that has the stops of rest to come.
 pub fn ahead(t: &Rows, bound: u32, place: u32, rest: u32) -> u32
     requires { ⌜ (place ≤ mostStops) × ((rest < 2 ^ mostStops) × Cheap (now t)) ⌝ }
     ensures { λ r. ⌜ r ≡ reckonOn (now (t .entry)) .ahead bound place (stopsIn rest) ⌝ }

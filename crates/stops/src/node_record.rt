@@ -1,4 +1,4 @@
-// A node as the six numbers of its record. A host that holds records has them in this layout: six 32-bit numbers in a row.
+// The record of a node: six words, in the layout in which a host that holds records has them.
 ghost use mathlib.Core.Path.{_≡_};
 ghost use Prim.Native.Nat.{_+_, _-_, _<_};
 ghost use Rattle.stops.specs.Code.{Wide, extended, lastStop, emptyRecord, recDominates};
@@ -32,7 +32,7 @@ impl Record {
         }
     }
 
-    // The node with a stop and its leg added, and no bound yet. Its size is the number of stops in its set.
+    // The node with a stop and its leg added, and no bound yet. Its size is counted from its set.
     pub fn extended(mut self, stop: u32, leg: u32) -> Record
         requires { ⌜ Wide self stop leg ⌝ }
         ensures { λ r. ⌜ r ≡ extended self stop leg ⌝ }
@@ -50,7 +50,7 @@ impl Record {
         self
     }
 
-    // The last stop flown; 0 for e, and for numbers that are no node's.
+    // The last stop flown; 0 for e, and for words that are no node's.
     pub fn last(self) -> u32
         ensures { λ r. ⌜ r ≡ lastStop self ⌝ }
     {
@@ -67,7 +67,7 @@ impl Record {
         0
     }
 
-    // Whether this node dominates another: they differ, have the same set and last stop, and its path cost is at most the other's.
+    // Whether this node dominates another: two nodes of one set and one last stop, and this one's path is no dearer.
     pub fn dominates(self, other: Record) -> bool
         ensures { λ r. ⌜ r ≡ recDominates self other ⌝ }
     {

@@ -45,14 +45,14 @@ pub fn diagonal(n: usize, table: &[u32]) -> bool
 }
 
 // One row: the first n + 1 of some numbers of the table, and zeros.
-fn row(n: usize, numbers: &[u32]) -> [u32; PLACES]
-    requires { ⌜ (n ≤ mostStops) × (n < length (now numbers)) ⌝ }
-    ensures { λ r. ⌜ r ≡ rowOf n (now (numbers .entry)) ⌝ }
+fn row(n: usize, entries: &[u32]) -> [u32; PLACES]
+    requires { ⌜ (n ≤ mostStops) × (n < length (now entries)) ⌝ }
+    ensures { λ r. ⌜ r ≡ rowOf n (now (entries .entry)) ⌝ }
 {
     let mut r = [0u32; PLACES];
     let mut j = 0;
     while j <= n {
-        r[j] = numbers[j];
+        r[j] = entries[j];
         j += 1;
     }
     r

@@ -133,9 +133,9 @@ fn both(table: &[u32], n: usize, start: &[u8], pool: &mut [u32], t: Tally) -> Ta
 fn trial(k: u64, pool: &mut [u32], t: Tally) -> Tally {
     let n = stops_in(k);
     let size = size_of(n);
-    let numbers = table_of(k, n);
+    let table = table_of(k, n);
     let start = order_of(n, next(k));
-    both(&numbers[..size], n, &start[..n], pool, t)
+    both(&table[..size], n, &start[..n], pool, t)
 }
 
 // The jobs over all tables.

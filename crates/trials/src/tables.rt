@@ -1,4 +1,4 @@
-// Tables by their numbers: how many stops, of which kind, and legs by a generator that the number starts.
+// Table k: how many stops, of which kind, and legs by a generator that k starts.
 ghost use mathlib.Core.Path.{_≡_};
 ghost use Prim.Native.Nat.{_+_, _≤_, _<_};
 ghost use lib.ListN.{length};

@@ -3,7 +3,7 @@
 //! ```
 //! use gondamuy::{plan_records, Bound, Job, Record, Rules, Selection};
 //!
-//! // Three stops. Row i, column j is the cost of flying from place i to place j, and home is place 0.
+//! // Three stops. Entry j of row i is the leg from place i to place j, and home is place 0.
 //! let table = [0, 4, 7, 9, 5, 0, 2, 6, 3, 8, 0, 1, 6, 5, 4, 0];
 //! let selection = Selection::LeastBoundEarliest;
 //! let job = Job { n: 3, selection, rules: Rules::UPPER_COST, bound: Bound::Close };

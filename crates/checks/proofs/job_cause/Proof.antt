@@ -24,14 +24,8 @@ choices c = table-passes _ _ _ _ (c .before .table-cause .ensures) (c .if1 .left
 known : (c : tie.Else2) → cause₄ (job (c .before .before .before)) ≡ false
 known c = sym (c .before .unknown-choice .ensures) ∙ c .if2 .left
 
-table-cause-requires : tie.Need-table-cause-requires
-table-cause-requires c κs = search needs
-
 returns : tie.Need-returns
 returns c = table-refuses _ _ _ _ (c .before .table-cause .ensures) (c .if1 .taken)
-
-unknown-choice-requires : tie.Need-unknown-choice-requires
-unknown-choice-requires c κs = search needs
 
 returns-2 : tie.Need-returns-2
 returns-2 c =
@@ -59,9 +53,9 @@ pub job-cause-spec : {M : Type 1} → statement M
 job-cause-spec =
     tie.close
     (tie.spec
-    table-cause-requires
+    (λ c κs. search needs)
     returns
-    unknown-choice-requires
+    (λ c κs. search needs)
     returns-2
     wrong-start-requires
     returns-3

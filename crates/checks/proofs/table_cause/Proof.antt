@@ -61,17 +61,11 @@ legs c =
     (turned _ _ (small .small .ensures) ∙ c .before .before .if3 .left)
     (turned _ _ (c .before .diagonal .ensures) ∙ c .if4 .left)
 
-wrong-n-requires : tie.Need-wrong-n-requires
-wrong-n-requires c κs = search needs
-
 returns : tie.Need-returns
 returns c = table-first _ _ (sym (c .before .wrong-n .ensures) ∙ c .if1 .taken)
 
 add-side : tie.Need-add-side
 add-side c = omega (arith, few c)
-
-cast-side : tie.Need-cast-side
-cast-side c = search needs
 
 mul-if2 : tie.Need-mul-if2
 mul-if2 c =
@@ -80,9 +74,6 @@ mul-if2 c =
 
 returns-2 : tie.Need-returns-2
 returns-2 c = table-second _ _ (stops (c .before)) (other-area _ _ (λ e. c .if2 .taken (omega arith)))
-
-small-requires : tie.Need-small-requires
-small-requires c κs = search needs
 
 returns-3 : tie.Need-returns-3
 returns-3 c =
@@ -104,13 +95,13 @@ pub table-cause-spec : {M : Type 1} → statement M
 table-cause-spec =
     tie.close
     (tie.spec
-    wrong-n-requires
+    (λ c κs. search needs)
     returns
     add-side
-    cast-side
+    (λ c. search needs)
     mul-if2
     returns-2
-    small-requires
+    (λ c κs. search needs)
     returns-3
     diagonal-requires
     returns-4

@@ -1,5 +1,5 @@
 -- `costs` meets its contract: a walk of its MIR, by hand. `read` is called on the slice and the index (`Reading`), and `figures_of` on the
--- numbers of what is found and on the table, whose slice is had twice too. All that the proof knows of the two is that each meets its
+-- words of what is found and on the table, whose slice is had twice too. All that the proof knows of the two is that each meets its
 -- contract.
 use mathlib.Core.Path.{_≡_, refl, _∙_}
 use Prim.Native.Nat.{ℕ, _<_, _^_}
@@ -43,14 +43,14 @@ use Rattle.stops.proofs.node_record.Record as T
 use Rattle.answer.specs.declared.Job.{Job}
 use Rattle.answer.proofs.Job as J
 use Rattle.answer.proofs.Job.Laws as J′
-use Rattle.inspection.specs.Code.{ofNumbers}
+use Rattle.inspection.specs.Code.{ofFour}
 use Rattle.node_answers.specs.Answers.{isInside, recordAt, figures}
 use Rattle.node_answers.specs.declared.Found.{Found}
 use Rattle.node_answers.specs.declared.Figures.{Figures}
 use Rattle.node_answers.proofs.Figures as R
 use Rattle.node_answers.proofs.Figures.Laws as R′
 use Rattle.node_records.proofs.Walk.{local, part, inner, places, frees-all, hears, own-u32, own-usize, own-bool}
-use Rattle.node_records.proofs.Reading.{Numbers, numbers, found-typed, ReadAt, slice, owned-slice, reads-record}
+use Rattle.node_records.proofs.Reading.{Numbers, fits-words, found-typed, ReadAt, slice, owned-slice, reads-record}
 use Rattle.inspection.proofs.FigureLaws.{figures-found}
 use Rattle.node_records.proofs.read.Symbol as read-def
 use Rattle.node_records.proofs.read.Symbol.{name as #read}
@@ -112,7 +112,7 @@ module _ {M : Type 1} (𝓤 : URA M) (H : Heap 𝓤) (A : Atoms 𝓤) (mem : Mem
 
     -- what it answers, and of what it ensures the clause alone
     abbrev answer : Figures
-    answer = figures (r .inside) (ofNumbers (r .node .size) (r .node .set) (r .node .first) (r .node .second)) job (t .now)
+    answer = figures (r .inside) (ofFour (r .node .size) (r .node .set) (r .node .first) (r .node .second)) job (t .now)
 
     abbrev Ensured : Figures → SProp 𝓤
     Ensured u = ensured 𝓤 H A callee.ended (callee.clauses 𝓤 H A mem run) (κ, tt) (to .0 .3) tt u
@@ -202,7 +202,7 @@ module _
         move ! (3 ∷ []) $ use1 W (‵ Own′ ⊛ ‵ Own′) (shr-slice-copy 𝓤 H A W (named 0) κ′ u32 .twice t (v′ ∷ [])) $ split ! $
         move ! (4 ∷ 0 ∷ []) $
         use2 W (raw (Callee 𝓤 H A mem run .pre (to 𝓤 H A mem run κ′ q′ r job t)))
-        (asked 𝓤 H A mem run κ′ q′ r job t W isJ (numbers r is)) $
+        (asked 𝓤 H A mem run κ′ q′ r job t W isJ (fits-words r is)) $
         -- [what is asked; what the table owns; the pool's token; what the slice owns; true; _5; …; _0; …]
         calls-at ! fm (Callee 𝓤 H A mem run) known (to 𝓤 H A mem run κ′ q′ r job t)
         (and-then ! (part ! 5 5 refl refl (whole !))

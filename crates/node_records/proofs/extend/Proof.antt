@@ -1,5 +1,5 @@
 -- `extend` meets its contract: a walk of its MIR, by hand. Inside, the borrow is opened and record i taken out of the row, as in `write`; it
--- is copied out and taken apart, `extended_of` is called on its numbers while the borrow stays open, and what it answers is stored in the
+-- is copied out and taken apart, `extended_of` is called on its words while the borrow stays open, and what it answers is stored in the
 -- record's place. All that the proof knows of the callee is that it meets its contract. Past the end nothing is opened.
 use mathlib.Core.Path.{_≡_, refl, sym, ap, subst}
 use mathlib.Core.Bool.{true, false}

@@ -1,5 +1,5 @@
 -- `is_node` meets its contract: a walk of its MIR, by hand. `read` is called on the slice and the index (`Reading`), and `verdict_of` on the
--- numbers of what is found. All that the proof knows of the two is that each meets its contract.
+-- words of what is found. All that the proof knows of the two is that each meets its contract.
 use mathlib.Core.Path.{_≡_, refl, _∙_}
 use Prim.Native.Nat.{ℕ, _<_, _^_}
 use mathlib.Core.List.{List, [], _∷_}
@@ -38,7 +38,7 @@ use denote.Triple.Walked.{says, Stays, stay-none-slice, stay-none, walkOf, AllGo
 use denote.Triple.Walked.{walk-meets}
 use Rattle.stops.specs.declared.node_record.Record.{Record}
 use Rattle.stops.proofs.node_record.Record as T
-use Rattle.inspection.specs.Code.{ofNumbers}
+use Rattle.inspection.specs.Code.{ofFour}
 use Rattle.node_answers.specs.Nodes.{flownStops, isRecordOf, isNode}
 use Rattle.node_answers.specs.Answers.{isInside, recordAt, found, verdict}
 use Rattle.node_answers.specs.declared.Found.{Found}
@@ -46,7 +46,7 @@ use Rattle.node_answers.specs.declared.Verdict.{Verdict}
 use Rattle.node_answers.proofs.Verdict as R
 use Rattle.node_answers.proofs.Verdict.Laws as R′
 use Rattle.node_records.proofs.Walk.{local, part, inner, places, frees-all, hears, own-u32, own-usize, own-bool}
-use Rattle.node_records.proofs.Reading.{Numbers, numbers, found-typed, ReadAt, slice, owned-slice, reads-record}
+use Rattle.node_records.proofs.Reading.{Numbers, fits-words, found-typed, ReadAt, slice, owned-slice, reads-record}
 use Rattle.node_records.proofs.read.Symbol as read-def
 use Rattle.node_records.proofs.read.Symbol.{name as #read}
 use Rattle.node_records.proofs.read.Met as read-thm
@@ -90,7 +90,7 @@ module _ {M : Type 1} (𝓤 : URA M) (H : Heap 𝓤) (A : Atoms 𝓤) (mem : Mem
 
   -- what it answers, and of what it ensures the clause alone
   abbrev answer : Found → ℕ → Verdict
-  answer r n = verdict (r .inside) (ofNumbers (r .node .size) (r .node .set) (r .node .first) (r .node .second)) n
+  answer r n = verdict (r .inside) (ofFour (r .node .size) (r .node .set) (r .node .first) (r .node .second)) n
 
   abbrev Ensured : Found → ℕ → Verdict → SProp 𝓤
   Ensured r n u = ensured 𝓤 H A callee.ended (callee.clauses 𝓤 H A mem run) tt (to r n .0 .3) tt u
@@ -111,9 +111,9 @@ module _ {M : Type 1} (𝓤 : URA M) (H : Heap 𝓤) (A : Atoms 𝓤) (mem : Mem
 -- the answer is that of record i
 answers :
     (ys : List Record) (i : ℕ) (r : Found) (n : ℕ) (u : Verdict) → r ≡ found ys i
-    → u ≡ verdict (r .inside) (ofNumbers (r .node .size) (r .node .set) (r .node .first) (r .node .second)) n
+    → u ≡ verdict (r .inside) (ofFour (r .node .size) (r .node .set) (r .node .first) (r .node .second)) n
     → u ≡ verdict (isInside ys i) (recordAt ys i) n
-unfolding found verdict isNode isRecordOf flownStops ofNumbers
+unfolding found verdict isNode isRecordOf flownStops ofFour
 answers ys i r n u e f = f ∙ rw e refl
 
 module _
@@ -161,7 +161,7 @@ module _
         reads-record 𝓤 H A mem run κ q s i W ! fm known-read gi (and-then ! (local ! 2 4 refl) (and-then ! (local ! 2 4 refl) (no-more !)))
         (λ r e is.
         land ! (from ! (stop !)) (init ! 2 refl (found-typed 𝓤 H A W r is)) $
-        use0 W (raw (Callee 𝓤 H A mem run .pre (to 𝓤 H A mem run r n))) (asked 𝓤 H A mem run W r n gn (numbers r is)) $
+        use0 W (raw (Callee 𝓤 H A mem run .pre (to 𝓤 H A mem run r n))) (asked 𝓤 H A mem run W r n gn (fits-words r is)) $
         calls-at ! fm (Callee 𝓤 H A mem run) known (to 𝓤 H A mem run r n)
         (and-then ! (part ! 3 4 refl refl (whole !))
         (and-then ! (inner ! 3 4 refl refl refl refl (whole !))

@@ -1,4 +1,4 @@
--- `four_suspect` meets its contract: the first record that is a suspect decides, else the last one. Assumes nothing.
+-- `four_suspect` meets its contract: the first record that is a suspect decides, else the last one.
 use mathlib.Core.Path.{_∙_}
 use Prim.Native.Nat.{_+_}
 use native.Mathlib.Omega.{arith}

@@ -1,5 +1,5 @@
 -- `next_gone` meets its contract. The loop's invariant: each record from `from` to i stays, as `stays` says of a suspect and as holds of
--- the others. Assumes nothing.
+-- the others.
 use mathlib.Core.Path.{_≡_}
 use mathlib.Core.Bool.{true}
 use Prim.Native.Nat.{_+_, _-_, _≤_}

@@ -1,4 +1,4 @@
--- `next_suspect` meets its contract. The invariant of both loops: no record from `from` to i is a suspect. Assumes nothing.
+-- `next_suspect` meets its contract. The invariant of both loops: no record from `from` to i is a suspect.
 use mathlib.Core.Path.{_≡_}
 use mathlib.Core.Bool.{true, false, not}
 use Prim.Native.Nat.{_+_, _-_, _≤_}

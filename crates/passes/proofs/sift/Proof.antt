@@ -1,4 +1,4 @@
--- `sift` meets its contract. The loop's invariant is `Sifted` itself, up to i. Assumes nothing.
+-- `sift` meets its contract. The loop's invariant is `Sifted` itself, up to i.
 use mathlib.Core.Path.{_≡_, refl}
 use Prim.Native.Nat.{_-_, _≤_}
 use native.Mathlib.Omega.{arith}

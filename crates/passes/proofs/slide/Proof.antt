@@ -1,4 +1,4 @@
--- `slide` meets its contract: as `sift`, with a test that every record passes. Assumes nothing.
+-- `slide` meets its contract: as `sift`, with a test that every record passes.
 use mathlib.Core.Path.{_≡_, refl}
 use Prim.Native.Nat.{_-_, _≤_}
 use native.Mathlib.Omega.{arith}

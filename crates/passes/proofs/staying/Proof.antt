@@ -1,4 +1,4 @@
--- `staying` meets its contract. The loop's invariant: `count` is how many of the records from `from` to i stay active. Assumes nothing.
+-- `staying` meets its contract. The loop's invariant: `count` is how many of the records from `from` to i stay active.
 use mathlib.Core.Path.{_≡_}
 use mathlib.Core.Logic.{⊎-elim}
 use Prim.Native.Nat.{_-_, _≤_}

@@ -1,4 +1,4 @@
--- `suspect` meets its contract. Assumes nothing.
+-- `suspect` meets its contract.
 use native.Mathlib.Omega.{arith}
 use borrow.Author.Needs.{needs}
 use borrow.Author.Tests.{lt-ltb, le-ltb}

@@ -1,4 +1,4 @@
--- `unbeaten` meets its contract. The loop's invariant: none of the first k kids dominates x. Assumes nothing.
+-- `unbeaten` meets its contract. The loop's invariant: none of the first k kids dominates x.
 use mathlib.Core.Path.{_≡_, refl}
 use mathlib.Core.Bool.{false}
 use Prim.Native.Nat.{_-_, _≤_}

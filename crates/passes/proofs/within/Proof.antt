@@ -1,4 +1,4 @@
--- `within` meets its contract. The loop's invariant: the first k records are sifted, and the slice keeps its length. Assumes nothing.
+-- `within` meets its contract. The loop's invariant: the first k records are sifted, and the slice keeps its length.
 use mathlib.Core.Path.{_≡_, refl}
 use Prim.Native.Nat.{_-_, _≤_}
 use native.Mathlib.Omega.{arith}

@@ -1,4 +1,4 @@
--- `beats` meets its contract: records of other sets do not dominate, and else `dominates` decides. Assumes nothing.
+-- `beats` meets its contract: records of other sets do not dominate, and else `dominates` decides.
 use Prim.Native.Nat.{_+_, _*_, _<_}
 use native.Mathlib.Omega.{arith}
 use lib.ListN.{length}

@@ -1,4 +1,4 @@
--- `four_near` meets its contract: the first record that is near decides, else the last one. Assumes nothing.
+-- `four_near` meets its contract: the first record that is near decides, else the last one.
 use mathlib.Core.Path.{_∙_}
 use Prim.Native.Nat.{_+_}
 use native.Mathlib.Omega.{arith}

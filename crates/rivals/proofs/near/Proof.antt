@@ -1,4 +1,4 @@
--- `near` meets its contract: two numbers side by side are the same if each is. Assumes nothing.
+-- `near` meets its contract: two numbers side by side are the same if each is.
 use native.Mathlib.Omega.{arith}
 use borrow.Author.Needs.{needs}
 use Rattle.rivals.specs.Code.{near}

@@ -1,4 +1,4 @@
--- `next_near` meets its contract. The invariant of both loops: no record from `from` to i is near. Assumes nothing.
+-- `next_near` meets its contract. The invariant of both loops: no record from `from` to i is near.
 use mathlib.Core.Path.{_≡_}
 use mathlib.Core.Bool.{true, false, not}
 use Prim.Native.Nat.{_+_, _-_, _≤_}

@@ -1,4 +1,4 @@
--- `rival` meets its contract: `beats` decides dominance, and the bound is read where the record's bound stands. Assumes nothing.
+-- `rival` meets its contract: `beats` decides dominance, and the bound is read where the record's bound stands.
 use mathlib.Core.Bool.{and-true, and-false}
 use Prim.Native.Nat.{_+_, _*_, _<_}
 use native.Mathlib.Omega.{arith}

@@ -1,6 +1,6 @@
 -- `undominated` meets its contract. The inner loop's invariant: no record of w passed so far is a rival of x. The outer one's: the first
 -- k kids are sifted, and the slice keeps its length. A rival at i decides that x is left out, so `continue` leaves no more to show than
--- that. Assumes nothing.
+-- that.
 use mathlib.Core.Path.{_≡_, refl, _∙_}
 use mathlib.Core.Bool.{Bool, true, false, _&&_}
 use mathlib.Core.List.{List}

@@ -1,4 +1,4 @@
--- `unrivalled` meets its contract: of no child none is left, and the buffer that it lends has room for 32 records. Assumes nothing.
+-- `unrivalled` meets its contract: of no child none is left, and the buffer that it lends has room for 32 records.
 use borrow.Author.Needs.{needs}
 use lib.Seq.{slice}
 use Rattle.records.specs.Code.{records}

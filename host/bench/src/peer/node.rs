@@ -1,4 +1,4 @@
-//! A node as the six numbers of its record, its bound and its children.
+//! A node as the six words of its record, its bound and its children.
 
 use gondamuy::{MOST_STOPS, PLACES, RECORD_WORDS};
 

@@ -30,12 +30,6 @@ returns c =
     all-fails _ (stops n) _ _ _ (between-next n _ (s .loop-test .taken)) (s .before .loop .inv .1)
     (ne-eqb _ 1 (λ e. c .if1 .taken (c .before .times .ensures ∙ e)))
 
-add-s : tie.Need-add-s Inv-loop μ-loop
-add-s c = omega arith
-
-loop-less : tie.Need-loop-less Inv-loop μ-loop
-loop-less c = omega arith
-
 loop-again : tie.Need-loop-again Inv-loop μ-loop
 loop-again c =
     let s = c .before .before in
@@ -57,7 +51,7 @@ each-once-spec =
     loop-holds
     times-requires
     returns
-    add-s
-    loop-less
+    (λ c. omega arith)
+    (λ c. omega arith)
     loop-again
     returns-2)

@@ -20,9 +20,6 @@ abbrev μ-loop : tie.MeasureT-loop
 loop-holds : tie.Need-loop-holds Inv-loop μ-loop
 loop-holds c = (omega arith, refl)
 
-shared-slice-read-s : tie.Need-shared-slice-read-s Inv-loop μ-loop
-shared-slice-read-s c = omega arith
-
 cast-s : tie.Need-cast-s Inv-loop μ-loop
 cast-s c = omega (arith, c .shared-slice-known .given (c .before .before .loop .k))
 
@@ -37,12 +34,6 @@ returns-2 c =
     let s = c .before .before .before in
     all-fails _ (now (s .before .before .args .x)) _ _ _ (drop-next _ _ (s .loop-test .taken)) (s .before .loop .inv .1)
     (other-flown (s .before .before .args .n) _ (inr (c .if2 .taken)))
-
-add-k : tie.Need-add-k Inv-loop μ-loop
-add-k c = omega arith
-
-loop-less : tie.Need-loop-less Inv-loop μ-loop
-loop-less c = omega arith
 
 loop-again : tie.Need-loop-again Inv-loop μ-loop
 loop-again c =
@@ -62,11 +53,11 @@ only-stops-spec =
     Inv-loop
     μ-loop
     loop-holds
-    shared-slice-read-s
+    (λ c. omega arith)
     cast-s
     returns
     returns-2
-    add-k
-    loop-less
+    (λ c. omega arith)
+    (λ c. omega arith)
     loop-again
     returns-3)

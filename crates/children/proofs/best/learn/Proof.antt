@@ -1,4 +1,4 @@
--- `learn` meets its contract. The invariant: the numbers stand for U's order after the first k children. The measure is how many are
+-- `learn` meets its contract. The invariant: what is known stands for U and its order after the first k children. The measure is how many are
 -- left.
 use mathlib.Core.Path.{_≡_, sym, subst, _∙_}
 use Prim.Native.Nat.{ℕ, _-_, _≤_}

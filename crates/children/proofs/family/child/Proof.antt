@@ -1,4 +1,4 @@
--- `family::child` meets its contract: the numbers of b have room for one of the stops that it leaves, and what is made is the
+-- `family::child` meets its contract: the words of b have room for one of the stops that it leaves, and what is made is the
 -- child (`KidLaws`).
 use mathlib.Core.Path.{_≡_, ap, _∙_}
 use native.Mathlib.Omega.{arith}

@@ -9,7 +9,7 @@ use Rattle.orders.proofs.Sets.{size-left}
 use Rattle.stops.specs.Code.{stopsIn}
 use Rattle.stops.specs.declared.node_record.Record.{Record}
 use Rattle.records.proofs.OrderWords.{stop-range}
-use Rattle.inspection.specs.Code.{ofNumbers}
+use Rattle.inspection.specs.Code.{ofFour}
 use Rattle.node_answers.specs.Nodes.{flownStops}
 use Rattle.node_answers.proofs.StopLaws.{stopOf}
 use Rattle.inspection.proofs.OrderLaws.{stop-same}
@@ -20,7 +20,7 @@ use Rattle.inspection.proofs.check.is_record.Statement.{statement}
 use Rattle.inspection.proofs.check.is_record.Tie as tie
 
 abbrev Inv-loop : tie.InvT-loop
-Inv-loop size set first second n x₀ k₀ x k = Retraced n (ofNumbers size set first second) x k
+Inv-loop size set first second n x₀ k₀ x k = Retraced n (ofFour size set first second) x k
 
 abbrev μ-loop : tie.MeasureT-loop
 μ-loop size set first second n x₀ k₀ x k = size - k
@@ -34,7 +34,7 @@ turn c = c .before .before .before
 
 -- the record
 abbrev given : tie.Start Inv-loop μ-loop → Record
-given c = ofNumbers (c .args .size) (c .args .set) (c .args .first) (c .args .second)
+given c = ofFour (c .args .size) (c .args .set) (c .args .first) (c .args .second)
 
 returns : tie.Need-returns Inv-loop μ-loop
 returns c = no-node _ _ (λ q. absurd (omega (arith, q .some)))
@@ -43,7 +43,7 @@ returns-2 : tie.Need-returns-2 Inv-loop μ-loop
 returns-2 c = no-node _ _ (λ q. absurd (omega (arith, q .few)))
 
 returns-3 : tie.Need-returns-3 Inv-loop μ-loop
-unfolding ofNumbers
+unfolding ofFour
 returns-3 c =
     let s = c .before .before .before in
     no-node (s .args .n) (given s) (λ q. absurd (omega (arith, q .size-is, size-left (s .args .n) (flownStops (given s)))))
@@ -52,16 +52,16 @@ empty-requires : tie.Need-empty-requires Inv-loop μ-loop
 empty-requires c κs = tt
 
 loop-holds : tie.Need-loop-holds Inv-loop μ-loop
-unfolding ofNumbers
+unfolding ofFour
 loop-holds c = rw (c .empty .ensures) (retraced-starts (omega arith) (omega arith) (omega arith))
 
 -- the loop goes on below the size
 below : (c : tie.In-loop Inv-loop μ-loop) → c .before .loop .k < given (entered (c .before)) .size
-unfolding ofNumbers
+unfolding ofFour
 below c = c .loop-test .taken
 
 stop-at-requires : tie.Need-stop-at-requires Inv-loop μ-loop
-unfolding ofNumbers
+unfolding ofFour
 stop-at-requires c κs = omega (arith, c .before .loop .inv .short, c .before .loop .inv .few)
 
 -- what `stop_at` gives is the record's stop
@@ -99,12 +99,6 @@ extended-requires c κs =
     let s = stop (h .before .before) in
     rw s (stop-fits (turn h .before .loop .inv) (below (turn h)) (omega (arith, s)) (new c))
 
-add-k : tie.Need-add-k Inv-loop μ-loop
-add-k c = omega arith
-
-loop-less : tie.Need-loop-less Inv-loop μ-loop
-loop-less c = omega arith
-
 loop-again : tie.Need-loop-again Inv-loop μ-loop
 loop-again c =
     let h = c .before .before in
@@ -112,19 +106,19 @@ loop-again c =
     rw (c .extended .ensures, s) (stop-added (turn h .before .loop .inv) (below (turn h)) (omega (arith, s)) (new (c .before)))
 
 returns-6 : tie.Need-returns-6 Inv-loop μ-loop
-unfolding ofNumbers
+unfolding ofFour
 returns-6 c = other-set (c .before .before .before .loop .inv) (c .before .before .loop-test .left) (c .if6 .taken)
 
--- from the first number of the order back to what comes behind the loop
+-- from the first word of the order back to what comes behind the loop
 abbrev ended : tie.After-struct-known2 Inv-loop μ-loop → tie.After-loop Inv-loop μ-loop
 ended c = c .before .before .before
 
 returns-7 : tie.Need-returns-7 Inv-loop μ-loop
-unfolding ofNumbers
+unfolding ofFour
 returns-7 c = let e = ended (c .before) in other-first (e .before .loop .inv) (e .loop-test .left) (c .if7 .taken)
 
 returns-8 : tie.Need-returns-8 Inv-loop μ-loop
-unfolding ofNumbers
+unfolding ofFour
 returns-8 c =
     let f = c .before .before in
     let e = ended f in
@@ -146,8 +140,8 @@ is-record-spec =
     holds-requires
     returns-5
     extended-requires
-    add-k
-    loop-less
+    (λ c. omega arith)
+    (λ c. omega arith)
     loop-again
     returns-6
     returns-7

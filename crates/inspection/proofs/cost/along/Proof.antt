@@ -3,23 +3,20 @@
 use Prim.Native.Nat.{_-_}
 use mathlib.Core.Path.{sym, _∙_}
 use native.Mathlib.Omega.{arith}
-use Rattle.inspection.specs.Code.{ofNumbers}
+use Rattle.inspection.specs.Code.{ofFour}
 use Rattle.inspection.proofs.OrderLaws.{stop-same, size-same}
 use Rattle.inspection.proofs.PathLaws.{Along, along-starts, along-fits, along-more, along-ends}
 use Rattle.inspection.proofs.cost.along.Statement.{statement}
 use Rattle.inspection.proofs.cost.along.Tie as tie
 
 abbrev Inv-loop : tie.InvT-loop
-Inv-loop t size first second path₀ place₀ k₀ path place k = Along t (ofNumbers size 0 first second) size path place k
+Inv-loop t size first second path₀ place₀ k₀ path place k = Along t (ofFour size 0 first second) size path place k
 
 abbrev μ-loop : tie.MeasureT-loop
 μ-loop t size first second path₀ place₀ k₀ path place k = size - k
 
 loop-holds : tie.Need-loop-holds Inv-loop μ-loop
 loop-holds c = along-starts (sym (size-same (c .args .size) 0 (c .args .first) (c .args .second))) (c .pre .0)
-
-stop-at-requires : tie.Need-stop-at-requires Inv-loop μ-loop
-stop-at-requires c κs = omega arith
 
 add-path : tie.Need-add-path Inv-loop μ-loop
 add-path c =
@@ -29,12 +26,6 @@ add-path c =
           rw (c .further .ensures)
           (along-fits (s .loop .inv) (s .before .pre .1) (c .before .before .loop-test .taken) (c .before .stop-at .result));
     }
-
-add-k : tie.Need-add-k Inv-loop μ-loop
-add-k c = omega arith
-
-loop-less : tie.Need-loop-less Inv-loop μ-loop
-loop-less c = omega arith
 
 loop-again : tie.Need-loop-again Inv-loop μ-loop
 loop-again c =
@@ -54,10 +45,10 @@ along-spec =
     Inv-loop
     μ-loop
     loop-holds
-    stop-at-requires
+    (λ c κs. omega arith)
     (λ c κs. omega arith)
     add-path
-    add-k
-    loop-less
+    (λ c. omega arith)
+    (λ c. omega arith)
     loop-again
     returns)

@@ -3,14 +3,14 @@ use mathlib.Core.Path.{sym, _∙_}
 use borrow.Author.Needs.{needs}
 use borrow.Author.Tests.{not-true, not-false}
 use Rattle.stops.specs.declared.node_record.Record.{Record}
-use Rattle.inspection.specs.Code.{ofNumbers}
+use Rattle.inspection.specs.Code.{ofFour}
 use Rattle.inspection.proofs.FigureLaws.{figures-outside, figures-refused, figures-other}
 use Rattle.inspection.proofs.cost.figures_of.Statement.{statement}
 use Rattle.inspection.proofs.cost.figures_of.Tie as tie
 
 -- the record
 abbrev x : tie.Start → Record
-x c = ofNumbers (c .args .size) (c .args .set) (c .args .first) (c .args .second)
+x c = ofFour (c .args .size) (c .args .set) (c .args .first) (c .args .second)
 
 no-figures-requires : tie.Need-no-figures-requires
 no-figures-requires c κs = tt
@@ -20,9 +20,6 @@ returns c =
     let s = c .before .before .before in
     rw (not-true (s .args .inside) (c .before .if1 .taken)) (c .no-figures .ensures ∙ figures-outside (x s) (s .args .job)
     (s .args .table .now))
-
-slice-aggregate-job-cause : tie.Need-slice-aggregate-job-cause
-slice-aggregate-job-cause c = search needs
 
 job-cause-requires : tie.Need-job-cause-requires
 job-cause-requires c κs = tt
@@ -75,7 +72,7 @@ figures-of-spec =
     (tie.spec
     no-figures-requires
     returns
-    slice-aggregate-job-cause
+    (λ c. search needs)
     job-cause-requires
     no-figures-requires-2
     returns-2

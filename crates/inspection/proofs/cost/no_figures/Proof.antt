@@ -1,4 +1,4 @@
--- `cost::no_figures` meets its contract: the five numbers are those of `noFigures`.
+-- `cost::no_figures` meets its contract: the five fields are those of `noFigures`.
 use mathlib.Core.Path.{refl}
 use Rattle.node_answers.specs.Answers.{noFigures}
 use Rattle.inspection.proofs.cost.no_figures.Statement.{statement}

@@ -12,7 +12,7 @@ use Rattle.stops.proofs.SetBits.{stopsIn-few}
 use Rattle.stops.proofs.StopsWalk.{ahead-small}
 use Rattle.records.proofs.Mask.{rest-small}
 use Rattle.node_answers.specs.Nodes.{flownStops}
-use Rattle.inspection.specs.Code.{ofNumbers}
+use Rattle.inspection.specs.Code.{ofFour}
 use Rattle.inspection.proofs.FigureLaws.{job-few, job-square, job-cheap, one-shifted, node-short, set-within, figures-node}
 use Rattle.inspection.proofs.cost.reckoned.Statement.{statement}
 use Rattle.inspection.proofs.cost.reckoned.Tie as tie
@@ -29,13 +29,10 @@ started c = entered (loaded (c .before))
 
 -- the record
 abbrev x : tie.Start → Record
-x c = ofNumbers (c .args .size) (c .args .set) (c .args .first) (c .args .second)
+x c = ofFour (c .args .size) (c .args .set) (c .args .first) (c .args .second)
 
 few : (c : tie.Start) → c .args .job .n ≤ mostStops
 few c = job-few (c .args .job) (c .args .table .now) (c .pre .1)
-
-cast-rows : tie.Need-cast-rows
-cast-rows c = search needs
 
 rows-requires : tie.Need-rows-requires
 rows-requires c κs =
@@ -47,7 +44,7 @@ cheap : (c : tie.After-rows) → Cheap (c .rows .result)
 cheap c = let s = entered c in rw (c .rows .ensures) (job-cheap (s .args .job) (s .args .table .now) (s .pre .1))
 
 along-requires : tie.Need-along-requires
-unfolding ofNumbers
+unfolding ofFour
 along-requires c κs =
     let s = entered (c .before) in
     (omega (arith, node-short (s .args .job .n) (x s) (s .pre .0), few s), cheap (c .before))
@@ -63,7 +60,7 @@ sub-rest : tie.Need-sub-rest
 sub-rest c = let s = started c in omega (arith, shifted s, pow-pos (s .args .job .n))
 
 sub-rest-2 : tie.Need-sub-rest-2
-unfolding ofNumbers
+unfolding ofFour
 sub-rest-2 c = let s = started c in omega (arith, shifted s, set-within (s .args .job .n) (x s) (s .pre .0))
 
 -- the stops to come are those that the set leaves
@@ -89,7 +86,7 @@ add-t14 c =
     )
 
 returns : tie.Need-returns
-unfolding flownStops ofNumbers
+unfolding flownStops ofFour
 returns c =
     let w = c .before .before .before .before in
     let s = entered (loaded w) in
@@ -102,7 +99,7 @@ pub reckoned-spec : {M : Type 1} → statement M
 reckoned-spec =
     tie.close
     (tie.spec
-    cast-rows
+    (λ c. search needs)
     rows-requires
     along-requires
     shl-rest

@@ -17,9 +17,6 @@ use Rattle.inspection.proofs.extend.fits_on.Tie as tie
 abbrev asked : tie.After-struct-known2 → tie.Else1
 asked c = c .before .before .before
 
-is-record-requires : tie.Need-is-record-requires
-is-record-requires c κs = search needs
-
 returns : tie.Need-returns
 returns c =
     let r = c .before in
@@ -43,9 +40,6 @@ returns-3 c =
     let a = asked (c .before) .before .before .args in
     unfit-stop (a .x) (a .added .stop) (a .added .leg) (inr (c .if3 .taken))
 
-holds-requires : tie.Need-holds-requires
-holds-requires c κs = search needs
-
 -- the stop is one of 1 to 16
 some : (c : tie.Else3) → 1 ≤ asked (c .before) .before .before .args .added .stop
 some c = let h = c .before .before .if2 .left in omega arith
@@ -57,9 +51,6 @@ returns-4 c =
     let a = r .before .before .args in
     unfit-flown (a .x) (a .added .stop) (a .added .leg) (node r) (some e) (e .if3 .left)
     (sym (c .before .holds .ensures) ∙ c .if4 .taken)
-
-sub-result : tie.Need-sub-result
-sub-result c = search needs
 
 returns-5 : tie.Need-returns-5
 returns-5 c =
@@ -74,11 +65,11 @@ pub fits-on-spec : {M : Type 1} → statement M
 fits-on-spec =
     tie.close
     (tie.spec
-    is-record-requires
+    (λ c κs. search needs)
     returns
     returns-2
     returns-3
-    holds-requires
+    (λ c κs. search needs)
     returns-4
-    sub-result
+    (λ c. search needs)
     returns-5)

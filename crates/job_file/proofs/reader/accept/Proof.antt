@@ -25,47 +25,11 @@ found c =
       long = wide .wide .ensures .0;
     }
 
-shared-slice-read-wide : tie.Need-shared-slice-read-wide
-shared-slice-read-wide c = omega arith
-
-wide-requires : tie.Need-wide-requires
-wide-requires c κs = omega arith
-
-area-requires : tie.Need-area-requires
-area-requires c κs = omega arith
-
-table-of-requires : tie.Need-table-of-requires
-table-of-requires c κs = omega arith
-
-mul-from : tie.Need-mul-from
-mul-from c = omega arith
-
-cast-to : tie.Need-cast-to
-cast-to c = omega arith
-
-add-to : tie.Need-add-to
-add-to c = omega arith
-
-sub-order : tie.Need-sub-order
-sub-order c = omega arith
-
-part-order-start : tie.Need-part-order-start
-part-order-start c = omega arith
-
-part-order-end : tie.Need-part-order-end
-part-order-end c = omega arith
-
 array-share-prefix-table : tie.Need-array-share-prefix-table
 array-share-prefix-table c = omega arith
 
 slice-aggregate-job-cause : tie.Need-slice-aggregate-job-cause
 slice-aggregate-job-cause c = sym (length-take-le _ (c .before .before .table-of .result) (array-share-prefix-table (c .before)))
-
-job-cause-requires : tie.Need-job-cause-requires
-job-cause-requires c κs = omega arith
-
-refused-requires : tie.Need-refused-requires
-refused-requires c κs = omega arith
 
 returns : tie.Need-returns
 returns c =
@@ -84,20 +48,20 @@ pub accept-spec : {M : Type 1} → statement M
 accept-spec =
     tie.close
     (tie.spec
-    shared-slice-read-wide
-    wide-requires
-    area-requires
-    table-of-requires
-    mul-from
-    cast-to
-    add-to
-    sub-order
-    part-order-start
-    part-order-end
+    (λ c. omega arith)
+    (λ c κs. omega arith)
+    (λ c κs. omega arith)
+    (λ c κs. omega arith)
+    (λ c. omega arith)
+    (λ c. omega arith)
+    (λ c. omega arith)
+    (λ c. omega arith)
+    (λ c. omega arith)
+    (λ c. omega arith)
     array-share-prefix-table
     slice-aggregate-job-cause
-    job-cause-requires
-    refused-requires
+    (λ c κs. omega arith)
+    (λ c κs. omega arith)
     returns
     start-of-requires
     returns-2)

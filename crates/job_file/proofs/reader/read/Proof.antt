@@ -41,32 +41,8 @@ stops c =
     let s = start c in
     c .wrong-n .ensures ∙ same-stops (file s) (trailer s) (last s) (omega arith) _ (stands c)
 
-refused-requires : tie.Need-refused-requires
-refused-requires c κs = omega arith
-
 returns : tie.Need-returns
 returns c = c .refused .ensures ∙ ap returned (short-file _ (c .before .if1 .taken))
-
-sub-end : tie.Need-sub-end
-sub-end c = omega arith
-
-sub-trailer : tie.Need-sub-trailer
-sub-trailer c = omega arith
-
-part-trailer-start : tie.Need-part-trailer-start
-part-trailer-start c = omega arith
-
-part-trailer-end : tie.Need-part-trailer-end
-part-trailer-end c = omega arith
-
-job-of-requires : tie.Need-job-of-requires
-job-of-requires c κs = search needs
-
-wrong-n-requires : tie.Need-wrong-n-requires
-wrong-n-requires c κs = omega arith
-
-refused-requires-2 : tie.Need-refused-requires-2
-refused-requires-2 c κs = omega arith
 
 returns-2 : tie.Need-returns-2
 returns-2 c =
@@ -79,9 +55,6 @@ misplaced-requires c κs =
     let w = c .before in
     let s = start w in
     (length-last (file s) (trailer s) (last s) (omega arith), (stands w, few-stops _ (sym (w .wrong-n .ensures) ∙ c .if2 .left)))
-
-refused-requires-3 : tie.Need-refused-requires-3
-refused-requires-3 c κs = omega arith
 
 returns-3 : tie.Need-returns-3
 returns-3 c =
@@ -115,18 +88,18 @@ pub read-spec : {M : Type 1} → statement M
 read-spec =
     tie.close
     (tie.spec
-    refused-requires
+    (λ c κs. omega arith)
     returns
-    sub-end
-    sub-trailer
-    part-trailer-start
-    part-trailer-end
-    job-of-requires
-    wrong-n-requires
-    refused-requires-2
+    (λ c. omega arith)
+    (λ c. omega arith)
+    (λ c. omega arith)
+    (λ c. omega arith)
+    (λ c κs. search needs)
+    (λ c κs. omega arith)
+    (λ c κs. omega arith)
     returns-2
     misplaced-requires
-    refused-requires-3
+    (λ c κs. omega arith)
     returns-3
     accept-requires
     returns-4)

@@ -27,17 +27,11 @@ found c = accepted _ _ (reading c .read .ensures) (left c .if1 .left)
 file-bytes : (c : tie.After-read) → AllBytes (c .before .before .before .args .file .now)
 file-bytes c = slice-bytes _ (λ k. omega (arith, c .before .before .shared-slice-known .given k))
 
-read-requires : tie.Need-read-requires
-read-requires c κs = search needs
-
 returns : tie.Need-returns
 returns c = rewritten-refused _ _ (c .before .before .read .ensures) _ (c .if1 .taken)
 
 area-requires : tie.Need-area-requires
 area-requires c κs = found c .few
-
-cast-stops : tie.Need-cast-stops
-cast-stops c = search needs
 
 array-share-prefix-table : tie.Need-array-share-prefix-table
 array-share-prefix-table c = omega (arith, found (c .before .before) .table, c .before .area .ensures .0)
@@ -51,12 +45,6 @@ array-share-prefix-start c = omega (arith, found (taken c) .start)
 slice-aggregate-write-2 : tie.Need-slice-aggregate-write-2
 slice-aggregate-write-2 c = sym (length-take-le _ (reading (taken (c .before)) .read .result .start) (array-share-prefix-start (c .before)))
 
-write-requires : tie.Need-write-requires
-write-requires c κs = search needs
-
-same-length : tie.Need-same-length
-same-length c = search needs
-
 returns-2 : tie.Need-returns-2
 returns-2 c =
     let write = c .before .before in
@@ -68,14 +56,14 @@ pub rewrite-spec : {M : Type 1} → statement M
 rewrite-spec =
     tie.close
     (tie.spec
-    read-requires
+    (λ c κs. search needs)
     returns
     area-requires
-    cast-stops
+    (λ c. search needs)
     array-share-prefix-table
     slice-aggregate-write
     array-share-prefix-start
     slice-aggregate-write-2
-    write-requires
-    same-length
+    (λ c κs. search needs)
+    (λ c. search needs)
     returns-2)

@@ -5,35 +5,14 @@ use Rattle.job_file.proofs.WriterLaws.{trailer-written}
 use Rattle.job_file.proofs.writer.put_trailer.Statement.{statement}
 use Rattle.job_file.proofs.writer.put_trailer.Tie as tie
 
-put-word-requires : tie.Need-put-word-requires
-put-word-requires c κs = omega arith
-
-put-word-requires-2 : tie.Need-put-word-requires-2
-put-word-requires-2 c κs = omega arith
-
-cast-buffer : tie.Need-cast-buffer
-cast-buffer c = omega arith
-
-slice-write-buffer : tie.Need-slice-write-buffer
-slice-write-buffer c = omega arith
-
 slice-write-buffer-2 : tie.Need-slice-write-buffer-2
 slice-write-buffer-2 c = simp length-set (omega arith)
-
-cast-buffer-2 : tie.Need-cast-buffer-2
-cast-buffer-2 c = omega arith
 
 slice-write-buffer-3 : tie.Need-slice-write-buffer-3
 slice-write-buffer-3 c = simp length-set (omega arith)
 
-cast-buffer-3 : tie.Need-cast-buffer-3
-cast-buffer-3 c = omega arith
-
 slice-write-buffer-4 : tie.Need-slice-write-buffer-4
 slice-write-buffer-4 c = simp length-set (omega arith)
-
-cast-buffer-4 : tie.Need-cast-buffer-4
-cast-buffer-4 c = omega arith
 
 slice-write-buffer-5 : tie.Need-slice-write-buffer-5
 slice-write-buffer-5 c = simp length-set (omega arith)
@@ -54,16 +33,16 @@ pub put-trailer-spec : {M : Type 1} → statement M
 put-trailer-spec =
     tie.close
     (tie.spec
-    put-word-requires
-    put-word-requires-2
-    cast-buffer
-    slice-write-buffer
+    (λ c κs. omega arith)
+    (λ c κs. omega arith)
+    (λ c. omega arith)
+    (λ c. omega arith)
     slice-write-buffer-2
-    cast-buffer-2
+    (λ c. omega arith)
     slice-write-buffer-3
-    cast-buffer-3
+    (λ c. omega arith)
     slice-write-buffer-4
-    cast-buffer-4
+    (λ c. omega arith)
     slice-write-buffer-5
     same-length
     returns)

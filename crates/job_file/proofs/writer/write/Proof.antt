@@ -34,21 +34,12 @@ long c =
     let s = entry c in
     length-file (contents s) (sizes c .square) ∙ rw (sizes c .square)
 
-job-cause-requires : tie.Need-job-cause-requires
-job-cause-requires c κs = omega arith
-
 returns : tie.Need-returns
 unfolding contentsOf
 returns c =
     let answered = c .before in
     let start = answered .before .before .before .before in
     cause-refuses (contents start) (start .args .buffer .now) _ (answered .job-cause .ensures) (c .if1 .taken)
-
-mul-length : tie.Need-mul-length
-mul-length c = omega arith
-
-add-length : tie.Need-add-length
-add-length c = omega arith
 
 add-length-2 : tie.Need-add-length-2
 unfolding contentsOf
@@ -79,9 +70,6 @@ put-file-requires c κs =
       room = omega (arith, c .before .if2 .left, p .square);
     }
 
-same-length : tie.Need-same-length
-same-length c = omega arith
-
 returns-3 : tie.Need-returns-3
 returns-3 c =
     let put = c .before .before in
@@ -93,12 +81,12 @@ pub write-spec : {M : Type 1} → statement M
 write-spec =
     tie.close
     (tie.spec
-    job-cause-requires
+    (λ c κs. omega arith)
     returns
-    mul-length
-    add-length
+    (λ c. omega arith)
+    (λ c. omega arith)
     add-length-2
     returns-2
     put-file-requires
-    same-length
+    (λ c. omega arith)
     returns-3)

@@ -6,7 +6,8 @@ use lib.Seq.{length-take-le}
 use Rattle.job_format.specs.Contents.{area}
 use Rattle.job_format.proofs.LayoutLaws.{area-small}
 use Rattle.printing.specs.Promise.{textOf}
-use Rattle.plan.proofs.OutputLaws.{Accepted, accepted, file-refused, job-printed}
+use Rattle.job_file.proofs.Returns.{Accepted, accepted}
+use Rattle.plan.proofs.OutputLaws.{file-refused, job-printed}
 use borrow.Author.Needs.{needs}
 use Rattle.plan.proofs.output.answer.Statement.{statement}
 use Rattle.plan.proofs.output.answer.Tie as tie

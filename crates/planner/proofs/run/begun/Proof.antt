@@ -1,4 +1,4 @@
--- `begun` meets its contract: the record of e is the only one that is active, and the numbers are those of the start.
+-- `begun` meets its contract: the record of e is the only one that is active, and the counts are those of the start.
 use mathlib.Core.Path.{_∙_, ap}
 use lib.ListN.{set}
 use borrow.Author.Needs.{needs}

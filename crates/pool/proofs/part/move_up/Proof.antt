@@ -1,5 +1,5 @@
 -- `move_up` meets its contract. The loop's invariant: the part is as at entry, but for its first k words, which are those from the
--- seventh on. Assumes nothing.
+-- seventh on.
 use mathlib.Core.Path.{_≡_, refl}
 use Prim.Native.Nat.{_+_, _*_, _-_, _≤_, _<_}
 use native.Mathlib.Omega.{arith}

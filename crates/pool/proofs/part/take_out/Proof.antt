@@ -1,5 +1,5 @@
 -- `take_out` meets its contract: the words that it lends on are the records from i on, and `move_up` gives them back with those behind
--- the first moved up. Assumes nothing.
+-- the first moved up.
 use native.Mathlib.Omega.{arith}
 use lib.ListN.{length-drop}
 use borrow.Author.Needs.{needs}

@@ -1,4 +1,4 @@
--- `write` meets its contract. The loop's invariant: the part is as at entry, but for the first k kids at its front. Assumes nothing.
+-- `write` meets its contract. The loop's invariant: the part is as at entry, but for the first k kids at its front.
 use mathlib.Core.Path.{_≡_, refl}
 use Prim.Native.Nat.{_-_, _≤_}
 use native.Mathlib.Nat.{zero-add}

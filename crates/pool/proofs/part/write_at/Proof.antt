@@ -1,5 +1,5 @@
 -- `write_at` meets its contract: the words that it lends on are the records from `at` on, and `write` gives them back with the kids at
--- their front. Assumes nothing.
+-- their front.
 use native.Mathlib.Omega.{arith}
 use lib.ListN.{length-drop}
 use Rattle.records.specs.Code.{records}

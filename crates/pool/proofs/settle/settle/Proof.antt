@@ -1,5 +1,5 @@
 -- `pool::settle::settle` meets its contract: `turn`, `slide` and `clear` one after the other, joined by `settle-joins`. What `slide` and
--- `clear` require rests on turning and sliding keeping the number of records.
+-- `clear` require rests on turning and sliding keeping how many records there are.
 use mathlib.Core.Path.{_≡_, _∙_}
 use Prim.Native.Nat.{_-_}
 use native.Mathlib.Omega.{arith}

@@ -1,5 +1,5 @@
 -- `pool::settle::turn` meets its contract. The loop's invariant: the records with those from i to j turned around are the records at
--- entry with those from `from` to `to` turned around; so where at most one is left between i and j, all is done. Assumes nothing.
+-- entry with those from `from` to `to` turned around; so where at most one is left between i and j, all is done.
 use mathlib.Core.Path.{_≡_, refl, sym, ap, _∙_}
 use Prim.Native.Nat.{_-_, _≤_}
 use native.Mathlib.Omega.{arith}

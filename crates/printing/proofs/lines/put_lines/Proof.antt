@@ -9,6 +9,10 @@ use borrow.Author.Needs.{needs}
 use Rattle.printing.proofs.lines.put_lines.Statement.{statement}
 use Rattle.printing.proofs.lines.put_lines.Tie as tie
 
+-- the function's entry, from where the cost and the order are written
+abbrev entry : tie.After-put-answer → tie.Start
+entry c = c .before .before .before .before .before
+
 array-share-prefix-order : tie.Need-array-share-prefix-order
 array-share-prefix-order c =
     let start = c .before .before .before in
@@ -26,14 +30,14 @@ put-answer-requires c κs =
 put-counts-requires : tie.Need-put-counts-requires
 put-counts-requires c κs =
     let answer = c .before .before .before in
-    let long = length-take-le _ (answer .before .before .before .before .before .args .r .order) (array-share-prefix-order (answer .before .before)) in
+    let long = length-take-le _ (entry answer .args .r .order) (array-share-prefix-order (answer .before .before)) in
     omega (arith, answer .put-answer .ensures)
 
 returns : tie.Need-returns
 returns c =
     let counts = c .before .before in
     let answer = counts .before .before .before .before in
-    let start = answer .before .before .before .before .before in
+    let start = entry answer in
     let long = length-take-le _ (start .args .r .order) (array-share-prefix-order (answer .before .before)) in (
       rw (seven-lines (start .args .count) (start .args .r)) (put-then (answer .put-answer .ensures .0) (counts .put-counts .ensures .0)),
       omega (arith, answer .put-answer .ensures, counts .put-counts .ensures),

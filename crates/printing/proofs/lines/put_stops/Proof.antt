@@ -26,8 +26,9 @@ loop-again : tie.Need-loop-again Inv-loop μ-loop
 loop-again c =
     let number = c .before .before in
     let stop = number .before in
-    let at = stop .before .before .before .before .loop in
-    let stops = stop .before .before .before .before .before .before .before .args .stops .now in
+    let head = stop .before .before .before .before in
+    let at = head .loop in
+    let stops = head .before .before .before .args .stops .now in
     let put = put-then (at .inv .3) (number .put-decimal .ensures .0) in
     let next = spaced-next stops (at .k) (omega arith) ∙ ap (λ (x : ℕ). spaced (take (at .k) stops) ++ spaced (x ∷ [])) (sym (stop .wide .ensures)) in
     (omega arith, omega (arith, at .inv .1, put-length (number .put-decimal .ensures .0)), omega arith, rw (sym next) at put)

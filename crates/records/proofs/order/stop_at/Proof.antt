@@ -1,4 +1,4 @@
--- `order::stop_at` meets its contract: the digit stands in the first number, or in the second where the first has no room.
+-- `order::stop_at` meets its contract: the digit stands in the first word, or in the second where the first has no room.
 use Prim.Native.Nat.{_-_}
 use native.Mathlib.Omega.{arith}
 use borrow.Author.Tests.{lt-ltb, le-ltb}
