@@ -79,7 +79,7 @@ module _ {d : Setting} {t : Table} {b : Record} (rows : Rows d t) (e : Encoded d
 -- The children are written so: the first m records are those of the stops passed, `left` has the others, and there is room for all.
 pub record Written (f : ℕ → Record) (rest : ℕ) (kids : List Record) (m left : ℕ) : Type 0 where
   pub small : left < 2 ^ mostStops
-  pub part : (s : ℕ) → In s (stopsIn left) → In s (stopsIn rest)
+  pub among : (s : ℕ) → In s (stopsIn left) → In s (stopsIn rest)
   pub count : m + length (stopsIn left) ≡ length (stopsIn rest)
   pub few : length (stopsIn rest) ≤ mostStops
   pub room : mostStops ≤ length kids
@@ -90,7 +90,7 @@ pub written-starts :
     → Written f rest kids 0 left
 written-starts {rest = rest} e h k = rw e record {
   small = h;
-  part = λ s i. i;
+  among = λ s i. i;
   count = omega arith;
   few = stopsIn-few rest h;
   room = k;
@@ -106,7 +106,7 @@ module _ {f : ℕ → Record} {rest : ℕ} {kids : List Record} {m left : ℕ} (
       → Written f rest kids′ (m + 1) left′
   written-again {r = r} o e i g = rw (e, g, i) record {
     small = omega arith;
-    part = λ s i. l .part s (rw (o .others) (List·Memᴰ·tail i));
+    among = λ s i. l .among s (rw (o .others) (List·Memᴰ·tail i));
     count = omega (arith, ap length (o .others));
     few = l .few;
     room = rw length-set (l .room);

@@ -1,6 +1,6 @@
 -- What the crates above ask of a setting d and a table's rows t.
 --   setting-lawful, setting-bounds, setting-solvable    the laws of the problem that the theory of crate `search` asks
---   setting-counts                           no count of a run is above the number of all nodes
+--   setting-counts                           no count of a run is above that of all nodes
 --   choice-selection, choice-rules           the caller's choices are the setting's
 --   given-known, given-valid                 a starting order is a complete node of the tree, and a partial order
 --   encode-size, order-words                 the record of a node has its size; that of an order has its cost and its words

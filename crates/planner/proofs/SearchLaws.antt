@@ -41,7 +41,7 @@ stepped-branched :
 unfolding step
 stepped-branched {N} P C capacity {s} h = ap (λ (u : State N). length (u .branched)) (h .steps) ∙ length-append (s .branched) _
 
--- the number of branched nodes is the run's
+-- the run counts the branched nodes
 branched-shown :
     (d : Setting) (t : Table) (s : State Node) {w : List ℕ} {r : Run} → Shown d w r (recordsOf d t s) → r .branched ≡ length (s .branched)
 unfolding recordsOf

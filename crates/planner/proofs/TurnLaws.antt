@@ -71,7 +71,7 @@ alone : {A : Type 0} (xs : List A) (m : ℕ) → m ≡ suc (length xs) → empty
 alone [] m e = sym (eq-eqb m 1 e)
 alone (x ∷ xs) m e = sym (ne-eqb m 1 (λ h. omega arith))
 
--- the number of nodes rises with the stops
+-- more stops, more nodes
 nodes-rise : (j m : ℕ) → j ≤ m → nodes j ≤ nodes m
 nodes-rise j zero h = let e : j ≡ 0 = omega arith in rw e (omega arith)
 nodes-rise j (suc m) h = cases (ordered j m) (nodes-rise j m)
@@ -146,7 +146,7 @@ module _
           upper-best d t (r .best) (Option·map f (s .best)) (running .shows .best),
         )
 
-    -- the counts are far below 2 to the power 62: none is above the number of all nodes
+    -- the counts are far below 2 to the power 62: none is above that of all nodes
     shown-room : r .generated + r .eliminated + r .branched < 2 ^ 62
     unfolding recordsOf
     shown-room =

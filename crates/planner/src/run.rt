@@ -77,7 +77,7 @@ fn turn_at(setting: Setting, t: [[u32; PLACES]; PLACES], w: &mut [u32], i: usize
     Turn::Go(next)
 }
 
-// One turn: the selection, then the turn of the node that it picks. A selection that there is not is refused by its number.
+// One turn: the selection, then the turn of the node that it picks. The refusal of a selection that there is not is handed on.
 fn take_turn(setting: Setting, t: [[u32; PLACES]; PLACES], w: &mut [u32], r: Run) -> Turn
     requires { ⌜ ((first : List ℕ) × (s : State Node) × Running setting t first (now w) r s) ⌝ }
     ensures { λ q. ⌜ ((first : List ℕ) (s : State Node) → Running setting t first (now (w .entry)) r s → Turned setting t (now (w .entry)) (now (w .exit)) s q) ⌝ }

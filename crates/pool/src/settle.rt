@@ -41,7 +41,7 @@ fn clear(w: &mut [u32], capacity: usize, from: usize)
     }
 }
 
-// Settles a pool whose first `active` records are active and whose last `far` ones are branched.
+// Settles a pool with its first records active and its last ones, at the far end, branched.
 pub fn settle(w: &mut [u32], capacity: usize, active: usize, far: usize)
     requires { ⌜ (capacity ≡ length (records (now w))) × (active + far ≤ capacity) ⌝ }
     ensures { λ u. ⌜ records (now (w .exit)) ≡ take active (records (now (w .entry))) ++ (reverse (drop (capacity - far) (records (now (w .entry)))) ++ replicate (capacity - (active + far)) emptyRecord) ⌝ }

@@ -101,7 +101,7 @@ same-staying d = ap₂ (λ (p : Spot) (c : Change). stayingOf (records (words d)
 bounded : (d : tie.After-spot-of) → Bounded (records (words d))
 bounded d x m =
     let known = expanded (asked d) .before .before .before .before in
-    let small : x .bound < 4_294_967_296 = records-small (words d) (λ j. omega (arith, known .slice-known .given j)) x m .bound in
+    let small : x .bound < 2 ^ 32 = records-small (words d) (λ j. omega (arith, known .slice-known .given j)) x m .bound in
     omega arith
 
 changing : (d : tie.After-spot-of) → Changing (records (words d)) (spot d) (change d) (kids d)
@@ -217,14 +217,14 @@ counted-requires c κs =
 
 returns-2 : tie.Need-returns-2
 returns-2 c s shown =
-    let held = c .before .before .before in
-    let r = replaced held in
+    let joined = c .before .before .before in
+    let r = replaced joined in
     let e = r .before .before .before in
     let d = spotted e in
-    let after : List ℕ = held .hold .last .0 in
+    let after : List ℕ = joined .hold .last .0 in
     let made-shown =
     stage-shown (made d) (bounded d) (start d .pre) s shown after (records (r .replace .last .0)) (r .replace .result) (fitting e) (put r) (whole r)
-    (held .hold .ensures
+    (joined .hold .ensures
     ∙ ap₂ (λ (j k : ℕ). farWith (records (r .replace .last .0)) j k (start d .args .b)) (kept-count d .1) (asked d .before .holding .ensures)) in (
       omega (arith, stage-kept (made d) (bounded d) (start d .pre) s shown, fitting e),
       subst (λ (q : Run). Shown (setting d) after q (stepOf (setting d) (start d .args .t) (start d .args .i) (start d .args .b) s))

@@ -78,7 +78,7 @@ child-requires c κs =
       encoded = p .1 .0;
       at = placed l .last .ensures;
       leaves = l .loop .inv .0;
-      stop = rw (l .loop .inv .0) (l .loop .inv .2 .part _ (first n .member));
+      stop = rw (l .loop .inv .0) (l .loop .inv .2 .among _ (first n .member));
     }
 
 loop-less : tie.Need-loop-less Inv-loop μ-loop

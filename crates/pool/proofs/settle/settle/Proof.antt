@@ -15,15 +15,6 @@ turned-long c =
     let a = c .before .before .before .args in
     rw (c .turn .ensures) (length-turned (a .capacity - a .far) (a .capacity) (records (a .w .now)) (omega arith))
 
-sub-from : tie.Need-sub-from
-sub-from c = search needs
-
-turn-requires : tie.Need-turn-requires
-turn-requires c κs = search needs
-
-slide-requires : tie.Need-slide-requires
-slide-requires c κs = omega (arith, turned-long (c .before .before .before))
-
 clear-requires : tie.Need-clear-requires
 clear-requires c κs =
     let at-slide = c .before .before .before in
@@ -31,9 +22,6 @@ clear-requires c κs =
     let long = turned-long at-turn in
     let slid = at-slide .slide .ensures in
     omega (arith, long, slid .same-length, slide-end (records (at-turn .turn .last .0)) _ _ _ _ _ (omega (arith, long)) slid)
-
-same-length : tie.Need-same-length
-same-length c = search needs
 
 returns : tie.Need-returns
 returns c =
@@ -47,4 +35,11 @@ returns c =
 
 pub settle-spec : {M : Type 1} → statement M
 settle-spec =
-    tie.close (tie.spec sub-from turn-requires slide-requires clear-requires same-length returns)
+    tie.close
+    (tie.spec
+    (λ c. search needs)
+    (λ c κs. search needs)
+    (λ c κs. omega (arith, turned-long (c .before .before .before)))
+    clear-requires
+    (λ c. search needs)
+    returns)
