@@ -25,7 +25,7 @@ use Rattle.job_format.proofs.WriteLaws.{Done, done, writes}
 use Rattle.job_format.proofs.RoundTrip as definitions
 use Rattle.job_format.proofs.Refusals as refusals
 
-pub contents-returned :
+contents-returned :
     (number : ℕ) (c : Contents) → length (c .table) ≡ area (c .job .n)
     → contentsFrom (returned (record { number = number; contents = c })) ≡ c
 unfolding returned contentsFrom contentsOf

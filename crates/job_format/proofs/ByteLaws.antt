@@ -86,7 +86,7 @@ unfolding word
 length-each-word [] = omega arith
 length-each-word (x ∷ xs) = omega (arith, length-each-word xs)
 
-pub each-append : (k : ℕ → List ℕ) (xs ys : List ℕ) → each k (xs ++ ys) ≡ each k xs ++ each k ys
+each-append : (k : ℕ → List ℕ) (xs ys : List ℕ) → each k (xs ++ ys) ≡ each k xs ++ each k ys
 each-append k [] ys = refl
 each-append k (x ∷ xs) ys = rw (each-append k xs ys, append-assoc)
 
