@@ -65,11 +65,11 @@ enum gondamuy_refusal {
     GONDAMUY_REFUSED_TABLE_LENGTH = 2,
     /* a leg is above 1,000,000 or a diagonal entry is not 0. */
     GONDAMUY_REFUSED_LEG = 3,
-    /* there is no such selection (0 to 3), sum of rules (0 to 15) or bound (0 or 1). */
+    /* selection is above 3, rules above 15 or bound above 1. */
     GONDAMUY_REFUSED_CHOICE = 4,
-    /* the starting order is not empty, and does not name each of 1 to n once. Name each once, or hand in none. */
+    /* the starting order is neither empty nor a permutation of 1 to n. Name each stop once, or hand in none. */
     GONDAMUY_REFUSED_START = 5,
-    /* the pool is empty, or does not end with a whole record. Lend a multiple of six words, six at least. */
+    /* the pool has no whole record, or a part record. Lend a multiple of six words, six at least. */
     GONDAMUY_REFUSED_POOL = 6,
     /* the pool is full. Lend more records, or search in fewer, if longer: LIFO, rule 1, close, a starting order. */
     GONDAMUY_REFUSED_FULL = 7,
