@@ -1,4 +1,4 @@
--- A node put together again from its order, stop by stop, as `check::is_record` does. What is built from the first k stops is the record of
+-- A node put together again from its order, stop by stop, as `node::is_record` does. What is built from the first k stops is the record of
 -- the node that they are, but for its path cost and bound: so the words of a record are a node's just when every stop can be added
 -- and what is built has its set and its order.
 use mathlib.Core.Path.{_≡_, refl, ap, sym, _∙_, subst}

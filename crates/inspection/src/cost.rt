@@ -10,7 +10,7 @@ ghost use Rattle.answer.specs.Checks.{jobCause};
 ghost use Rattle.node_answers.specs.Answers.{figures, noFigures};
 ghost use Rattle.node_answers.specs.Nodes.{isNode};
 ghost use Rattle.inspection.specs.Code.{ofFour, Flew};
-use crate::check::is_record;
+use crate::node::is_record;
 use answer::Job;
 use checks::job_cause;
 use node_answers::Figures;

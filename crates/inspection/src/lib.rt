@@ -3,4 +3,5 @@
 pub mod check;
 pub mod cost;
 pub mod extend;
+mod node;
 pub mod order;

@@ -15,7 +15,7 @@ use Rattle.job_format.specs.Reader.{read}
 use Rattle.job_format.specs.Demands.{Passes}
 use Rattle.job_format.specs.Writer.{Writing, writeCause, writingBy, write}
 use Rattle.job_file.specs.Promise.{returned, contentsFrom}
-use Rattle.job_file.specs.Demands.{ReadsBack, Rewrites, NeverTwo, Left, Leaves}
+use Rattle.job_file.specs.Demands.{ReadsOrRefuses, WritesOrRefuses, ReadsBack, Rewrites, NeverTwo, Left, Leaves}
 use Rattle.job_file.specs.declared.reader.Reading.{Reading as Returned}
 use Rattle.lists.proofs.Padded.{take-padded, padded-longer}
 use Rattle.job_format.proofs.ByteLaws.{take-overwrite}
@@ -57,6 +57,13 @@ accepted file r e number =
       start = padded-longer orderPlaces (c .start);
       same = contents-returned (read file .number) c (p .square);
     })
+
+pub reads-or-refuses : ReadsOrRefuses
+unfolding returned
+reads-or-refuses file r e = rw e (refusals.reads-or-refuses file)
+
+pub writes-or-refuses : WritesOrRefuses
+writes-or-refuses c buffer left w promised = rw (ap (λ (x : Writing). x .number) promised) (refusals.writes-or-refuses c buffer)
 
 pub reads-back : ReadsBack
 unfolding returned

@@ -1,5 +1,7 @@
--- What is proved of what `read` returns and what `write` returns and leaves (proofs/Returns): the letter's demand 2, and document 01's "Causes
--- and numbers". `Rewritten` is the promise of `rewriting::rewrite`, which reads and writes back: of a slice of bytes, nothing is assumed there.
+-- What is proved of what `read` returns and what `write` returns and leaves (proofs/Returns): the letter's demands 1 and 2 of files, and document
+-- 01's "Causes and numbers". That both return is part of their contracts. `Rewritten` is the promise of `rewriting::rewrite`, which reads and
+-- writes back: of a slice of bytes, nothing is assumed there.
+--   ReadsOrRefuses, WritesOrRefuses    with which numbers `read` and `write` answer
 --   ReadsBack      what `write` wrote, `read` returns as the same contents
 --   Rewrites       what `read` accepted, `write` writes back as the same bytes, and says their length; what is behind them stays
 --   NeverTwo       number 2 does not come from the reader
@@ -9,12 +11,20 @@ use mathlib.Core.List.{List}
 use mathlib.Core.Logic.{_≢_}
 use Prim.Native.Nat.{ℕ, _≤_, _<_}
 use lib.ListN.{length, take}
+use Rattle.lists.specs.Lists.{In}
 use Rattle.job_format.specs.Bytes.{overwrite, AllBytes}
 use Rattle.job_format.specs.Contents.{Contents}
 use Rattle.job_format.specs.Reader.{read}
+use Rattle.job_format.specs.Demands.{readerNumbers, writerNumbers}
 use Rattle.job_file.specs.Promise.{returned, contentsFrom, Promised}
 use Rattle.job_file.specs.declared.reader.Reading.{Reading as Returned}
 use Rattle.job_file.specs.declared.writer.Written.{Written}
+
+abbrev pub ReadsOrRefuses : Type 0
+ReadsOrRefuses = (file : List ℕ) (r : Returned) → r ≡ returned (read file) → In (r .number) readerNumbers
+
+abbrev pub WritesOrRefuses : Type 0
+WritesOrRefuses = (c : Contents) (buffer left : List ℕ) (w : Written) → Promised c buffer w left → In (w .number) writerNumbers
 
 -- `read` is given the first bytes of the buffer, as many as the length that `write` answered.
 abbrev pub ReadsBack : Type 0

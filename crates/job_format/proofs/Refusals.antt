@@ -1,17 +1,56 @@
--- What holds of every refusal by the reader: specs/Demands says what is proved.
+-- With which numbers the reader and the writer answer, and what holds of every refusal by the reader: specs/Demands says what is proved.
 use mathlib.Core.Path.{_≡_, refl, sym, _∙_}
 use mathlib.Core.Bool.{Bool, true, false}
+use mathlib.Core.List.{List}
 use mathlib.Core.Logic.{_≢_}
 use Prim.Native.Nat.{ℕ, zero, suc}
 use native.Mathlib.Omega.{arith}
-use lib.Dec.{ltb}
+use lib.Dec.{T, ltb, eqb, eqb→eq}
 use lib.ListN.{length}
-use Rattle.answer.specs.Checks.{cause₁, cause₃, cause₄, cause₅, orLater}
-use Rattle.job_format.specs.Contents.{Contents, trailerLength}
+use Rattle.lists.specs.Lists.{In, any}
+use Rattle.lists.proofs.Members.{any-in}
+use Rattle.answer.specs.Checks.{cause₁, cause₂, cause₃, cause₄, cause₅, orLater, jobCause}
+use Rattle.job_format.specs.Contents.{Contents, trailerLength, bytesOf}
 use Rattle.job_format.specs.Reader.{trailerIn, contentsIn, misplaced, fileCause, refusal, readingBy, read}
-use Rattle.job_format.specs.Demands.{TableSquare, NeverTwo, Zeros}
+use Rattle.job_format.specs.Writer.{writeCause, write}
+use Rattle.job_format.specs.Demands.{readerNumbers, ReadsOrRefuses, writerNumbers, WritesOrRefuses, TableSquare, NeverTwo, Zeros}
 use Rattle.job_format.proofs.ReadLaws.{table-fits}
 use Rattle.job_format.proofs.Accepted.{number-by}
+use Rattle.job_format.proofs.WriteLaws as writer
+
+-- of a number that is written out, a test finds whether it is one of some
+listed : (k : ℕ) (xs : List ℕ) → T (any (eqb k) xs) → In k xs
+listed k xs h = let (a, m, t) = any-in (eqb k) xs h in rw (eqb→eq k a t) m
+
+-- where a cause's number and the later one are among some, the first that applies is
+one-of : (b : Bool) (number later : ℕ) (xs : List ℕ) → In number xs → In later xs → In (orLater b number later) xs
+one-of true number later xs h k = h
+one-of false number later xs h k = k
+
+pub reads-or-refuses : ReadsOrRefuses
+unfolding read fileCause
+reads-or-refuses file =
+    let c : Contents = contentsIn file in
+    let xs : List ℕ = readerNumbers in
+    rw (number-by (fileCause file) c)
+    (one-of (ltb (length file) trailerLength) 8 _ xs (listed 8 xs tt)
+    (one-of (cause₁ (c .job .n)) 1 _ xs (listed 1 xs tt)
+    (one-of (misplaced (trailerIn file) (length file)) 9 _ xs (listed 9 xs tt)
+    (one-of (cause₃ (c .job .n) (c .table)) 3 _ xs (listed 3 xs tt)
+    (one-of (cause₄ (c .job)) 4 _ xs (listed 4 xs tt)
+    (one-of (cause₅ (c .job .n) (c .start)) 5 0 xs (listed 5 xs tt) (listed 0 xs tt)))))))
+
+pub writes-or-refuses : WritesOrRefuses
+unfolding write writeCause jobCause
+writes-or-refuses c buffer =
+    let xs : List ℕ = writerNumbers in
+    rw (writer.number-by (writeCause c buffer) c buffer)
+    (one-of (cause₁ (c .job .n)) 1 _ xs (listed 1 xs tt)
+    (one-of (cause₂ (c .job .n) (c .table)) 2 _ xs (listed 2 xs tt)
+    (one-of (cause₃ (c .job .n) (c .table)) 3 _ xs (listed 3 xs tt)
+    (one-of (cause₄ (c .job)) 4 _ xs (listed 4 xs tt)
+    (one-of (cause₅ (c .job .n) (c .start)) 5 _ xs (listed 5 xs tt)
+    (one-of (ltb (length buffer) (length (bytesOf c))) 10 0 xs (listed 10 xs tt) (listed 0 xs tt)))))))
 
 pub table-square : TableSquare
 unfolding contentsIn

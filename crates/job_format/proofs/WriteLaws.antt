@@ -52,7 +52,7 @@ pub record Done (c : Contents) (buffer : List ℕ) : Type 0 where
   pub passes : Passes c
   pub room : length (bytesOf c) ≤ length buffer
 
-number-by : (k : ℕ) (c : Contents) (buffer : List ℕ) → writingBy k c buffer .number ≡ k
+pub number-by : (k : ℕ) (c : Contents) (buffer : List ℕ) → writingBy k c buffer .number ≡ k
 unfolding writingBy
 number-by zero c buffer = refl
 number-by (suc k) c buffer = refl

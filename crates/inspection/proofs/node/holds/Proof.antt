@@ -1,8 +1,8 @@
--- `check::holds` meets its contract: the bit is the stop's (`SetLaws`).
+-- `node::holds` meets its contract: the bit is the stop's (`SetLaws`).
 use borrow.Author.Needs.{needs}
 use Rattle.inspection.proofs.SetLaws.{set-flown}
-use Rattle.inspection.proofs.check.holds.Statement.{statement}
-use Rattle.inspection.proofs.check.holds.Tie as tie
+use Rattle.inspection.proofs.node.holds.Statement.{statement}
+use Rattle.inspection.proofs.node.holds.Tie as tie
 
 sub-result : tie.Need-sub-result
 sub-result c = search needs

@@ -1,4 +1,4 @@
--- `check::is_record` meets its contract. The loop's invariant is `Retraced`: what is built from the first k stops is the record of the node
+-- `node::is_record` meets its contract. The loop's invariant is `Retraced`: what is built from the first k stops is the record of the node
 -- that they are. The measure is what is left of the size.
 use mathlib.Core.Path.{_≡_, sym, _∙_}
 use mathlib.Core.Bool.{false}
@@ -16,8 +16,8 @@ use Rattle.inspection.proofs.OrderLaws.{stop-same}
 use Rattle.node_answers.proofs.NodeLaws.{no-node}
 use Rattle.inspection.proofs.Retrace.{Retraced, retraced-starts, stop-above, stop-again, stop-fits, stop-added, other-set}
 use Rattle.inspection.proofs.Retrace.{other-first, same-record}
-use Rattle.inspection.proofs.check.is_record.Statement.{statement}
-use Rattle.inspection.proofs.check.is_record.Tie as tie
+use Rattle.inspection.proofs.node.is_record.Statement.{statement}
+use Rattle.inspection.proofs.node.is_record.Tie as tie
 
 abbrev Inv-loop : tie.InvT-loop
 Inv-loop size set first second n x₀ k₀ x k = Retraced n (ofFour size set first second) x k
