@@ -46,7 +46,7 @@ same-rank P f g (suc (suc zero)) h = refl
 same-rank P f g (suc (suc (suc k))) h = refl
 
 module _ (a : Call) (ok : Passes a) (rules bound : ℕ) (first pool : List ℕ) (favours : Favours a (alongside a rules bound first pool)) where
-  -- the bound numbers are those of the checks: B's is at most A's
+  -- B's bound, 0 or 1, is at most A's
   bound-below : bound ≤ a .job .bound
   bound-below = go (favours .bound)
     where

@@ -1,5 +1,6 @@
-// Calls, checks, reports and the answer to a call, as definitions (specs/), and the letter's demands of the reports (proofs/). No function: the two
-// structs that cross the border stand here, so that what reads a job or prints a report need not rest on the planner.
+// Calls, checks, reports and the answer to a call, as definitions, and the letter's demands of a planner, as statements (specs/, specs/Demands),
+// proved of the written run (proofs/). No function: the two structs that cross the border stand here, so that what reads a job or prints a
+// report need not rest on the planner.
 use sizes::ORDER_PLACES;
 
 // What a caller chooses: how many stops, which selection, which rules and which bound.

@@ -1,5 +1,5 @@
-// What is printed, as text in an array: `report_text` and `refusal_text`. Crate `report_format` says what it is for every report
-// (specs/Printed).
+// What is printed, as text in an array. `report_text` and `refusal_text` are open to a caller and ask nothing; every other function is this
+// crate's own, and what it requires its callers meet. Crate `report_format` says what is printed for every report (specs/Printed).
 ghost use mathlib.Core.Path.{_≡_};
 ghost use Rattle.report_format.specs.Printed.{refusedLine, printed};
 ghost use Rattle.printing.specs.Promise.{textOf};

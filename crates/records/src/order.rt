@@ -22,7 +22,7 @@ pub fn stop_at(first: u32, second: u32, k: u32) -> u32
     (second >> (STOP_BITS * (k - WORD_STOPS))) % STOP_BASE + 1
 }
 
-// How many places of an order so many stops take, if these are too many for it.
+// How many places of an order so many stops take: no more than there are.
 pub fn places(count: u32) -> u32
     ensures { λ r. ⌜ r ≡ min count mostStops ⌝ }
 {

@@ -175,7 +175,7 @@ module _ (m : ℕ) (L : Legs) (w : Within m L) (place : ℕ) where
   ahead-small k (suc bound) (r ∷ rest) h =
       omega (arith, suc-mul k m, mul-le-mul-right m h, remainder-small (r ∷ rest))
 
--- what a bound adds, by whether a stop is left and by its number
+-- what a bound adds, by whether a stop is left and by which bound it is
 pub ahead-none : (bound : ℕ) (L : Legs) (place rest : ℕ) → rest ≡ 0 → L .home place ≡ ahead bound L place (stopsIn rest)
 unfolding ahead
 ahead-none bound L place rest e = rw (e, stopsIn-zero)

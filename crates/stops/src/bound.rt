@@ -8,8 +8,8 @@ ghost use Rattle.lists.specs.Lists.{In, least};
 ghost use Rattle.stops.specs.Legs.{rowLeg, legs};
 ghost use Rattle.stops.specs.Bounds.{remainder};
 ghost use Rattle.stops.specs.Code.{stopsIn, reckonOn, Cheap};
+use crate::legs::leg;
 use crate::table::Rows;
-use crate::table::leg;
 
 fn lesser(a: u32, b: u32) -> u32
     ensures { λ r. ⌜ r ≡ min a b ⌝ }

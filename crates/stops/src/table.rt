@@ -7,8 +7,8 @@ ghost use lib.ListN.{length};
 ghost use Rattle.sizes.specs.Sizes.{mostStops, dearest};
 ghost use Rattle.lists.specs.Lists.{any, from};
 ghost use Rattle.stops.specs.Tables.{entry, rows};
-ghost use Rattle.stops.specs.Legs.{rowLeg};
 ghost use Rattle.stops.specs.Code.{rowOf, reckonOn};
+use crate::legs::leg;
 use sizes::DEAREST;
 use sizes::PLACES;
 
@@ -71,14 +71,6 @@ pub fn rows(n: usize, table: &[u32]) -> Rows
         i += 1;
     }
     t
-}
-
-// The leg from one place to another.
-pub fn leg(t: &Rows, from: u32, to: u32) -> u32
-    requires { ⌜ (from ≤ mostStops) × (to ≤ mostStops) ⌝ }
-    ensures { λ r. ⌜ r ≡ rowLeg (now (t .entry)) from to ⌝ }
-{
-    t[from as usize][to as usize]
 }
 
 // What a stop adds to the path cost of a node at a place: its leg from there.

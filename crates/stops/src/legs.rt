@@ -1,0 +1,14 @@
+// A leg in the rows of a table. The function is this crate's own: the crates above use `table::further` and the bounds.
+ghost use mathlib.Core.Path.{_≡_};
+ghost use Prim.Native.Nat.{_≤_};
+ghost use Rattle.sizes.specs.Sizes.{mostStops};
+ghost use Rattle.stops.specs.Legs.{rowLeg};
+use crate::table::Rows;
+
+// The leg from one place to another.
+pub fn leg(t: &Rows, from: u32, to: u32) -> u32
+    requires { ⌜ (from ≤ mostStops) × (to ≤ mostStops) ⌝ }
+    ensures { λ r. ⌜ r ≡ rowLeg (now (t .entry)) from to ⌝ }
+{
+    t[from as usize][to as usize]
+}
