@@ -150,7 +150,7 @@ figures-words true x job table = go (isNode (job .n) x) (jobCause job table [] 0
 
 pub figures-found :
     (ys : List Record) (i : ℕ) (r : Found) → r ≡ found ys i → (job : Job) (table : List ℕ)
-    → figures (r .inside) (ofFour (r .node .size) (r .node .set) (r .node .first) (r .node .second)) job table
+    → figures (r .inside) (ofFour (r .found .size) (r .found .set) (r .found .first) (r .found .second)) job table
     ≡ figures (isInside ys i) (recordAt ys i) job table
 unfolding found
 figures-found ys i r e job table = rw e (figures-words (isInside ys i) (recordAt ys i) job table)

@@ -58,12 +58,12 @@ pub fn extended_of(
         return Extended {
             inside: true,
             fits: false,
-            node: x,
+            after: x,
         };
     }
     Extended {
         inside: true,
         fits: true,
-        node: x.extended(added.stop, added.leg),
+        after: x.extended(added.stop, added.leg),
     }
 }

@@ -157,14 +157,14 @@ module _
     pub extension-node :
         D .path (extend y s) < 2 ^ 32
         → extension true (encode n D k y) s leg
-        ≡ record { inside = true; fits = true; node = unbounded (encode n D k (extend y s)) }
+        ≡ record { inside = true; fits = true; after = unbounded (encode n D k (extend y s)) }
     unfolding extension
     extension-node small = rw (to-true (fits x s leg) (parts-fit x s leg (fits-node small)), longer-encode) refl
 
 -- the run afterwards
 module _ (xs : List Record) (i stop leg : ℕ) where
   pub run-inside :
-      isInside xs i ≡ true → extendAt xs i stop leg ≡ set xs i (extension true (recordAt xs i) stop leg .node)
+      isInside xs i ≡ true → extendAt xs i stop leg ≡ set xs i (extension true (recordAt xs i) stop leg .after)
   unfolding extendAt extension recordAt
   run-inside e = rw e (go (fits (recordAt xs i) stop leg))
     where

@@ -40,7 +40,7 @@ unfoldable pub recordAt : List Record → ℕ → Record
 recordAt xs i = getD xs i noRecord
 
 unfoldable pub found : List Record → ℕ → Found
-found xs i = record { inside = isInside xs i; node = recordAt xs i }
+found xs i = record { inside = isInside xs i; found = recordAt xs i }
 
 unfoldable pub verdict : Bool → Record → ℕ → Verdict
 verdict inside x n = record { inside = inside; node = inside && isNode n x }
@@ -89,8 +89,8 @@ longer x stop leg = unboundedRecord (extend (flownStops x) stop) (x .path + leg)
 
 -- where it does not fit, the record is as it was
 unfoldable pub extension : Bool → Record → ℕ → ℕ → Extended
-extension true x stop leg = record { inside = true; fits = fits x stop leg; node = cond (fits x stop leg) (longer x stop leg) x }
-extension false x stop leg = record { inside = false; fits = false; node = noRecord }
+extension true x stop leg = record { inside = true; fits = fits x stop leg; after = cond (fits x stop leg) (longer x stop leg) x }
+extension false x stop leg = record { inside = false; fits = false; after = noRecord }
 
 -- the run as it was but for record i, and that only where the stop fits
 unfoldable pub extendAt : List Record → ℕ → ℕ → ℕ → List Record

@@ -88,11 +88,11 @@ unfolding twoOne
 stop-above-n = refl
 
 -- a run of two records: the last is inside, the next is not, and is zeros
-second-record : found (emptyRecord ∷ twoOne ∷ []) 1 ≡ record { inside = true; node = twoOne }
+second-record : found (emptyRecord ∷ twoOne ∷ []) 1 ≡ record { inside = true; found = twoOne }
 unfolding twoOne
 second-record = refl
 
-past-the-end : found (emptyRecord ∷ twoOne ∷ []) 2 ≡ record { inside = false; node = noRecord }
+past-the-end : found (emptyRecord ∷ twoOne ∷ []) 2 ≡ record { inside = false; found = noRecord }
 unfolding twoOne
 past-the-end = refl
 
@@ -148,7 +148,7 @@ outside-zeros = refl
 longer-213 : extension true twoOne 3 6 ≡ record {
   inside = true;
   fits = true;
-  node = record { size = 3; set = 7; path = 21; bound = 0; first = 513; second = 0 };
+  after = record { size = 3; set = 7; path = 21; bound = 0; first = 513; second = 0 };
 }
 unfolding twoOne
 longer-213 = refl
@@ -190,11 +190,11 @@ unfolding twoOne
 dearest-path = refl
 
 -- what does not fit is as it was, and past the end there are zeros
-as-it-was : extension true twoOne 2 6 ≡ record { inside = true; fits = false; node = twoOne }
+as-it-was : extension true twoOne 2 6 ≡ record { inside = true; fits = false; after = twoOne }
 unfolding twoOne
 as-it-was = refl
 
-none-extended : extension false emptyRecord 2 6 ≡ record { inside = false; fits = false; node = noRecord }
+none-extended : extension false emptyRecord 2 6 ≡ record { inside = false; fits = false; after = noRecord }
 unfolding twoOne
 none-extended = refl
 

@@ -8,7 +8,7 @@ use stops::node_record::Record;
 #[repr(C)]
 pub struct Found {
     pub inside: bool,
-    pub node: Record,
+    pub found: Record,
 }
 
 // Whether record i is a node's.
@@ -41,5 +41,5 @@ pub struct Figures {
 pub struct Extended {
     pub inside: bool,
     pub fits: bool,
-    pub node: Record,
+    pub after: Record,
 }

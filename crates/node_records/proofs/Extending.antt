@@ -53,7 +53,7 @@ mach r = LL.val R.the-type R′.the-laws r
 is-added : (s leg : ℕ) → s < 2 ^ 32 → leg < 2 ^ 32 → Is D.the-row (added s leg) (LL.vals D.the-type D′.the-laws (added s leg))
 is-added s leg gs gl = LL.owes D.the-type D′.the-laws (added s leg) ((refl, gs), ((refl, gl), tt))
 
-pub is-node : (w : Extended) → Is R.the-row w (mach w ∷ []) → Is T.the-row (w .node) (vals (w .node))
+pub is-node : (w : Extended) → Is R.the-row w (mach w ∷ []) → Is T.the-row (w .after) (vals (w .after))
 is-node w is = LL.owed R.the-type R′.the-laws w _ is .1 .1 .0
 
 module _ {M : Type 1} (𝓤 : URA M) (H : Heap 𝓤) (A : Atoms 𝓤) (W : Given 𝓤 H A) where

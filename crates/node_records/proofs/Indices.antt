@@ -31,11 +31,11 @@ module _ (ys : List Record) (i : ℕ) where
   unfolding isInside
   is-outside h = to-false (ltb i (length ys)) h
 
-  pub found-inside : T (ltb i (length ys)) → record { inside = true; node = getD ys i noRecord } ≡ found ys i
+  pub found-inside : T (ltb i (length ys)) → record { inside = true; found = getD ys i noRecord } ≡ found ys i
   unfolding found recordAt
   found-inside h = rw (is-inside h) refl
 
-  pub found-outside : T (not (ltb i (length ys))) → record { inside = false; node = noRecord } ≡ found ys i
+  pub found-outside : T (not (ltb i (length ys))) → record { inside = false; found = noRecord } ≡ found ys i
   unfolding found recordAt
   found-outside h = rw (is-outside h, getD-outside ys i (nltb→le i (length ys) h)) refl
 
@@ -45,16 +45,16 @@ module _ (ys : List Record) (i : ℕ) where
         (w : Extended) → T (ltb i (length ys)) →
         let x = getD ys i noRecord in
         w ≡ extension true (ofSix (x .size) (x .set) (x .path) (x .bound) (x .first) (x .second)) stop leg
-        → (w ≡ extension (isInside ys i) (recordAt ys i) stop leg) × (set ys i (w .node) ≡ extendAt ys i stop leg)
+        → (w ≡ extension (isInside ys i) (recordAt ys i) stop leg) × (set ys i (w .after) ≡ extendAt ys i stop leg)
     unfolding recordAt ofSix
     extended-inside w h e = (
       e ∙ rw (is-inside h) refl,
-      ap (λ (v : Extended). set ys i (v .node)) e ∙ sym (run-inside ys i stop leg (is-inside h)),
+      ap (λ (v : Extended). set ys i (v .after)) e ∙ sym (run-inside ys i stop leg (is-inside h)),
     )
 
     pub extended-outside :
         T (not (ltb i (length ys)))
-        → (record { inside = false; fits = false; node = noRecord } ≡ extension (isInside ys i) (recordAt ys i) stop leg)
+        → (record { inside = false; fits = false; after = noRecord } ≡ extension (isInside ys i) (recordAt ys i) stop leg)
         × (ys ≡ extendAt ys i stop leg)
     unfolding extension
     extended-outside h = (rw (is-outside h) refl, sym (run-outside ys i stop leg (is-outside h)))

@@ -53,9 +53,9 @@ pub record Numbers (x : Record) : Type 0 where
   pub first : x .first < 2 ^ 32
   pub second : x .second < 2 ^ 32
 
-pub fits-words : (r : Found) → Is F.the-row r (mach r ∷ []) → Numbers (r .node)
+pub fits-words : (r : Found) → Is F.the-row r (mach r ∷ []) → Numbers (r .found)
 fits-words r is =
-    let w = LL.owed T.the-type T′.the-laws (r .node) _ (LL.owed F.the-type F′.the-laws r _ is .1 .0) in
+    let w = LL.owed T.the-type T′.the-laws (r .found) _ (LL.owed F.the-type F′.the-laws r _ is .1 .0) in
     record { size = w .0 .1; set = w .1 .0 .1; first = w .1 .1 .1 .1 .0 .1; second = w .1 .1 .1 .1 .1 .0 .1 }
 
 module _ {M : Type 1} (𝓤 : URA M) (H : Heap 𝓤) (A : Atoms 𝓤) (W : Given 𝓤 H A) where

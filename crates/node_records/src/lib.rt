@@ -25,12 +25,12 @@ pub fn read(pool: &[Record], i: usize) -> Found
     if i < pool.len() {
         return Found {
             inside: true,
-            node: pool[i],
+            found: pool[i],
         };
     }
     Found {
         inside: false,
-        node: Record {
+        found: Record {
             size: 0,
             set: 0,
             path: 0,
@@ -59,10 +59,10 @@ pub fn is_node(pool: &[Record], i: usize, n: u32) -> Verdict
     let r = read(pool, i);
     verdict_of(
         r.inside,
-        r.node.size,
-        r.node.set,
-        r.node.first,
-        r.node.second,
+        r.found.size,
+        r.found.set,
+        r.found.first,
+        r.found.second,
         n,
     )
 }
@@ -72,7 +72,7 @@ pub fn stops(pool: &[Record], i: usize) -> Flown
     ensures { λ r. ⌜ r ≡ flownAt (isInside (now (pool .entry)) i) (recordAt (now (pool .entry)) i) ⌝ }
 {
     let r = read(pool, i);
-    flown_of(r.inside, r.node.size, r.node.first, r.node.second)
+    flown_of(r.inside, r.found.size, r.found.first, r.found.second)
 }
 
 // The path cost of record i and its bound, against a job and its table.
@@ -82,10 +82,10 @@ pub fn costs(pool: &[Record], i: usize, job: Job, table: &[u32]) -> Figures
     let r = read(pool, i);
     figures_of(
         r.inside,
-        r.node.size,
-        r.node.set,
-        r.node.first,
-        r.node.second,
+        r.found.size,
+        r.found.set,
+        r.found.first,
+        r.found.second,
         job,
         table,
     )
@@ -106,13 +106,13 @@ pub fn extend(pool: &mut [Record], i: usize, stop: u32, leg: u32) -> Extended
             x.second,
             Added { stop, leg },
         );
-        pool[i] = r.node;
+        pool[i] = r.after;
         return r;
     }
     Extended {
         inside: false,
         fits: false,
-        node: Record {
+        after: Record {
             size: 0,
             set: 0,
             path: 0,

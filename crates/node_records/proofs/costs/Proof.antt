@@ -95,14 +95,14 @@ module _ {M : Type 1} (𝓤 : URA M) (H : Heap 𝓤) (A : Atoms 𝓤) (mem : Mem
         (κ, tt),
         (q, tt),
         tt,
-        (r .inside, (r .node .size, (r .node .set, (r .node .first, (r .node .second, (job, (t, tt))))))),
+        (r .inside, (r .found .size, (r .found .set, (r .found .first, (r .found .second, (job, (t, tt))))))),
         (
           vbool (r .inside) ∷ [],
           (
-            vint w32 (r .node .size) ∷ [],
+            vint w32 (r .found .size) ∷ [],
             (
-              vint w32 (r .node .set) ∷ [],
-              (vint w32 (r .node .first) ∷ [], (vint w32 (r .node .second) ∷ [], (jobs job, (table ∷ [], tt)))),
+              vint w32 (r .found .set) ∷ [],
+              (vint w32 (r .found .first) ∷ [], (vint w32 (r .found .second) ∷ [], (jobs job, (table ∷ [], tt)))),
             ),
           ),
         ),
@@ -112,7 +112,7 @@ module _ {M : Type 1} (𝓤 : URA M) (H : Heap 𝓤) (A : Atoms 𝓤) (mem : Mem
 
     -- what it answers, and of what it ensures the clause alone
     abbrev answer : Figures
-    answer = figures (r .inside) (ofFour (r .node .size) (r .node .set) (r .node .first) (r .node .second)) job (t .now)
+    answer = figures (r .inside) (ofFour (r .found .size) (r .found .set) (r .found .first) (r .found .second)) job (t .now)
 
     abbrev Ensured : Figures → SProp 𝓤
     Ensured u = ensured 𝓤 H A callee.ended (callee.clauses 𝓤 H A mem run) (κ, tt) (to .0 .3) tt u
@@ -121,16 +121,16 @@ module _ {M : Type 1} (𝓤 : URA M) (H : Heap 𝓤) (A : Atoms 𝓤) (mem : Mem
     said u = exE 𝓤 _ (λ ws. snd∗ 𝓤 (sem 𝓤 H A (lasts callee.ended (κ, tt) (to .0 .3) ws)) (fact 𝓤 (u ≡ answer)))
 
     asked :
-        (W : Given 𝓤 H A) → Is J.the-row job (jobs job) → Numbers (r .node)
+        (W : Given 𝓤 H A) → Is J.the-row job (jobs job) → Numbers (r .found)
         → ent 𝓤 (⋆ 𝓤 H A (‵ (flft κ q) ∷ ‵ owned-table ∷ [])) (Callee .pre to)
     asked W isJ x =
         qed W (‵ (flft κ q) ∷ ‵ owned-table ∷ []) ∵ nothing ! $ move ! (1 ∷ 0 ∷ []) $ join ! $
         nothing ! $ move ! (2 ∷ 0 ∷ []) $ fjoin ! $
         owned ! J.the-row (Is J.the-row) (LL.makes J.the-type J′.the-plain 𝓤 H A) job (jobs job) isJ $ fjoin ! $
-        own-u32 ! (r .node .second) (x .second) $ fjoin ! $
-        own-u32 ! (r .node .first) (x .first) $ fjoin ! $
-        own-u32 ! (r .node .set) (x .set) $ fjoin ! $
-        own-u32 ! (r .node .size) (x .size) $ fjoin ! $
+        own-u32 ! (r .found .second) (x .second) $ fjoin ! $
+        own-u32 ! (r .found .first) (x .first) $ fjoin ! $
+        own-u32 ! (r .found .set) (x .set) $ fjoin ! $
+        own-u32 ! (r .found .size) (x .size) $ fjoin ! $
         own-bool ! (r .inside) $ fjoin ! $ move ! (1 ∷ 0 ∷ []) $ join ! $ frame ! $ done !
 
 module _

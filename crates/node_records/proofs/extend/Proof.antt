@@ -151,18 +151,18 @@ module _
         sets ! 9 14 (bin ! (part ! 9 14 refl refl (whole !)) (local ! 9 14 refl) tt) refl (tt, tt) $
         rewrite ! 11 (λ (p : ℕ). ‵ (fat fullShare tyPtr l₁₃ 0 (vptr b p))) (sym (place-is 24 o i)) refl $
         assigns ! (of-opd ! (part ! 9 14 refl refl (whole !)))
-        (from ! (hop ! (look ! 11 refl) (stop !))) (store-raw ! 0 refl (typed 𝓤 H A W (w .node) (is-node w isw))) $
+        (from ! (hop ! (look ! 11 refl) (stop !))) (store-raw ! 0 refl (typed 𝓤 H A W (w .after) (is-node w isw))) $
         move ! (1 ∷ []) $ drop ! $
-        owned ! T.the-row (Is T.the-row) (LL.makes T.the-type T′.the-plain 𝓤 H A) (w .node) (vals (w .node)) (is-node w isw) $
+        owned ! T.the-row (Is T.the-row) (LL.makes T.the-type T′.the-plain 𝓤 H A) (w .after) (vals (w .after)) (is-node w isw) $
         move ! (1 ∷ 0 ∷ []) $
-        elem-put ! T.the-row fullShare ys i (w .node) (vals (w .node)) b o (ltb→lt i (length ys) inside) $
-        closes-slice ! tt T.the-row ys (set ys i (w .node)) (length-set ys i (w .node)) b o $
+        elem-put ! T.the-row fullShare ys i (w .after) (vals (w .after)) b o (ltb→lt i (length ys) inside) $
+        closes-slice ! tt T.the-row ys (set ys i (w .after)) (length-set ys i (w .after)) b o $
         sets ! 6 14 (of-opd ! (local ! 6 14 refl)) refl (answer-typed 𝓤 H A W w isw) $
         returns-within ! Post refl (look ! 34 refl) $ forget ! 8 refl $ forget ! 10 refl $ forget ! 12 refl $ forget ! 14 refl $
         forget ! 16 refl $ forget ! 18 refl $ forget ! 20 refl $ forget ! 22 refl $ forget ! 24 refl $ forget ! 26 refl $ forget ! 28 refl $
         forget ! 30 refl $ forget ! 32 refl $ forget ! 34 refl $
         move ! (places 6 14) $ frees-all ! $ keep ! (0 ∷ 1 ∷ 2 ∷ 3 ∷ []) $
-        by ! (exits w (set ys i (w .node)) isw (length-set ys i (w .node)) room (extended-inside ys i s leg w inside f)))))
+        by ! (exits w (set ys i (w .after)) isw (length-set ys i (w .after)) room (extended-inside ys i s leg w inside f)))))
         (λ outside. goes-on ! none Post $
         sets ! 6 14 (agg ! (and-then ! (lit ! tt) (and-then ! (lit ! tt)
         (and-then ! (lit ! tt) (and-then ! (lit ! tt) (and-then ! (lit ! tt) (and-then ! (lit ! tt) (no-more !)))))))) refl
@@ -186,7 +186,7 @@ module _
             (seq (assign (place 0 []) (aggregate (opdFalse ∷ opdFalse ∷ copy (place 14 []) ∷ []))) return)
 
         nothing-extended : Extended
-        nothing-extended = record { inside = false; fits = false; node = noRecord }
+        nothing-extended = record { inside = false; fits = false; after = noRecord }
 
         is-nothing : Is R.the-row nothing-extended (mach nothing-extended ∷ [])
         is-nothing = LL.owes R.the-type R′.the-laws nothing-extended (refl, (refl, (zeros, tt)))

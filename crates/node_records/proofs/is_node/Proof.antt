@@ -73,14 +73,14 @@ module _ {M : Type 1} (𝓤 : URA M) (H : Heap 𝓤) (A : Atoms 𝓤) (mem : Mem
       tt,
       tt,
       tt,
-      (r .inside, (r .node .size, (r .node .set, (r .node .first, (r .node .second, (n, tt)))))),
+      (r .inside, (r .found .size, (r .found .set, (r .found .first, (r .found .second, (n, tt)))))),
       (
         vbool (r .inside) ∷ [],
         (
-          vint w32 (r .node .size) ∷ [],
+          vint w32 (r .found .size) ∷ [],
           (
-            vint w32 (r .node .set) ∷ [],
-            (vint w32 (r .node .first) ∷ [], (vint w32 (r .node .second) ∷ [], (vint w32 n ∷ [], tt))),
+            vint w32 (r .found .set) ∷ [],
+            (vint w32 (r .found .first) ∷ [], (vint w32 (r .found .second) ∷ [], (vint w32 n ∷ [], tt))),
           ),
         ),
       ),
@@ -90,7 +90,7 @@ module _ {M : Type 1} (𝓤 : URA M) (H : Heap 𝓤) (A : Atoms 𝓤) (mem : Mem
 
   -- what it answers, and of what it ensures the clause alone
   abbrev answer : Found → ℕ → Verdict
-  answer r n = verdict (r .inside) (ofFour (r .node .size) (r .node .set) (r .node .first) (r .node .second)) n
+  answer r n = verdict (r .inside) (ofFour (r .found .size) (r .found .set) (r .found .first) (r .found .second)) n
 
   abbrev Ensured : Found → ℕ → Verdict → SProp 𝓤
   Ensured r n u = ensured 𝓤 H A callee.ended (callee.clauses 𝓤 H A mem run) tt (to r n .0 .3) tt u
@@ -99,19 +99,19 @@ module _ {M : Type 1} (𝓤 : URA M) (H : Heap 𝓤) (A : Atoms 𝓤) (mem : Mem
   said r n u = exE 𝓤 _ (λ ws. snd∗ 𝓤 (sem 𝓤 H A (lasts callee.ended tt (to r n .0 .3) ws)) (fact 𝓤 (u ≡ answer r n)))
 
   module _ (W : Given 𝓤 H A) where
-    asked : (r : Found) (n : ℕ) → n < 2 ^ 32 → Numbers (r .node) → ent 𝓤 (emp 𝓤) (Callee .pre (to r n))
+    asked : (r : Found) (n : ℕ) → n < 2 ^ 32 → Numbers (r .found) → ent 𝓤 (emp 𝓤) (Callee .pre (to r n))
     asked r n gn x =
         qed W [] ∵ nothing ! $ own-u32 ! n gn $ fjoin ! $
-        own-u32 ! (r .node .second) (x .second) $ fjoin ! $
-        own-u32 ! (r .node .first) (x .first) $ fjoin ! $
-        own-u32 ! (r .node .set) (x .set) $ fjoin ! $
-        own-u32 ! (r .node .size) (x .size) $ fjoin ! $
+        own-u32 ! (r .found .second) (x .second) $ fjoin ! $
+        own-u32 ! (r .found .first) (x .first) $ fjoin ! $
+        own-u32 ! (r .found .set) (x .set) $ fjoin ! $
+        own-u32 ! (r .found .size) (x .size) $ fjoin ! $
         own-bool ! (r .inside) $ fjoin ! $ nothing ! $ join ! $ frame ! $ done !
 
 -- the answer is that of record i
 answers :
     (ys : List Record) (i : ℕ) (r : Found) (n : ℕ) (u : Verdict) → r ≡ found ys i
-    → u ≡ verdict (r .inside) (ofFour (r .node .size) (r .node .set) (r .node .first) (r .node .second)) n
+    → u ≡ verdict (r .inside) (ofFour (r .found .size) (r .found .set) (r .found .first) (r .found .second)) n
     → u ≡ verdict (isInside ys i) (recordAt ys i) n
 unfolding found verdict isNode isRecordOf flownStops ofFour
 answers ys i r n u e f = f ∙ rw e refl

@@ -157,14 +157,14 @@ module _
 
         answered :
             (inside : Bool) (x : Record) → Is T.the-row x (vals x)
-            → Is F.the-row (record { inside = inside; node = x }) (mach (record { inside = inside; node = x }) ∷ [])
-        answered inside x is = LL.owes F.the-type F′.the-laws (record { inside = inside; node = x }) (refl, (is, tt))
+            → Is F.the-row (record { inside = inside; found = x }) (mach (record { inside = inside; found = x }) ∷ [])
+        answered inside x is = LL.owes F.the-type F′.the-laws (record { inside = inside; found = x }) (refl, (is, tt))
 
         answer-typed :
             (inside : Bool) (x : Record) → Is T.the-row x (vals x)
-            → T (hasTy F′.mir (mach (record { inside = inside; node = x }))) × WT (mach (record { inside = inside; node = x }))
+            → T (hasTy F′.mir (mach (record { inside = inside; found = x }))) × WT (mach (record { inside = inside; found = x }))
         answer-typed inside x is =
-            LL.lawful F.the-type F′.the-laws 𝓤 H A W .typed (record { inside = inside; node = x }) _ (answered inside x is) .0
+            LL.lawful F.the-type F′.the-laws 𝓤 H A W .typed (record { inside = inside; found = x }) _ (answered inside x is) .0
 
 module _ {M : Type 1} (𝓤 : URA M) (H : Heap 𝓤) (A : Atoms 𝓤) (W : Given 𝓤 H A) (mem : Memory → SProp 𝓤) (run : Routine → Fun 𝓤) where
   read-walks : (C : Calls 𝓤 H) (Λ : Loops 𝓤 H) → Walks 𝓤 H A read.ended stayed (WpFn 𝓤 H C Λ code.function) (read.clauses 𝓤 H A mem run)

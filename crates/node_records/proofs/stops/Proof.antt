@@ -73,15 +73,15 @@ module _ {M : Type 1} (𝓤 : URA M) (H : Heap 𝓤) (A : Atoms 𝓤) (mem : Mem
       tt,
       tt,
       tt,
-      (r .inside, (r .node .size, (r .node .first, (r .node .second, tt)))),
-      (vbool (r .inside) ∷ [], (vint w32 (r .node .size) ∷ [], (vint w32 (r .node .first) ∷ [], (vint w32 (r .node .second) ∷ [], tt)))),
+      (r .inside, (r .found .size, (r .found .first, (r .found .second, tt)))),
+      (vbool (r .inside) ∷ [], (vint w32 (r .found .size) ∷ [], (vint w32 (r .found .first) ∷ [], (vint w32 (r .found .second) ∷ [], tt)))),
     ),
     tt,
   )
 
   -- what it answers, and of what it ensures the clause alone
   abbrev answer : Found → Flown
-  answer r = flownAt (r .inside) (ofFour (r .node .size) 0 (r .node .first) (r .node .second))
+  answer r = flownAt (r .inside) (ofFour (r .found .size) 0 (r .found .first) (r .found .second))
 
   abbrev Ensured : Found → Flown → SProp 𝓤
   Ensured r u = ensured 𝓤 H A callee.ended (callee.clauses 𝓤 H A mem run) tt (to r .0 .3) tt u
@@ -90,17 +90,17 @@ module _ {M : Type 1} (𝓤 : URA M) (H : Heap 𝓤) (A : Atoms 𝓤) (mem : Mem
   said r u = exE 𝓤 _ (λ ws. snd∗ 𝓤 (sem 𝓤 H A (lasts callee.ended tt (to r .0 .3) ws)) (fact 𝓤 (u ≡ answer r)))
 
   module _ (W : Given 𝓤 H A) where
-    asked : (r : Found) → Numbers (r .node) → ent 𝓤 (emp 𝓤) (Callee .pre (to r))
+    asked : (r : Found) → Numbers (r .found) → ent 𝓤 (emp 𝓤) (Callee .pre (to r))
     asked r n =
-        qed W [] ∵ nothing ! $ own-u32 ! (r .node .second) (n .second) $ fjoin ! $
-        own-u32 ! (r .node .first) (n .first) $ fjoin ! $
-        own-u32 ! (r .node .size) (n .size) $ fjoin ! $
+        qed W [] ∵ nothing ! $ own-u32 ! (r .found .second) (n .second) $ fjoin ! $
+        own-u32 ! (r .found .first) (n .first) $ fjoin ! $
+        own-u32 ! (r .found .size) (n .size) $ fjoin ! $
         own-bool ! (r .inside) $ fjoin ! $ nothing ! $ join ! $ frame ! $ done !
 
 -- the answer is that of record i
 answers :
     (ys : List Record) (i : ℕ) (r : Found) (u : Flown) → r ≡ found ys i
-    → u ≡ flownAt (r .inside) (ofFour (r .node .size) 0 (r .node .first) (r .node .second)) → u ≡ flownAt (isInside ys i) (recordAt ys i)
+    → u ≡ flownAt (r .inside) (ofFour (r .found .size) 0 (r .found .first) (r .found .second)) → u ≡ flownAt (isInside ys i) (recordAt ys i)
 unfolding found flownAt flownStops ofFour
 answers ys i r u e f = f ∙ rw e refl
 
