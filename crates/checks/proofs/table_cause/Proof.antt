@@ -64,9 +64,6 @@ legs c =
 returns : tie.Need-returns
 returns c = table-first _ _ (sym (c .before .wrong-n .ensures) ∙ c .if1 .taken)
 
-add-side : tie.Need-add-side
-add-side c = omega (arith, few c)
-
 mul-if2 : tie.Need-mul-if2
 mul-if2 c =
     let side : suc (stopsIn (start₁ c)) ≤ places = omega (arith, few c) in
@@ -79,9 +76,6 @@ returns-3 : tie.Need-returns-3
 returns-3 c =
     let left = c .before .before in
     table-third _ _ (stops (left .before)) (area left) (large-leg _ _ (turned _ _ (c .before .small .ensures) ∙ c .if3 .taken))
-
-diagonal-requires : tie.Need-diagonal-requires
-diagonal-requires c κs = (few (c .before .before .before), omega arith)
 
 returns-4 : tie.Need-returns-4
 returns-4 c =
@@ -97,12 +91,12 @@ table-cause-spec =
     (tie.spec
     (λ c κs. search needs)
     returns
-    add-side
+    (λ c. omega (arith, few c))
     (λ c. search needs)
     mul-if2
     returns-2
     (λ c κs. search needs)
     returns-3
-    diagonal-requires
+    (λ c κs. (few (c .before .before .before), omega arith))
     returns-4
     returns-5)

@@ -12,20 +12,11 @@ use Rattle.inspection.proofs.cost.figures_of.Tie as tie
 abbrev x : tie.Start → Record
 x c = ofFour (c .args .size) (c .args .set) (c .args .first) (c .args .second)
 
-no-figures-requires : tie.Need-no-figures-requires
-no-figures-requires c κs = tt
-
 returns : tie.Need-returns
 returns c =
     let s = c .before .before .before in
     rw (not-true (s .args .inside) (c .before .if1 .taken)) (c .no-figures .ensures ∙ figures-outside (x s) (s .args .job)
     (s .args .table .now))
-
-job-cause-requires : tie.Need-job-cause-requires
-job-cause-requires c κs = tt
-
-no-figures-requires-2 : tie.Need-no-figures-requires-2
-no-figures-requires-2 c κs = tt
 
 returns-2 : tie.Need-returns-2
 returns-2 c =
@@ -35,12 +26,6 @@ returns-2 c =
     (c .no-figures2 .ensures
     ∙ figures-refused (x s) (s .args .job) (s .args .table .now) (j .job-cause .result) (j .job-cause .ensures)
     (c .before .if2 .taken))
-
-is-record-requires : tie.Need-is-record-requires
-is-record-requires c κs = tt
-
-no-figures-requires-3 : tie.Need-no-figures-requires-3
-no-figures-requires-3 c κs = tt
 
 returns-3 : tie.Need-returns-3
 returns-3 c =
@@ -70,14 +55,14 @@ pub figures-of-spec : {M : Type 1} → statement M
 figures-of-spec =
     tie.close
     (tie.spec
-    no-figures-requires
+    (λ c κs. tt)
     returns
     (λ c. search needs)
-    job-cause-requires
-    no-figures-requires-2
+    (λ c κs. tt)
+    (λ c κs. tt)
     returns-2
-    is-record-requires
-    no-figures-requires-3
+    (λ c κs. tt)
+    (λ c κs. tt)
     returns-3
     reckoned-requires
     returns-4)

@@ -49,9 +49,6 @@ along-requires c κs =
     let s = entered (c .before) in
     (omega (arith, node-short (s .args .job .n) (x s) (s .pre .0), few s), cheap (c .before))
 
-shl-rest : tie.Need-shl-rest
-shl-rest c = omega (arith, few (started c))
-
 -- the set of all n stops
 shifted : (c : tie.Start) → (1 * 2 ^ (c .args .job .n)) % 4294967296 ≡ 2 ^ (c .args .job .n)
 shifted c = one-shifted (c .args .job .n) (few c)
@@ -102,7 +99,7 @@ reckoned-spec =
     (λ c. search needs)
     rows-requires
     along-requires
-    shl-rest
+    (λ c. omega (arith, few (started c)))
     sub-rest
     sub-rest-2
     ahead-requires

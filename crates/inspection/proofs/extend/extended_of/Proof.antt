@@ -17,9 +17,6 @@ use Rattle.inspection.proofs.extend.extended_of.Tie as tie
 abbrev x : tie.Start → Record
 x c = ofSix (c .args .size) (c .args .set) (c .args .path) (c .args .bound) (c .args .first) (c .args .second)
 
-fits-on-requires : tie.Need-fits-on-requires
-fits-on-requires c κs = search needs
-
 returns : tie.Need-returns
 unfolding extension ofSix
 returns c =
@@ -45,4 +42,4 @@ unfolding extension ofSix
 returns-2 c = rw (c .extended .ensures, fits-extended (parts (c .before)), fit (c .before)) refl
 
 pub extended-of-spec : {M : Type 1} → statement M
-extended-of-spec = tie.close (tie.spec fits-on-requires returns extended-requires returns-2)
+extended-of-spec = tie.close (tie.spec (λ c κs. search needs) returns extended-requires returns-2)

@@ -7,15 +7,9 @@ use Rattle.node_answers.specs.Answers.{flownAt}
 use Rattle.inspection.proofs.order.flown_of.Statement.{statement}
 use Rattle.inspection.proofs.order.flown_of.Tie as tie
 
-places-requires : tie.Need-places-requires
-places-requires c κs = tt
-
-stops-of-requires : tie.Need-stops-of-requires
-stops-of-requires c κs = omega (arith, c .places .ensures)
-
 returns : tie.Need-returns
 unfolding flownAt flownStops ofFour
 returns c = rw (c .stops-of .ensures, c .before .places .ensures) refl
 
 pub flown-of-spec : {M : Type 1} → statement M
-flown-of-spec = tie.close (tie.spec places-requires stops-of-requires returns)
+flown-of-spec = tie.close (tie.spec (λ c κs. tt) (λ c κs. omega (arith, c .places .ensures)) returns)

@@ -7,15 +7,6 @@ use borrow.Author.Needs.{needs}
 use Rattle.job_file.proofs.bytes.put_word.Statement.{statement}
 use Rattle.job_file.proofs.bytes.put_word.Tie as tie
 
-slice-write-bytes-2 : tie.Need-slice-write-bytes-2
-slice-write-bytes-2 c = simp length-set (omega arith)
-
-slice-write-bytes-3 : tie.Need-slice-write-bytes-3
-slice-write-bytes-3 c = simp length-set (omega arith)
-
-slice-write-bytes-4 : tie.Need-slice-write-bytes-4
-slice-write-bytes-4 c = simp length-set (omega arith)
-
 returns : tie.Need-returns
 unfolding word
 returns c = simp towards-suc
@@ -28,12 +19,12 @@ put-word-spec =
     (λ c. omega arith)
     (λ c. omega arith)
     (λ c. omega arith)
-    slice-write-bytes-2
+    (λ c. simp length-set (omega arith))
     (λ c. omega arith)
     (λ c. omega arith)
-    slice-write-bytes-3
+    (λ c. simp length-set (omega arith))
     (λ c. omega arith)
     (λ c. omega arith)
-    slice-write-bytes-4
+    (λ c. simp length-set (omega arith))
     (λ c. search needs)
     returns)

@@ -6,9 +6,6 @@ use Rattle.job_format.proofs.ByteLaws.{padded-overwrite}
 use Rattle.job_file.proofs.reader.start_of.Statement.{statement}
 use Rattle.job_file.proofs.reader.start_of.Tie as tie
 
-slice-aggregate-put-bytes : tie.Need-slice-aggregate-put-bytes
-slice-aggregate-put-bytes c = search needs
-
 put-bytes-requires : tie.Need-put-bytes-requires
 put-bytes-requires c κs = search needs
 
@@ -16,4 +13,4 @@ returns : tie.Need-returns
 returns c = c .before .put-bytes .ensures ∙ sym (padded-overwrite orderPlaces _)
 
 pub start-of-spec : {M : Type 1} → statement M
-start-of-spec = tie.close (tie.spec slice-aggregate-put-bytes put-bytes-requires returns)
+start-of-spec = tie.close (tie.spec (λ c. search needs) put-bytes-requires returns)

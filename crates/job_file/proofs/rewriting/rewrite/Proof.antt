@@ -30,9 +30,6 @@ file-bytes c = slice-bytes _ (λ k. omega (arith, c .before .before .shared-slic
 returns : tie.Need-returns
 returns c = rewritten-refused _ _ (c .before .before .read .ensures) _ (c .if1 .taken)
 
-area-requires : tie.Need-area-requires
-area-requires c κs = found c .few
-
 array-share-prefix-table : tie.Need-array-share-prefix-table
 array-share-prefix-table c = omega (arith, found (c .before .before) .table, c .before .area .ensures .0)
 
@@ -58,7 +55,7 @@ rewrite-spec =
     (tie.spec
     (λ c κs. search needs)
     returns
-    area-requires
+    (λ c κs. found c .few)
     (λ c. search needs)
     array-share-prefix-table
     slice-aggregate-write

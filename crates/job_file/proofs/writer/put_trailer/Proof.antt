@@ -5,20 +5,8 @@ use Rattle.job_file.proofs.WriterLaws.{trailer-written}
 use Rattle.job_file.proofs.writer.put_trailer.Statement.{statement}
 use Rattle.job_file.proofs.writer.put_trailer.Tie as tie
 
-slice-write-buffer-2 : tie.Need-slice-write-buffer-2
-slice-write-buffer-2 c = simp length-set (omega arith)
-
-slice-write-buffer-3 : tie.Need-slice-write-buffer-3
-slice-write-buffer-3 c = simp length-set (omega arith)
-
-slice-write-buffer-4 : tie.Need-slice-write-buffer-4
-slice-write-buffer-4 c = simp length-set (omega arith)
-
 slice-write-buffer-5 : tie.Need-slice-write-buffer-5
 slice-write-buffer-5 c = simp length-set (omega arith)
-
-same-length : tie.Need-same-length
-same-length c = simp length-set (omega arith)
 
 returns : tie.Need-returns
 returns c =
@@ -37,12 +25,12 @@ put-trailer-spec =
     (λ c κs. omega arith)
     (λ c. omega arith)
     (λ c. omega arith)
-    slice-write-buffer-2
+    (λ c. simp length-set (omega arith))
     (λ c. omega arith)
-    slice-write-buffer-3
+    (λ c. simp length-set (omega arith))
     (λ c. omega arith)
-    slice-write-buffer-4
+    (λ c. simp length-set (omega arith))
     (λ c. omega arith)
     slice-write-buffer-5
-    same-length
+    (λ c. simp length-set (omega arith))
     returns)

@@ -4,11 +4,8 @@ use native.Mathlib.Nat.{mod-lt}
 use Rattle.trials.proofs.enumerate.below.Statement.{statement}
 use Rattle.trials.proofs.enumerate.below.Tie as tie
 
-rem-result : tie.Need-rem-result
-rem-result c = search needs
-
 returns : tie.Need-returns
 returns c = mod-lt (c .args .x) (search needs)
 
 pub below-spec : {M : Type 1} → statement M
-below-spec = tie.close (tie.spec rem-result returns)
+below-spec = tie.close (tie.spec (λ c. search needs) returns)
