@@ -1,10 +1,10 @@
 -- What is proved of these definitions (proofs/RoundTrip and proofs/Refusals): the letter's demands 1 and 2 of files, and document 01's "Causes
 -- and numbers".
 --   ReadsOrRefuses, WritesOrRefuses    demand 1: with which numbers the reader and the writer answer, 0 for a file accepted or written
---   ReadsBack, Rewrites, OneFile    demand 2: job files read back as written, accepted files are rewritten, no two contents share a file
---   LengthOfFile                    how long a file is
---   TableSquare, NeverTwo           number 2 does not come from the reader, and check 2 would find nothing either
---   Zeros                           a refusal by the reader is its number and zeros
+--   ReadsBack, Rewrites, OneFile       demand 2: job files read back as written, accepted files are rewritten, no two contents share a file
+--   LengthOfFile                       how long a file is
+--   TableSquare, NeverTwo              number 2 does not come from the reader, and check 2 would find nothing either
+--   Zeros                              a refusal by the reader is its number and zeros
 use mathlib.Core.Path.{_≡_}
 use mathlib.Core.Bool.{false}
 use mathlib.Core.List.{List, [], _∷_}
