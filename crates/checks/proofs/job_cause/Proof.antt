@@ -24,9 +24,6 @@ choices c = table-passes _ _ _ _ (c .before .table-cause .ensures) (c .if1 .left
 known : (c : tie.Else2) → cause₄ (job (c .before .before .before)) ≡ false
 known c = sym (c .before .unknown-choice .ensures) ∙ c .if2 .left
 
-returns : tie.Need-returns
-returns c = table-refuses _ _ _ _ (c .before .table-cause .ensures) (c .if1 .taken)
-
 returns-2 : tie.Need-returns-2
 returns-2 c =
     let f = sym (c .before .unknown-choice .ensures) ∙ c .if2 .taken in
@@ -54,7 +51,7 @@ job-cause-spec =
     tie.close
     (tie.spec
     (λ c κs. search needs)
-    returns
+    (λ c. table-refuses _ _ _ _ (c .before .table-cause .ensures) (c .if1 .taken))
     (λ c κs. search needs)
     returns-2
     wrong-start-requires

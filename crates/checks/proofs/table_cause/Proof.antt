@@ -61,9 +61,6 @@ legs c =
     (turned _ _ (small .small .ensures) ∙ c .before .before .if3 .left)
     (turned _ _ (c .before .diagonal .ensures) ∙ c .if4 .left)
 
-returns : tie.Need-returns
-returns c = table-first _ _ (sym (c .before .wrong-n .ensures) ∙ c .if1 .taken)
-
 mul-if2 : tie.Need-mul-if2
 mul-if2 c =
     let side : suc (stopsIn (start₁ c)) ≤ places = omega (arith, few c) in
@@ -82,15 +79,12 @@ returns-4 c =
     let left = c .before .before .before .before in
     table-third _ _ (stops (left .before)) (area left) (nonzero-diagonal _ _ (turned _ _ (c .before .diagonal .ensures) ∙ c .if4 .taken))
 
-returns-5 : tie.Need-returns-5
-returns-5 c = table-right _ _ (stops (measured₄ c .before)) (area (measured₄ c)) (legs c)
-
 pub table-cause-spec : {M : Type 1} → statement M
 table-cause-spec =
     tie.close
     (tie.spec
     (λ c κs. search needs)
-    returns
+    (λ c. table-first _ _ (sym (c .before .wrong-n .ensures) ∙ c .if1 .taken))
     (λ c. omega (arith, few c))
     (λ c. search needs)
     mul-if2
@@ -99,4 +93,4 @@ table-cause-spec =
     returns-3
     (λ c κs. (few (c .before .before .before), omega arith))
     returns-4
-    returns-5)
+    (λ c. table-right _ _ (stops (measured₄ c .before)) (area (measured₄ c)) (legs c)))

@@ -4,14 +4,8 @@ use Rattle.checks.proofs.CauseLaws.{high-selection, high-rules, bound-l
 use Rattle.checks.proofs.unknown_choice.Statement.{statement}
 use Rattle.checks.proofs.unknown_choice.Tie as tie
 
-returns : tie.Need-returns
-returns c = sym (high-selection _ (c .if1 .taken))
-
 returns-2 : tie.Need-returns-2
 returns-2 c = sym (high-rules _ (c .if2 .taken))
 
-returns-3 : tie.Need-returns-3
-returns-3 c = sym (bound-left _ (c .before .before .before .if1 .left) (c .before .if2 .left))
-
 pub unknown-choice-spec : {M : Type 1} → statement M
-unknown-choice-spec = tie.close (tie.spec returns returns-2 returns-3)
+unknown-choice-spec = tie.close (tie.spec (λ c. sym (high-selection _ (c .if1 .taken))) returns-2 (λ c. sym (bound-left _ (c .before .before .before .if1 .left) (c .before .if2 .left))))

@@ -6,11 +6,8 @@ use Rattle.checks.proofs.CauseLaws.{empty-passes, order-left}
 use Rattle.checks.proofs.wrong_start.Statement.{statement}
 use Rattle.checks.proofs.wrong_start.Tie as tie
 
-returns : tie.Need-returns
-returns c = sym (empty-passes _ _ (c .if1 .taken))
-
 returns-2 : tie.Need-returns-2
 returns-2 c = ap not (c .is-order .ensures) ∙ sym (order-left _ _ (c .before .if1 .left))
 
 pub wrong-start-spec : {M : Type 1} → statement M
-wrong-start-spec = tie.close (tie.spec returns (λ c κs. search needs) returns-2)
+wrong-start-spec = tie.close (tie.spec (λ c. sym (empty-passes _ _ (c .if1 .taken))) (λ c κs. search needs) returns-2)

@@ -9,9 +9,6 @@ use Rattle.plan.proofs.main.Tie as tie
 array-share-prefix-bytes : tie.Need-array-share-prefix-bytes
 array-share-prefix-bytes c = text-fits _ _ (c .before .output .ensures)
 
-slice-aggregate-write-all : tie.Need-slice-aggregate-write-all
-slice-aggregate-write-all c = sym (length-take-le _ (c .before .before .output .result .bytes) (array-share-prefix-bytes (c .before)))
-
 returns : tie.Need-returns
 returns c = search needs
 
@@ -25,6 +22,6 @@ main-spec =
     (λ c. search needs)
     (λ c κs. search needs)
     array-share-prefix-bytes
-    slice-aggregate-write-all
+    (λ c. sym (length-take-le _ (c .before .before .output .result .bytes) (array-share-prefix-bytes (c .before))))
     (λ c κs. search needs)
     returns)

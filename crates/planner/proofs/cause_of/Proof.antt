@@ -31,13 +31,10 @@ returns c =
 returns-2 : tie.Need-returns-2
 returns-2 c = let job = c .before in no-record (start (job .before) .args .pool .now) (c .if2 .taken) ∙ sym (passed job)
 
-returns-3 : tie.Need-returns-3
-returns-3 c = let job = c .before .before in part-record (start (job .before) .args .pool .now) (c .if3 .taken) ∙ sym (passed job)
-
 returns-4 : tie.Need-returns-4
 returns-4 c =
     let job = c .before .before in
     sym (passed job ∙ pool-passes (start (job .before) .args .pool .now) (c .before .if2 .left) (c .if3 .left))
 
 pub cause-of-spec : {M : Type 1} → statement M
-cause-of-spec = tie.close (tie.spec (λ c κs. search needs) returns returns-2 returns-3 returns-4)
+cause-of-spec = tie.close (tie.spec (λ c κs. search needs) returns returns-2 (λ c. let job = c .before .before in part-record (start (job .before) .args .pool .now) (c .if3 .taken) ∙ sym (passed job)) returns-4)

@@ -17,9 +17,6 @@ not-above a b = go (ordered a b)
     go (inl h) = rw (le-leb a b h, le-ltb b a h)
     go (inr h) = rw (lt-leb a b h, lt-ltb b a h)
 
-returns : tie.Need-returns
-returns c = rw (ne-eqb (c .before .args .taking) 0 (c .if1 .taken))
-
 returns-2 : tie.Need-returns-2
 returns-2 c =
     let asked = c .before in
@@ -34,4 +31,4 @@ returns-3 c =
     (not-above (a .known) (a .upper))
 
 pub all-stay-spec : {M : Type 1} → statement M
-all-stay-spec = tie.close (tie.spec returns (λ c κs. search needs) returns-2 returns-3)
+all-stay-spec = tie.close (tie.spec (λ c. rw (ne-eqb (c .before .args .taking) 0 (c .if1 .taken))) (λ c κs. search needs) returns-2 returns-3)

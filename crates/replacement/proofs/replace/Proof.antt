@@ -49,9 +49,6 @@ returns c =
     let start = entry (chosen out) in
     gathered-written (start .pre .0) _ _ _ (gathered out) (start .pre .1) (written .write-at .ensures)
 
-returns-2 : tie.Need-returns-2
-returns-2 c = c .before .before .sifted .ensures
-
 pub replace-spec : {M : Type 1} → statement M
 replace-spec =
     tie.close
@@ -63,4 +60,4 @@ replace-spec =
     returns
     (λ c κs. search needs)
     (λ c. search needs)
-    returns-2)
+    (λ c. c .before .before .sifted .ensures))

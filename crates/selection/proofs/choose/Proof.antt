@@ -16,9 +16,6 @@ returns-3 c =
     let start = c .before .before in
     rw (c .match .keys3) (chosen-first (start .args .w .now) (start .args .a) (omega arith) (start .args .n) (omega arith))
 
-returns-4 : tie.Need-returns-4
-returns-4 c = rw (c .before .match .keys4) (c .latest-open .ensures)
-
 -- no other selection is left: refusal 4
 returns-5 : tie.Need-returns-5
 returns-5 c = search needs
@@ -33,5 +30,5 @@ choose-spec =
     returns
     returns-2
     returns-3
-    returns-4
+    (λ c. rw (c .before .match .keys4) (c .latest-open .ensures))
     returns-5)

@@ -5,9 +5,6 @@ use Rattle.children.proofs.BestLaws.{learn-keeps, learn-replaces}
 use Rattle.children.proofs.best.better.Statement.{statement}
 use Rattle.children.proofs.best.better.Tie as tie
 
-returns : tie.Need-returns
-returns c = let a = c .before .before .before .args in learn-keeps (a .setting) (a .best) (a .x) (inl (c .if1 .taken))
-
 returns-2 : tie.Need-returns-2
 returns-2 c =
     let e = c .before .before .before in
@@ -21,4 +18,4 @@ returns-3 c =
     learn-replaces (a .setting) (a .best) (a .x) (e .if1 .left) (c .if2 .left)
 
 pub better-spec : {M : Type 1} → statement M
-better-spec = tie.close (tie.spec returns returns-2 returns-3)
+better-spec = tie.close (tie.spec (λ c. let a = c .before .before .before .args in learn-keeps (a .setting) (a .best) (a .x) (inl (c .if1 .taken))) returns-2 returns-3)

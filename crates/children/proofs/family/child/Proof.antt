@@ -8,9 +8,6 @@ use Rattle.children.proofs.KidLaws.{kid-places, kid-wide, kid-small, ki
 use Rattle.children.proofs.family.child.Statement.{statement}
 use Rattle.children.proofs.family.child.Tie as tie
 
-extended-requires : tie.Need-extended-requires
-extended-requires c κs = rw (c .further .ensures) (kid-wide (c .before .pre))
-
 -- what `extended` makes is b with the stop and what it adds
 made :
     (c : tie.After-extended) →
@@ -48,7 +45,7 @@ child-spec =
     tie.close
     (tie.spec
     (λ c κs. omega (arith, kid-places (c .pre)))
-    extended-requires
+    (λ c κs. rw (c .further .ensures) (kid-wide (c .before .pre)))
     (λ c κs. let q = c .before .before .pre in (kid-places q .1, q .stop))
     ahead-requires
     add-x

@@ -3,11 +3,5 @@ use borrow.Author.Needs.{needs}
 use Rattle.children.proofs.survivors.limit_of.Statement.{statement}
 use Rattle.children.proofs.survivors.limit_of.Tie as tie
 
-returns : tie.Need-returns
-returns c = rw (← c .before .on .ensures, c .if1 .taken)
-
-returns-2 : tie.Need-returns-2
-returns-2 c = rw (← c .before .on .ensures, c .if1 .left)
-
 pub limit-of-spec : {M : Type 1} → statement M
-limit-of-spec = tie.close (tie.spec (λ c κs. search needs) returns returns-2)
+limit-of-spec = tie.close (tie.spec (λ c κs. search needs) (λ c. rw (← c .before .on .ensures, c .if1 .taken)) (λ c. rw (← c .before .on .ensures, c .if1 .left)))

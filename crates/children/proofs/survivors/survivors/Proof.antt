@@ -16,9 +16,6 @@ first c = c .before .before .before .before
 abbrev second : tie.After-by-rule-4 → tie.After-by-rule-2
 second c = c .before .before .before .before
 
-by-rule-2-requires : tie.Need-by-rule-2-requires
-by-rule-2-requires c κs = let one = c .before .before .before in spotted-still (entry one .pre) (one .by-rule-1 .ensures)
-
 by-rule-4-requires : tie.Need-by-rule-4-requires
 by-rule-4-requires c κs =
     let two = c .before .before .before in
@@ -38,4 +35,4 @@ returns c =
 pub survivors-spec : {M : Type 1} → statement M
 survivors-spec =
     tie.close
-    (tie.spec (λ c κs. c .before .before .before .pre .few) by-rule-2-requires by-rule-4-requires (λ c. search needs) returns)
+    (tie.spec (λ c κs. c .before .before .before .pre .few) (λ c κs. let one = c .before .before .before in spotted-still (entry one .pre) (one .by-rule-1 .ensures)) by-rule-4-requires (λ c. search needs) returns)

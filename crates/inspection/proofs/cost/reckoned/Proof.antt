@@ -53,9 +53,6 @@ along-requires c κs =
 shifted : (c : tie.Start) → (1 * 2 ^ (c .args .job .n)) % 4294967296 ≡ 2 ^ (c .args .job .n)
 shifted c = one-shifted (c .args .job .n) (few c)
 
-sub-rest : tie.Need-sub-rest
-sub-rest c = let s = started c in omega (arith, shifted s, pow-pos (s .args .job .n))
-
 sub-rest-2 : tie.Need-sub-rest-2
 unfolding ofFour
 sub-rest-2 c = let s = started c in omega (arith, shifted s, set-within (s .args .job .n) (x s) (s .pre .0))
@@ -100,7 +97,7 @@ reckoned-spec =
     rows-requires
     along-requires
     (λ c. omega (arith, few (started c)))
-    sub-rest
+    (λ c. let s = started c in omega (arith, shifted s, pow-pos (s .args .job .n)))
     sub-rest-2
     ahead-requires
     add-t14

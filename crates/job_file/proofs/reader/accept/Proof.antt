@@ -28,16 +28,10 @@ found c =
 array-share-prefix-table : tie.Need-array-share-prefix-table
 array-share-prefix-table c = omega arith
 
-slice-aggregate-job-cause : tie.Need-slice-aggregate-job-cause
-slice-aggregate-job-cause c = sym (length-take-le _ (c .before .before .table-of .result) (array-share-prefix-table (c .before)))
-
 returns : tie.Need-returns
 returns c =
     let checks = c .before .before in
     c .refused .ensures ∙ accept-refuses _ _ _ _ _ _ (found checks) _ (checks .job-cause .ensures) (c .before .if1 .taken)
-
-start-of-requires : tie.Need-start-of-requires
-start-of-requires c κs = found-short _ _ _ _ _ _ (found (c .before)) _ (c .before .job-cause .ensures) (c .if1 .left)
 
 returns-2 : tie.Need-returns-2
 returns-2 c =
@@ -59,9 +53,9 @@ accept-spec =
     (λ c. omega arith)
     (λ c. omega arith)
     array-share-prefix-table
-    slice-aggregate-job-cause
+    (λ c. sym (length-take-le _ (c .before .before .table-of .result) (array-share-prefix-table (c .before))))
     (λ c κs. omega arith)
     (λ c κs. omega arith)
     returns
-    start-of-requires
+    (λ c κs. found-short _ _ _ _ _ _ (found (c .before)) _ (c .before .job-cause .ensures) (c .if1 .left))
     returns-2)

@@ -33,14 +33,8 @@ returns c = rewritten-refused _ _ (c .before .before .read .ensures) _ (c .if1 .
 array-share-prefix-table : tie.Need-array-share-prefix-table
 array-share-prefix-table c = omega (arith, found (c .before .before) .table, c .before .area .ensures .0)
 
-slice-aggregate-write : tie.Need-slice-aggregate-write
-slice-aggregate-write c = sym (length-take-le _ (reading (taken c) .read .result .table) (array-share-prefix-table (c .before)))
-
 array-share-prefix-start : tie.Need-array-share-prefix-start
 array-share-prefix-start c = omega (arith, found (taken c) .start)
-
-slice-aggregate-write-2 : tie.Need-slice-aggregate-write-2
-slice-aggregate-write-2 c = sym (length-take-le _ (reading (taken (c .before)) .read .result .start) (array-share-prefix-start (c .before)))
 
 returns-2 : tie.Need-returns-2
 returns-2 c =
@@ -58,9 +52,9 @@ rewrite-spec =
     (λ c κs. found c .few)
     (λ c. search needs)
     array-share-prefix-table
-    slice-aggregate-write
+    (λ c. sym (length-take-le _ (reading (taken c) .read .result .table) (array-share-prefix-table (c .before))))
     array-share-prefix-start
-    slice-aggregate-write-2
+    (λ c. sym (length-take-le _ (reading (taken (c .before)) .read .result .start) (array-share-prefix-start (c .before))))
     (λ c κs. search needs)
     (λ c. search needs)
     returns-2)

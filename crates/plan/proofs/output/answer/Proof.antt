@@ -23,9 +23,6 @@ found c = accepted _ _ (c .before .read .ensures) (c .if1 .left)
 returns : tie.Need-returns
 returns c = c .refusal-text .ensures ∙ ap textOf (file-refused _ _ (c .before .before .read .ensures) (c .before .if1 .taken))
 
-mul-count : tie.Need-mul-count
-mul-count c = omega (arith, found (reading c) .few, area-small (reading c .before .read .result .job .n) (found (reading c) .few))
-
 array-share-prefix-table : tie.Need-array-share-prefix-table
 array-share-prefix-table c = omega (arith, found (reading (c .before .before .before)) .table)
 
@@ -61,7 +58,7 @@ answer-spec =
     returns
     (λ c. search needs)
     (λ c. search needs)
-    mul-count
+    (λ c. omega (arith, found (reading c) .few, area-small (reading c .before .read .result .job .n) (found (reading c) .few)))
     (λ c. search needs)
     array-share-prefix-table
     slice-aggregate-plan

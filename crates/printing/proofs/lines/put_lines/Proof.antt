@@ -19,9 +19,6 @@ array-share-prefix-order c =
     let sixteen : length (start .args .r .order) ≡ 16 = search needs in
     omega arith
 
-slice-aggregate-put-answer : tie.Need-slice-aggregate-put-answer
-slice-aggregate-put-answer c = sym (length-take-le _ (c .before .before .before .before .args .r .order) (array-share-prefix-order (c .before)))
-
 put-answer-requires : tie.Need-put-answer-requires
 put-answer-requires c κs =
     let long = length-take-le _ (c .before .before .before .before .args .r .order) (array-share-prefix-order (c .before)) in
@@ -48,7 +45,7 @@ put-lines-spec =
     tie.close
     (tie.spec
     array-share-prefix-order
-    slice-aggregate-put-answer
+    (λ c. sym (length-take-le _ (c .before .before .before .before .args .r .order) (array-share-prefix-order (c .before))))
     put-answer-requires
     put-counts-requires
     (λ c. search needs)

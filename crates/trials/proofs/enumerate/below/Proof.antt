@@ -4,8 +4,5 @@ use native.Mathlib.Nat.{mod-lt}
 use Rattle.trials.proofs.enumerate.below.Statement.{statement}
 use Rattle.trials.proofs.enumerate.below.Tie as tie
 
-returns : tie.Need-returns
-returns c = mod-lt (c .args .x) (search needs)
-
 pub below-spec : {M : Type 1} → statement M
-below-spec = tie.close (tie.spec (λ c. search needs) returns)
+below-spec = tie.close (tie.spec (λ c. search needs) (λ c. mod-lt (c .args .x) (search needs)))
