@@ -30,22 +30,28 @@ pub fn check(request: &Request, pool_words: usize) -> Result<Job, u32> {
 
 /// Refusals 1 to 5, which don't look at the pool.
 pub fn check_job(request: &Request) -> Result<Job, u32> {
-    if !n_allowed(request.n) {
-        return Err(1);
-    }
-    let n = request.n as usize;
-    if request.table.len() != (n + 1) * (n + 1) {
-        return Err(2);
-    }
-    let legs = Legs::new(n, request.table);
-    if !legs_allowed(&legs) {
-        return Err(3);
-    }
+    let legs = check_legs(request.n, request.table)?;
     let selection = selection(request.selection).ok_or(4u32)?;
     let rules = rules(request.rules).ok_or(4u32)?;
     let bound = bound(request.bound).ok_or(4u32)?;
-    let start = starting_order(n, request.start).ok_or(5u32)?;
+    let start = starting_order(legs.n, request.start).ok_or(5u32)?;
     Ok(Job { legs, selection, rules, bound, start })
+}
+
+/// Refusals 1 to 3, which look at n and the table alone.
+pub fn check_legs(n: u64, table: &[u32]) -> Result<Legs, u32> {
+    if !n_allowed(n) {
+        return Err(1);
+    }
+    let n = n as usize;
+    if table.len() != (n + 1) * (n + 1) {
+        return Err(2);
+    }
+    let legs = Legs::new(n, table);
+    if !legs_allowed(&legs) {
+        return Err(3);
+    }
+    Ok(legs)
 }
 
 pub fn n_allowed(n: u64) -> bool {

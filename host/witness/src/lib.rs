@@ -1,13 +1,16 @@
-//! A second planner, written from document 01 alone, in plain lists and
-//! literal passes, and a second reader and writer of job files, which follow
-//! its text. They serve as witnesses beside the proved ones.
+//! A second planner, written from document 01 and request A.1 of document 02
+//! alone, in plain lists and literal passes, and a second reader and writer of
+//! job files, which follow document 01's text. They serve as witnesses beside
+//! the proved ones.
 //!
 //! In reading order: `legs` (table and cost of an order), `node` (partial
 //! orders, bounds, dominance), `checks` (refusals 1 to 6), `run` (the run and
-//! refusal 7), `words` (report and pool), `enumerate` (all n! orders),
-//! `job_file` (reader and writer), `program` (what `plan` prints).
+//! refusal 7), `words` (report and pool), `first_order` (request A.1's call),
+//! `enumerate` (all n! orders), `job_file` (reader and writer), `program` (what
+//! `plan` prints).
 //!
-//! Where document 01 leaves a choice, this planner takes these:
+//! Where the texts leave a choice, this planner takes these, 1 to 12 from
+//! document 01 and the rest from request A.1:
 //!
 //! 1. Selection, rules, bound and n come in as 64-bit numbers and stops of the
 //!    starting order as 32-bit ones, so that every refusal can be provoked.
@@ -32,9 +35,18 @@
 //!     it, is no permutation of 1 to n: 5.
 //! 12. A file of more than 1,185 bytes is 9 from the reader too, after 8 and 1,
 //!     even if its trailer fits it.
+//! 13. An exchange puts the stops at two positions in each other's place and
+//!     leaves all others; the first position of the pair is the lower one.
+//! 14. An exchange may be of any two positions, neighbours or not; home has
+//!     none and stays at both ends.
+//! 15. After each exchange all pairs are looked at anew, by the cost of the
+//!     whole order. An exchange that leaves the cost the same isn't made.
+//! 16. The first order's call takes n and the table and nothing else, with n
+//!     as in 1 and checks as in 2. Its order has the report's sixteen places.
 
 pub mod checks;
 pub mod enumerate;
+pub mod first_order;
 pub mod job_file;
 pub mod legs;
 pub mod node;
@@ -43,6 +55,7 @@ pub mod run;
 pub mod words;
 
 pub use checks::Request;
+pub use first_order::{first_order, FirstOrder};
 pub use run::State;
 pub use words::{Report, WORDS};
 

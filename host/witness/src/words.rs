@@ -1,6 +1,6 @@
 //! The report ("The report") and the pool's words ("The pool").
 
-use crate::legs::MOST_STOPS;
+use crate::legs::{Place, MOST_STOPS};
 use crate::node::Node;
 use crate::run::{End, State};
 
@@ -43,9 +43,7 @@ impl Report {
             End::Full => report.number = 7,
             End::Finished => {
                 report.cost = state.upper.cost.expect("a finished run has an order");
-                for (i, &stop) in state.upper.order.iter().enumerate() {
-                    report.order[i] = stop as u32;
-                }
+                report.order = in_places(&state.upper.order);
             }
         }
         report
@@ -55,6 +53,15 @@ impl Report {
     pub fn counts(&self) -> [u64; 5] {
         [self.branched, self.generated, self.eliminated, self.active, self.most]
     }
+}
+
+/// An order in sixteen places, zeros past its last stop.
+pub fn in_places(order: &[Place]) -> [u32; MOST_STOPS] {
+    let mut places = [0; MOST_STOPS];
+    for (i, &stop) in order.iter().enumerate() {
+        places[i] = stop as u32;
+    }
+    places
 }
 
 /// Size, set, path cost, bound, and two words for the order.

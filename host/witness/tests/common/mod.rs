@@ -127,7 +127,7 @@ pub fn choices() -> Vec<[u64; 3]> {
 }
 
 /// Holds `check` to `tables` tables of each kind.
-pub fn for_each_table(random: &mut Random, n: usize, tables: usize, check: impl Fn(&mut Random, &[u32])) {
+pub fn for_each_table(random: &mut Random, n: usize, tables: usize, mut check: impl FnMut(&mut Random, &[u32])) {
     for kind in 0..KINDS.len() {
         for _ in 0..tables {
             let table = random.table_of_kind(n, kind);

@@ -1,0 +1,79 @@
+//! The first order (request A.1 of document 02): the nearest-stop order, then
+//! exchanges of two of its stops as long as one lowers the cost.
+
+use crate::checks::check_legs;
+use crate::legs::{Legs, Place, MOST_STOPS};
+use crate::words::in_places;
+
+#[derive(Clone, Copy, PartialEq, Eq, Debug, Default)]
+pub struct FirstOrder {
+    pub number: u32,
+    pub cost: u32,
+    /// Zeros past n.
+    pub order: [u32; MOST_STOPS],
+}
+
+/// The whole call: number 0 with cost and order, or a number from 1 to 3 and
+/// zeros.
+pub fn first_order(n: u64, table: &[u32]) -> FirstOrder {
+    match check_legs(n, table) {
+        Ok(legs) => {
+            let order = exchanged(&legs, nearest_stop_order(&legs));
+            FirstOrder { number: 0, cost: legs.order_cost(&order), order: in_places(&order) }
+        }
+        Err(number) => FirstOrder { number, ..FirstOrder::default() },
+    }
+}
+
+/// From each place on to the nearest stop not yet flown.
+pub fn nearest_stop_order(legs: &Legs) -> Vec<Place> {
+    let mut order = Vec::new();
+    let mut place = 0;
+    while order.len() < legs.n {
+        place = nearest_stop(legs, place, &order);
+        order.push(place);
+    }
+    order
+}
+
+/// The stop not yet flown whose leg is cheapest, the lowest number of several.
+fn nearest_stop(legs: &Legs, from: Place, flown: &[Place]) -> Place {
+    let left: Vec<Place> = (1..=legs.n).filter(|stop| !flown.contains(stop)).collect();
+    let cheapest = left.iter().map(|&stop| legs.leg(from, stop)).min().expect("a stop is left");
+    left.into_iter().find(|&stop| legs.leg(from, stop) == cheapest).unwrap()
+}
+
+/// The order after all exchanges; each lowers the cost, so they end.
+fn exchanged(legs: &Legs, start: Vec<Place>) -> Vec<Place> {
+    let mut order = start;
+    while let Some(next) = best_exchange(legs, &order) {
+        order = next;
+    }
+    order
+}
+
+/// What the exchange that lowers the cost most makes of the order, the first
+/// of several such; None if no exchange lowers it.
+pub fn best_exchange(legs: &Legs, order: &[Place]) -> Option<Vec<Place>> {
+    let all = exchanges(order);
+    let least = all.iter().map(|next| legs.order_cost(next)).min()?;
+    if least >= legs.order_cost(order) {
+        return None;
+    }
+    all.into_iter().find(|next| legs.order_cost(next) == least)
+}
+
+/// The order with the stops at positions p and q in each other's place, for
+/// all p < q, by p and then by q.
+pub fn exchanges(order: &[Place]) -> Vec<Vec<Place>> {
+    let mut all = Vec::new();
+    for p in 0..order.len() {
+        for q in p + 1..order.len() {
+            let mut next = order.to_vec();
+            next[p] = order[q];
+            next[q] = order[p];
+            all.push(next);
+        }
+    }
+    all
+}

@@ -1,0 +1,135 @@
+//! The first order (request A.1 of document 02) over random tables: what the
+//! request says of it, a slower working, and full enumeration.
+
+mod common;
+
+use common::{ample, for_each_table, Job};
+use samples::{nearest, Random};
+use witness::enumerate::least_cost;
+use witness::first_order;
+use witness::legs::Legs;
+
+fn nearest_stops(job: &Job) -> Vec<u32> {
+    nearest(job.n, &job.table).into_iter().map(u32::from).collect()
+}
+
+fn over(n: usize, table: &[u32]) -> Job {
+    Job::new(n, table, [0, 0, 0], &[])
+}
+
+/// Legs of 2, but about one in eight free and one in eight 3: the nearest stops
+/// run out of free legs, and many exchanges gain the same.
+fn few_free(random: &mut Random, n: usize) -> Vec<u32> {
+    let legs = [0, 2, 2, 2, 2, 2, 2, 3];
+    random.table(n, 0, 7).into_iter().map(|k| legs[k as usize]).collect()
+}
+
+/// What ranks an exchange, from the cost it leads to and its two positions.
+type Key = fn(usize, usize, usize) -> [usize; 3];
+
+/// The first order once more: of the exchanges that lower the cost, always the
+/// one with the lowest key.
+fn by_keys(job: &Job, key: Key) -> Vec<u32> {
+    let mut order = nearest_stops(job);
+    loop {
+        let mut lower = Vec::new();
+        for q in (0..job.n).rev() {
+            for p in (0..q).rev() {
+                let mut next = order.clone();
+                next.swap(p, q);
+                if job.cost(&next) < job.cost(&order) {
+                    lower.push((key(job.cost(&next) as usize, p, q), next));
+                }
+            }
+        }
+        lower.sort();
+        match lower.into_iter().next() {
+            Some((_, next)) => order = next,
+            None => return order,
+        }
+    }
+}
+
+/// What the request says of every first order.
+fn check_first_order(job: &Job) {
+    let first = first_order(job.n as u64, &job.table);
+    assert_eq!(first.number, 0, "{job:?}");
+    let (order, rest) = first.order.split_at(job.n);
+    assert!(rest.iter().all(|&s| s == 0), "{job:?}");
+    let mut sorted = order.to_vec();
+    sorted.sort();
+    assert_eq!(sorted, (1..=job.n as u32).collect::<Vec<u32>>(), "{job:?}");
+    assert_eq!(first.cost, job.cost(order), "{job:?}");
+    for q in 0..job.n {
+        for p in 0..q {
+            let mut next = order.to_vec();
+            next.swap(p, q);
+            assert!(job.cost(&next) >= first.cost, "{p} {q} {job:?}");
+        }
+    }
+    assert!(first.cost <= job.cost(&nearest_stops(job)), "{job:?}");
+    assert_eq!(order, by_keys(job, |cost, p, q| [cost, p, q]), "{job:?}");
+}
+
+/// 9,600 tables.
+#[test]
+fn one_to_sixteen_stops() {
+    let mut random = Random(51);
+    for n in 1..=16 {
+        for_each_table(&mut random, n, 100, |_, table| check_first_order(&over(n, table)));
+    }
+}
+
+/// 4,800 tables.
+#[test]
+fn few_free_legs() {
+    let mut random = Random(52);
+    for n in 1..=16 {
+        for _ in 0..300 {
+            check_first_order(&over(n, &few_free(&mut random, n)));
+        }
+    }
+}
+
+/// The slower working under other tie rules, or with the first gain in place
+/// of the greatest, does answer otherwise, so that the tables above say
+/// something.
+#[test]
+fn other_readings_differ_somewhere() {
+    let others: [(&str, Key); 4] = [
+        ("smallest second position, then first", |cost, p, q| [cost, q, p]),
+        ("smallest first position, then greatest second", |cost, p, q| [cost, p, 16 - q]),
+        ("greatest first position, then smallest second", |cost, p, q| [cost, 16 - p, q]),
+        ("first gain", |cost, p, q| [p, q, cost]),
+    ];
+    let mut random = Random(53);
+    let jobs: Vec<Job> = (0..3_000).map(|k| k % 13 + 4).map(|n| over(n, &few_free(&mut random, n))).collect();
+    for (name, key) in others {
+        let differs = |job: &&Job| by_keys(job, key) != first_order(job.n as u64, &job.table).order[..job.n];
+        let differ = jobs.iter().filter(differs).count();
+        println!("{name}: {differ} of {} tables answer otherwise", jobs.len());
+        assert!(differ > 50, "{name}");
+    }
+}
+
+/// Against all orders: never below the least cost, at times brought down to it
+/// by the exchanges, at times above it. `plan` takes it as a starting order.
+#[test]
+fn against_enumeration() {
+    let (mut tables, mut reached, mut missed) = (0, 0, 0);
+    for n in 1..=6 {
+        for_each_table(&mut Random(54), n, 40, |_, table| {
+            let least = least_cost(&Legs::new(n, table));
+            let first = first_order(n as u64, table);
+            assert!(first.cost >= least, "{table:?}");
+            tables += 1;
+            let job = Job::new(n, table, [0, 1, 1], &first.order[..n]);
+            reached += (first.cost == least && job.cost(&nearest_stops(&job)) > least) as u32;
+            missed += (first.cost > least) as u32;
+            let (report, _) = job.run(ample(n));
+            assert_eq!((report.number, report.cost), (0, least), "{table:?}");
+        });
+    }
+    println!("of {tables} tables, exchanges reached the least cost in {reached} and missed it in {missed}");
+    assert!(reached > 100 && missed > 100);
+}
