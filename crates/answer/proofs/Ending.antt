@@ -10,7 +10,7 @@ use Rattle.search.specs.Problem.{State}
 use Rattle.search.specs.Run.{Outcome, finished, full, unfinished}
 use Rattle.orders.specs.Orders.{Node}
 use Rattle.answer.specs.Call.{Call, Answer, refusal}
-use Rattle.answer.specs.Checks.{cause₁, cause₂, cause₃, cause₄, cause₅, cause₆, orLater, jobCause, cause}
+use Rattle.answer.specs.Checks.{cause₁, cause₂, cause₃, cause₄, cause₅, cause₆, orLater, tableCause, jobCause, cause}
 use Rattle.answer.specs.Answer.{outcome, reportWith, ending, respond, answer}
 use Rattle.answer.proofs.Instance.{outcome-ends}
 
@@ -50,7 +50,7 @@ or-later true number later m h k = h
 or-later false number later m h k = k
 
 pub cause-small : (c : Call) → cause c ≤ 6
-unfolding cause jobCause
+unfolding cause tableCause jobCause
 cause-small c =
     or-later (cause₁ (c .job .n)) 1 _ 6 (omega arith)
     (or-later (cause₂ (c .job .n) (c .table)) 2 _ 6 (omega arith)

@@ -1,5 +1,6 @@
 -- Causes 1 to 5 and the cause of a call.
---   First, job-first    a cause from 1 to 5 stands whatever comes later; where there is none, what comes later is the answer
+--   First, table-first, job-first    a cause from 1 to 3, or to 5, stands whatever comes later; where there is none, what comes later is the
+--                                    answer
 --   job-refuses         a call with one of causes 1 to 5 has that cause, whatever its pool
 --   job-passes          a call with none has cause 6 or no cause
 use mathlib.Core.Path.{_≡_, refl, sym, _∙_}
@@ -10,7 +11,7 @@ use Prim.Native.Nat.{ℕ, suc}
 use native.Mathlib.Omega.{arith}
 use Rattle.answer.specs.Call.{callOf}
 use Rattle.answer.specs.declared.Job.{Job}
-use Rattle.answer.specs.Checks.{cause₁, cause₂, cause₃, cause₄, cause₅, cause₆, orLater, jobCause, cause}
+use Rattle.answer.specs.Checks.{cause₁, cause₂, cause₃, cause₄, cause₅, cause₆, orLater, tableCause, jobCause, cause}
 
 -- f has a number of its own, which is not 0, or answers with what comes later
 pub record First (f : ℕ → ℕ) : Type 0 where
@@ -24,8 +25,12 @@ pub first-or : (b : Bool) (number : ℕ) {f : ℕ → ℕ} → First f → First
 first-or true number h = record { own = λ k later. refl; none = λ e later. absurd (omega arith) }
 first-or false number h = record { own = h .own; none = h .none }
 
+pub table-first : (n : ℕ) (table : List ℕ) → First (tableCause n table)
+unfolding tableCause
+table-first n table = first-or (cause₁ n) 0 (first-or (cause₂ n table) 1 (first-or (cause₃ n table) 2 first-later))
+
 pub job-first : (job : Job) (table start : List ℕ) → First (jobCause job table start)
-unfolding jobCause
+unfolding tableCause jobCause
 job-first job table start =
     first-or (cause₁ (job .n)) 0
     (first-or (cause₂ (job .n) table) 1

@@ -1,4 +1,4 @@
--- What it means that checks 1 to 5 let a job pass (`JobPasses`), and that every check lets a call pass (`Passes`).
+-- What it means that checks 1 to 3 let a table pass (`TablePasses`), checks 1 to 5 a job (`JobPasses`), and every check a call (`Passes`).
 use mathlib.Core.Path.{_≡_, refl}
 use mathlib.Core.Bool.{Bool, true, false, not, _||_}
 use mathlib.Core.List.{List, [], _∷_}
@@ -17,8 +17,14 @@ use Rattle.sizes.specs.Sizes.{mostStops, dearest, recordWords}
 use Rattle.records.specs.Records.{recordsIn}
 use Rattle.answer.specs.Call.{Call}
 use Rattle.answer.specs.declared.Job.{Job}
-use Rattle.answer.specs.Checks.{cause₁, cause₂, cause₃, cause₄, cause₅, cause₆, isEmpty, orLater, jobCause, cause}
+use Rattle.answer.specs.Checks.{cause₁, cause₂, cause₃, cause₄, cause₅, cause₆, isEmpty, orLater, tableCause, jobCause, cause}
 use Rattle.answer.specs.Cases
+
+pub record TablePasses (n : ℕ) (table : List ℕ) : Type 0 where
+  pub some : 1 ≤ n
+  pub few : n ≤ mostStops
+  pub square : length table ≡ suc n * suc n
+  pub cheap : (w : ℕ) → In w table → w ≤ dearest
 
 pub record JobPasses (job : Job) (table order : List ℕ) : Type 0 where
   pub some : 1 ≤ job .n
@@ -60,9 +66,9 @@ module _ (n : ℕ) (table : List ℕ) where
   unfolding cause₁
   stops-pass h = let (p, q) = not-either (eqb n 0) (ltb mostStops n) h in (positive n p, nltb→le mostStops n q)
 
-  table-passes : T (not (cause₂ n table)) → length table ≡ suc n * suc n
+  table-square : T (not (cause₂ n table)) → length table ≡ suc n * suc n
   unfolding cause₂
-  table-passes h = let area : ℕ = suc n * suc n in eqb→eq (length table) area (twice-not (eqb (length table) area) h)
+  table-square h = let area : ℕ = suc n * suc n in eqb→eq (length table) area (twice-not (eqb (length table) area) h)
 
   legs-pass : T (not (cause₃ n table)) → (w : ℕ) → In w table → w ≤ dearest
   unfolding cause₃
@@ -88,40 +94,41 @@ pool-passes pool h =
     let (p, q) = not-either (eqb (recordsIn pool) 0) (not (eqb part 0)) h in
     (positive (recordsIn pool) p, eqb→eq part 0 (twice-not (eqb part 0) q))
 
--- where none of causes 1 to 5 applies, what is left is what comes later
-module _ (job : Job) (table order : List ℕ) (later : ℕ) where
-  -- the numbers that are left when the first causes do not apply
-  after₄ : ℕ
-  after₄ = orLater (cause₅ (job .n) order) 5 later
+-- where none of causes 1 to 3 applies, or none of 1 to 5, what is left is what comes later
+pub table-passed : (n : ℕ) (table : List ℕ) (later : ℕ) → tableCause n table later ≡ 0 → TablePasses n table × (later ≡ 0)
+unfolding tableCause
+table-passed n table later e =
+    let after₂ : ℕ = orLater (cause₃ n table) 3 later in
+    let (h₁, e₁) = none-first (cause₁ n) 0 (orLater (cause₂ n table) 2 after₂) e in
+    let (h₂, e₂) = none-first (cause₂ n table) 1 after₂ e₁ in
+    let (h₃, e₃) = none-first (cause₃ n table) 2 later e₂ in
+    let passed : TablePasses n table = record {
+      some = stops-pass n table h₁ .0;
+      few = stops-pass n table h₁ .1;
+      square = table-square n table h₂;
+      cheap = legs-pass n table h₃;
+    } in
+    (passed, e₃)
 
-  after₃ : ℕ
-  after₃ = orLater (cause₄ job) 4 after₄
-
-  after₂ : ℕ
-  after₂ = orLater (cause₃ (job .n) table) 3 after₃
-
-  after₁ : ℕ
-  after₁ = orLater (cause₂ (job .n) table) 2 after₂
-
-  pub job-passed : jobCause job table order later ≡ 0 → JobPasses job table order × (later ≡ 0)
-  unfolding jobCause after₁ after₂ after₃ after₄
-  job-passed e =
-      let (h₁, e₁) = none-first (cause₁ (job .n)) 0 after₁ e in
-      let (h₂, e₂) = none-first (cause₂ (job .n) table) 1 after₂ e₁ in
-      let (h₃, e₃) = none-first (cause₃ (job .n) table) 2 after₃ e₂ in
-      let (h₄, e₄) = none-first (cause₄ job) 3 after₄ e₃ in
-      let (h₅, e₅) = none-first (cause₅ (job .n) order) 4 later e₄ in
-      let passed : JobPasses job table order = record {
-        some = stops-pass (job .n) table h₁ .0;
-        few = stops-pass (job .n) table h₁ .1;
-        square = table-passes (job .n) table h₂;
-        cheap = legs-pass (job .n) table h₃;
-        selection = choices-pass job h₄ .0;
-        rules = choices-pass job h₄ .1;
-        bound = choices-pass job h₄ .2;
-        start = start-passes (job .n) order h₅;
-      } in
-      (passed, e₅)
+pub job-passed :
+    (job : Job) (table order : List ℕ) (later : ℕ) → jobCause job table order later ≡ 0 → JobPasses job table order × (later ≡ 0)
+unfolding jobCause
+job-passed job table order later e =
+    let after₄ : ℕ = orLater (cause₅ (job .n) order) 5 later in
+    let (p, e₃) = table-passed (job .n) table (orLater (cause₄ job) 4 after₄) e in
+    let (h₄, e₄) = none-first (cause₄ job) 3 after₄ e₃ in
+    let (h₅, e₅) = none-first (cause₅ (job .n) order) 4 later e₄ in
+    let passed : JobPasses job table order = record {
+      some = p .some;
+      few = p .few;
+      square = p .square;
+      cheap = p .cheap;
+      selection = choices-pass job h₄ .0;
+      rules = choices-pass job h₄ .1;
+      bound = choices-pass job h₄ .2;
+      start = start-passes (job .n) order h₅;
+    } in
+    (passed, e₅)
 
 pub passes : (c : Call) → cause c ≡ 0 → Passes c
 unfolding cause

@@ -18,7 +18,7 @@ use Rattle.sizes.specs.Sizes.{tableNumbers, orderPlaces, recordWords}
 use Rattle.lists.specs.Lists.{padded}
 use Rattle.answer.specs.Call.{Call, Answer, refusal}
 use Rattle.answer.specs.declared.Report.{Report}
-use Rattle.answer.specs.Checks.{cause₁, cause₂, cause₃, cause₄, cause₅, cause₆, jobCause, cause}
+use Rattle.answer.specs.Checks.{cause₁, cause₂, cause₃, cause₄, cause₅, cause₆, tableCause, jobCause, cause}
 use Rattle.answer.specs.Answer.{dayOf, problemOf, choicesOf, outcome, reportWith, wordsOf, ending, respond, answer}
 
 -- a call by its parts, with the number of the pool's records
@@ -50,7 +50,7 @@ refused number branched generated eliminated active most = record {
 
 -- the answer, with every definition that it rests on open: a proof that says `unfolding computed` computes it
 unfoldable pub computed : Call → Answer
-unfolding start selectBy select finishes children₁ best₂ over₃ children₃ rest₃ dominated₄ children₄ dominated₅ children₅ dominated₆ rest₆ active₇ step held fitting decide next run count isOrder computedDay problem choices mask record-of padded poolWords recordsIn refusal cause₁ cause₂ cause₃ cause₄ cause₅ cause₆ jobCause cause dayOf problemOf choicesOf outcome reportWith wordsOf ending respond answer
+unfolding start selectBy select finishes children₁ best₂ over₃ children₃ rest₃ dominated₄ children₄ dominated₅ children₅ dominated₆ rest₆ active₇ step held fitting decide next run count isOrder computedDay problem choices mask record-of padded poolWords recordsIn refusal cause₁ cause₂ cause₃ cause₄ cause₅ cause₆ tableCause jobCause cause dayOf problemOf choicesOf outcome reportWith wordsOf ending respond answer
 computed c = answer c
 
 pub data Case : Type 0 where

@@ -45,14 +45,13 @@ abbrev pub orLater : Bool → ℕ → ℕ → ℕ
 orLater true number later = number
 orLater false number later = later
 
--- causes 1 to 5, of a job with its table and its starting order; `later` where none applies
+-- causes 1 to 3, of a table for n stops; `later` where none applies
+unfoldable pub tableCause : ℕ → List ℕ → ℕ → ℕ
+tableCause n table later = orLater (cause₁ n) 1 (orLater (cause₂ n table) 2 (orLater (cause₃ n table) 3 later))
+
+-- causes 1 to 5, of a job with its table and its starting order
 unfoldable pub jobCause : Job → List ℕ → List ℕ → ℕ → ℕ
-jobCause job table start later =
-    orLater (cause₁ (job .n)) 1
-    (orLater (cause₂ (job .n) table) 2
-    (orLater (cause₃ (job .n) table) 3
-    (orLater (cause₄ job) 4
-    (orLater (cause₅ (job .n) start) 5 later))))
+jobCause job table start later = tableCause (job .n) table (orLater (cause₄ job) 4 (orLater (cause₅ (job .n) start) 5 later))
 
 unfoldable pub cause : Call → ℕ
 cause c = jobCause (c .job) (c .table) (c .start) (orLater (cause₆ (c .pool)) 6 0)

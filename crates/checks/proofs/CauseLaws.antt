@@ -16,9 +16,8 @@ use Rattle.lists.proofs.Tests.{both-false}
 use Rattle.orders.specs.Orders.{isOrder}
 use Rattle.stops.specs.Tables.{entry}
 use Rattle.answer.specs.declared.Job.{Job}
-use Rattle.answer.specs.Checks.{cause₁, cause₂, cause₃, cause₄, cause₅, isEmpty, orLater, jobCause}
-use Rattle.answer.proofs.JobCause.{First, first-later, first-or}
-use Rattle.checks.specs.Code.{tableCause}
+use Rattle.answer.specs.Checks.{cause₁, cause₂, cause₃, cause₄, cause₅, isEmpty, orLater, tableCause, jobCause}
+use Rattle.answer.proofs.JobCause as answer
 
 -- ---- causes 1 to 3
 
@@ -80,10 +79,6 @@ module _ (n : ℕ) (table : List ℕ) where
   unfolding tableCause
   table-right e f g = rw (e, f, g)
 
-  table-causes : First (tableCause n table)
-  unfolding tableCause
-  table-causes = first-or (cause₁ n) 0 (first-or (cause₂ n table) 1 (first-or (cause₃ n table) 2 first-later))
-
 -- ---- causes 4 and 5
 
 module _ (job : Job) where
@@ -124,12 +119,12 @@ later job start = orLater (cause₄ job) 4 (orLater (cause₅ (job .n) start) 5 
 
 module _ (job : Job) (table start : List ℕ) (k : ℕ) (e : k ≡ tableCause (job .n) table 0) where
   pub table-refuses : k ≢ 0 → k ≡ jobCause job table start 0
-  unfolding jobCause tableCause
-  table-refuses h = e ∙ table-causes (job .n) table .own (λ z. h (e ∙ z)) (later job start)
+  unfolding jobCause
+  table-refuses h = e ∙ answer.table-first (job .n) table .own (λ z. h (e ∙ z)) (later job start)
 
   pub table-passes : k ≡ 0 → jobCause job table start 0 ≡ later job start
-  unfolding jobCause tableCause
-  table-passes z = table-causes (job .n) table .none (sym e ∙ z) (later job start)
+  unfolding jobCause
+  table-passes z = answer.table-first (job .n) table .none (sym e ∙ z) (later job start)
 
 pub passed-few : (n : ℕ) (table : List ℕ) (k : ℕ) → k ≡ tableCause n table 0 → k ≡ 0 → n ≤ mostStops
 passed-few n table k e z = few-stops n (go (cause₁ n) refl)

@@ -1,11 +1,10 @@
 // Checks 1 to 5, which look at a job, its table and its starting order: `job_cause`. What it answers is `jobCause` of crate `answer`
-// (specs/Checks), whose proofs/JobCause ties that to the cause of a call with a pool. `wrong_n` is for a caller that knows n alone. Both
-// are public for the crates above and not for hosts; they ask nothing.
+// (specs/Checks), whose proofs/JobCause ties that to the cause of a call with a pool. `table_cause` is for a caller without choices, `wrong_n`
+// for one that knows n alone. They are public for the crates above and not for hosts; they ask nothing.
 ghost use mathlib.Core.Path.{_≡_};
 ghost use Prim.Native.Nat.{_≤_};
 ghost use Rattle.sizes.specs.Sizes.{mostStops};
-ghost use Rattle.answer.specs.Checks.{cause₁, cause₄, cause₅, jobCause};
-ghost use Rattle.checks.specs.Code.{tableCause};
+ghost use Rattle.answer.specs.Checks.{cause₁, cause₄, cause₅, tableCause, jobCause};
 
 mod order;
 
@@ -26,7 +25,7 @@ pub fn wrong_n(n: u32) -> bool
 }
 
 // The number of the first of causes 1 to 3 that applies, 0 if none does.
-fn table_cause(n: u32, table: &[u32]) -> u32
+pub fn table_cause(n: u32, table: &[u32]) -> u32
     ensures { λ r. ⌜ r ≡ tableCause n (now (table .entry)) 0 ⌝ }
 {
     if wrong_n(n) {

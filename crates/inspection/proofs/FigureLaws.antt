@@ -22,7 +22,7 @@ use Rattle.stops.specs.declared.node_record.Record.{Record}
 use Rattle.stops.proofs.LegTable.{rows-cheap}
 use Rattle.stops.proofs.StopsWalk.{rows-walk}
 use Rattle.records.proofs.Mask.{mask-stops, rest-left}
-use Rattle.answer.specs.Checks.{cause₁, cause₂, cause₃, cause₄, cause₅, orLater, jobCause}
+use Rattle.answer.specs.Checks.{cause₁, cause₂, cause₃, cause₄, cause₅, orLater, tableCause, jobCause}
 use Rattle.answer.specs.declared.Job.{Job}
 use Rattle.inspection.specs.Code.{ofFour}
 use Rattle.node_answers.specs.Nodes.{flownStops, isRecordOf, isNode}
@@ -45,7 +45,7 @@ module _ (job : Job) (table : List ℕ) (none : jobCause job table [] 0 ≡ 0) w
   n = job .n
 
   passed : T (not (cause₁ n)) × T (not (cause₂ n table)) × T (not (cause₃ n table)) × T (not (cause₄ job))
-  unfolding jobCause
+  unfolding tableCause jobCause
   passed = none-apply (cause₁ n) (cause₂ n table) (cause₃ n table) (cause₄ job) (orLater (cause₅ n []) 5 0) none
 
   pub job-few : job .n ≤ mostStops

@@ -12,7 +12,7 @@ use lib.ListN.{length, take, drop, length-append, take-append-drop, length-drop}
 use lib.Seq.{take-at, drop-at, take-add, length-take-le}
 use Rattle.lists.specs.Lists.{each}
 use Rattle.lists.proofs.Tests.{to-false}
-use Rattle.answer.specs.Checks.{cause₁, jobCause}
+use Rattle.answer.specs.Checks.{cause₁, tableCause, jobCause}
 use Rattle.answer.proofs.Passes.{none-first}
 use Rattle.job_format.specs.Bytes.{word, AllBytes}
 use Rattle.job_format.specs.Contents.{Contents, Trailer, trailerLength, area, startPlaceOf, trailerOf, trailerBytes, bytesOf}
@@ -74,7 +74,7 @@ module _ (c : Contents) (passes : Passes c) where
       (of-layout (trailerOf c) (length (bytesOf c)) (record { table = refl; start = refl; whole = length-file c (p .square); short = file-short c p }))
 
   few : cause₁ (c .job .n) ≡ false
-  unfolding jobCause
+  unfolding tableCause jobCause
   few = to-false (cause₁ (c .job .n)) (none-first (cause₁ (c .job .n)) 0 _ passes .0)
 
   pub bytes-read : read (bytesOf c) ≡ record { number = 0; contents = c }
@@ -105,7 +105,7 @@ unfolding read readingBy
 contents-found file e = rw e
 
 accepted : (file : List ℕ) → read file .number ≡ 0 → Accepted file
-unfolding fileCause jobCause contentsIn
+unfolding fileCause tableCause jobCause contentsIn
 accepted file e =
     let c : Contents = contentsIn file in
     let (long, e₁) = none-first (ltb (length file) trailerLength) 7 _ (no-cause file e) in

@@ -8,7 +8,7 @@ use Prim.Native.Nat.{ℕ, _-_, _≤_, _<_}
 use native.Mathlib.Omega.{arith}
 use lib.ListN.{length, drop, length-drop}
 use borrow.Author.Tests.{lt-ltb, le-ltb, eq-eqb}
-use Rattle.answer.specs.Checks.{cause₁, cause₂, cause₃, cause₄, cause₅, orLater, jobCause}
+use Rattle.answer.specs.Checks.{cause₁, cause₂, cause₃, cause₄, cause₅, orLater, tableCause, jobCause}
 use Rattle.job_format.specs.Contents.{Contents, Trailer, trailerLength, area}
 use Rattle.job_format.specs.Reader.{wordsIn, trailerFrom, trailerIn, contentsBy, contentsIn, misplaced, fileCause, refusal, readingBy, read}
 use Rattle.job_format.proofs.ByteLaws.{length-words}
@@ -49,7 +49,7 @@ module _ (file trailer : List ℕ) (last : trailer ≡ drop (length file - trail
   pub right-layout :
       cause₁ (found .job .n) ≡ false → misplaced (trailerFrom trailer) (length file) ≡ false
       → readingBy (jobCause (found .job) (found .table) (found .start) 0) found ≡ read file
-  unfolding jobCause
+  unfolding tableCause jobCause
   right-layout e f = by-cause _ (rw (e, f, table-fits (trailerFrom trailer) file))
 
   pub same-stops : (n : ℕ) → n ≡ trailerFrom trailer .job .n → cause₁ n ≡ cause₁ (found .job .n)

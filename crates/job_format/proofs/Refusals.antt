@@ -9,7 +9,7 @@ use lib.Dec.{T, ltb, eqb, eqb→eq}
 use lib.ListN.{length}
 use Rattle.lists.specs.Lists.{In, any}
 use Rattle.lists.proofs.Members.{any-in}
-use Rattle.answer.specs.Checks.{cause₁, cause₂, cause₃, cause₄, cause₅, orLater, jobCause}
+use Rattle.answer.specs.Checks.{cause₁, cause₂, cause₃, cause₄, cause₅, orLater, tableCause, jobCause}
 use Rattle.job_format.specs.Contents.{Contents, trailerLength, bytesOf}
 use Rattle.job_format.specs.Reader.{trailerIn, contentsIn, misplaced, fileCause, refusal, readingBy, read}
 use Rattle.job_format.specs.Writer.{writeCause, write}
@@ -41,7 +41,7 @@ reads-or-refuses file =
     (one-of (cause₅ (c .job .n) (c .start)) 5 0 xs (listed 5 xs tt) (listed 0 xs tt)))))))
 
 pub writes-or-refuses : WritesOrRefuses
-unfolding write writeCause jobCause
+unfolding write writeCause tableCause jobCause
 writes-or-refuses c buffer =
     let xs : List ℕ = writerNumbers in
     rw (writer.number-by (writeCause c buffer) c buffer)

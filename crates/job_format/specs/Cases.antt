@@ -9,7 +9,7 @@ use Rattle.lists.specs.Lists.{each}
 use Rattle.orders.specs.Orders.{flown, count, isOrder}
 use Rattle.stops.specs.Tables.{entry}
 use Rattle.answer.specs.declared.Job.{Job}
-use Rattle.answer.specs.Checks.{cause₁, cause₂, cause₃, cause₄, cause₅, jobCause}
+use Rattle.answer.specs.Checks.{cause₁, cause₂, cause₃, cause₄, cause₅, tableCause, jobCause}
 use Rattle.answer.specs.Cases.{tableT}
 use Rattle.job_format.specs.Bytes.{word, wordAt, overwrite}
 use Rattle.job_format.specs.Contents.{Contents, Trailer, trailerOf, trailerBytes, bytesOf, fileLength}
@@ -25,7 +25,7 @@ contents n table selection rules bound start = record { job = job n selection ru
 
 -- what case a's file holds, with every definition that the cases rest on open
 a : Contents
-unfolding flown count isOrder entry tableT cause₁ cause₂ cause₃ cause₄ cause₅ jobCause word wordAt overwrite trailerOf trailerBytes bytesOf trailerFrom trailerIn wordsIn contentsBy contentsIn misplaced fileCause refusal readingBy read writeCause writingBy write
+unfolding flown count isOrder entry tableT cause₁ cause₂ cause₃ cause₄ cause₅ tableCause jobCause word wordAt overwrite trailerOf trailerBytes bytesOf trailerFrom trailerIn wordsIn contentsBy contentsIn misplaced fileCause refusal readingBy read writeCause writingBy write
 a = contents 3 tableT 0 1 1 []
 
 -- l. Its length and its trailer.

@@ -11,7 +11,7 @@ use Rattle.stops.specs.Examples.{computedDay}
 use Rattle.stops.specs.Code.{emptyRecord}
 use Rattle.stops.specs.declared.node_record.Record.{Record}
 use Rattle.records.specs.Records.{stopAt}
-use Rattle.answer.specs.Checks.{cause₁, cause₂, cause₃, cause₄, cause₅, jobCause}
+use Rattle.answer.specs.Checks.{cause₁, cause₂, cause₃, cause₄, cause₅, tableCause, jobCause}
 use Rattle.answer.specs.declared.Job.{Job}
 use Rattle.node_answers.specs.Nodes.{flownStops, isRecordOf, isNode}
 use Rattle.node_answers.specs.Answers.{isInside, noRecord, recordAt, found, verdict, flownAt, noFigures, figuresBy, figures}
@@ -20,7 +20,7 @@ use Rattle.node_answers.specs.Answers.{fits, longer, extension, extendAt
 -- the record of 21: two stops, bits 0 and 1, path cost 7 + 8; stop 2 stands in the lowest four bits, stop 1 in the next
 twoOne : Record
 unfolding computedDay emptyRecord mask padded
-    cause₁ cause₂ cause₃ cause₄ cause₅ jobCause stopAt flownStops isRecordOf isNode isInside recordAt found verdict flownAt noFigures
+    cause₁ cause₂ cause₃ cause₄ cause₅ tableCause jobCause stopAt flownStops isRecordOf isNode isInside recordAt found verdict flownAt noFigures
     figuresBy figures fits longer extension extendAt
 twoOne = record { size = 2; set = 3; path = 15; bound = 15; first = 1; second = 0 }
 
