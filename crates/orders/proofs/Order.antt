@@ -1,12 +1,13 @@
 -- Orders: an order is a complete partial order, so the orders are just the complete nodes reached from e, and have length n; and the
--- test `isOrder` passes just for orders.
+-- test `isOrder` passes just for orders. What has each stop as often as an order has it is one too (`order-counts`), and `count-set` says what
+-- another stop in place of one does to that.
 use mathlib.Core.Path.{_≡_, sym, _∙_, subst}
 use mathlib.Core.Bool.{Bool, true, false, not}
 use mathlib.Core.List.{List, [], _∷_, List·Memᴰ·tail, List·Memᴰ·not-nil}
-use Prim.Native.Nat.{ℕ, suc, _≤_}
+use Prim.Native.Nat.{ℕ, zero, suc, _+_, _≤_, _<_}
 use native.Mathlib.Omega.{arith}
 use lib.Dec.{T, T-not, eqb, eqb→eq, eqb-refl}
-use lib.ListN.{length}
+use lib.ListN.{length, getD, set}
 use Rattle.lists.specs.Lists.{In, put, keep, all, Distinct, none, more}
 use Rattle.lists.proofs.Tests.{and-left, and-right, and-both, not-not, to-true}
 use Rattle.lists.proofs.Members.{in-head, in-keep, keep-in, all-in, in-all}
@@ -85,6 +86,35 @@ count-distinct (s ∷ x) h = more new (count-distinct x rest)
         go : (b : Bool) → length (put b s (keep (eqb r) x)) ≤ 1 → length (keep (eqb r) x) ≤ 1
         go true k = omega arith
         go false k = k
+
+pub order-counts : (n : ℕ) (x y : Node) → ((s : ℕ) → count s y ≡ count s x) → Order n x → Order n y
+order-counts n x y same o = record {
+  once = count-distinct y (λ s m. omega (arith, same s, distinct-count x s (o .once) (back s m)));
+  only = λ s m. o .only s (back s m);
+  every = λ s h k. count-in y s (omega (arith, same s, in-count x s (o .every s h k)));
+}
+  where
+    back : (s : ℕ) → In s y → In s x
+    back s m = count-in x s (omega (arith, same s, in-count y s m))
+
+-- 1 where a test passed
+abbrev pub one : Bool → ℕ
+one true = 1
+one false = 0
+
+count-first : (s r : ℕ) (x : Node) → count s (r ∷ x) ≡ one (eqb s r) + count s x
+unfolding count
+count-first s r x = go (eqb s r)
+  where
+    go : (b : Bool) → length (put b r (keep (eqb s) x)) ≡ one b + length (keep (eqb s) x)
+    go true = omega arith
+    go false = omega arith
+
+pub count-set :
+    (s v : ℕ) (x : Node) (i : ℕ) → i < length x → count s (set x i v) + one (eqb s (getD x i 0)) ≡ count s x + one (eqb s v)
+count-set s v [] i h = absurd (omega arith)
+count-set s v (r ∷ x) zero h = omega (arith, count-first s r x, count-first s v x)
+count-set s v (r ∷ x) (suc i) h = omega (arith, count-first s r x, count-first s r (set x i v), count-set s v x i (omega arith))
 
 -- the test for orders
 pub isOrder-order : (n : ℕ) (x : Node) → T (isOrder n x) → Order n x

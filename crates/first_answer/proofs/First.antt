@@ -1,0 +1,152 @@
+-- What request A.1 says of a first order (specs/Request), proved.
+use mathlib.Core.Path.{_≡_, refl, ap, sym, subst, _∙_}
+use mathlib.Core.Bool.{Bool, true, false, not, or-true}
+use mathlib.Core.List.{List, [], _∷_}
+use mathlib.Core.Logic.{_≢_}
+use Prim.Native.Nat.{ℕ, zero, suc, _≤_, _<_}
+use native.Mathlib.Omega.{arith}
+use lib.ListN.{take, replicate}
+use Rattle.sizes.specs.Sizes.{orderPlaces}
+use Rattle.lists.specs.Lists.{padded}
+use Rattle.lists.proofs.Tests.{to-true}
+use Rattle.lists.proofs.Padded.{take-padded}
+use Rattle.orders.specs.Orders.{Node, Order, isOrder}
+use Rattle.orders.proofs.Order.{order-length, order-isOrder}
+use Rattle.orders.proofs.Orders.{orders-in}
+use Rattle.stops.specs.Legs.{cost}
+use Rattle.stops.specs.Stops.{day, dayOn}
+use Rattle.answer.specs.Answer.{dayOf}
+use Rattle.answer.specs.Demands.{written}
+use Rattle.answer.proofs.Demand3.{cheapest-of-all}
+use Rattle.answer.specs.Checks.{cause₁, cause₂, cause₃, cause₅, isEmpty, orLater, tableCause, jobCause}
+use Rattle.first_answer.specs.Exchanges.{exchanged, improved}
+use Rattle.first_answer.specs.First.{legsOf, nearestOf, firstOf, respond, firstAnswer, Promised}
+use Rattle.first_answer.specs.declared.FirstOrder.{FirstOrder}
+use Rattle.first_answer.specs.Request.{
+  CheapestIsFirst,
+  ExchangesEnd,
+  ExchangesImprove,
+  shown,
+  Given,
+  IsOrder,
+  OwnCost,
+  NoExchangeCheaper,
+  NoDearerThanNearest,
+  RefusedBy123,
+  PassesAsStart,
+  PlanNoDearer,
+}
+use Rattle.first_answer.proofs.Cheapest.{cheapest-first}
+use Rattle.first_answer.proofs.NearestOrder.{nearest-all}
+use Rattle.first_answer.proofs.Settled.{improved-settles, improved-only, improved-cost, improved-least, improved-order}
+
+pub cheapest-is-first : CheapestIsFirst
+cheapest-is-first A f x xs = cheapest-first f x xs
+
+pub exchanges-end : ExchangesEnd
+exchanges-end L allowed x = (improved-settles L allowed x, improved-only L allowed x)
+
+pub exchanges-improve : ExchangesImprove
+exchanges-improve L allowed x = (improved-cost L allowed x, improved-least L allowed x)
+
+-- ---- the first order of a table
+
+module _ (n : ℕ) (table : List ℕ) where
+  nearestOf-order : Order n (nearestOf n table)
+  unfolding nearestOf
+  nearestOf-order = nearest-all n (legsOf n table)
+
+  firstOf-order : Order n (firstOf n table)
+  unfolding firstOf
+  firstOf-order = improved-order (legsOf n table) (λ x. true) n (nearestOf n table) nearestOf-order
+
+  firstOf-cost : cost (legsOf n table) (firstOf n table) ≤ cost (legsOf n table) (nearestOf n table)
+  unfolding firstOf
+  firstOf-cost = improved-cost (legsOf n table) (λ x. true) (nearestOf n table)
+
+  firstOf-least : (p q : ℕ) → p < q → q < n → cost (legsOf n table) (firstOf n table) ≤ cost (legsOf n table) (exchanged (firstOf n table) p q)
+  unfolding firstOf
+  firstOf-least p q h k =
+      improved-least (legsOf n table) (λ x. true) (nearestOf n table) p q h (omega (arith, order-length n (firstOf n table) firstOf-order)) tt
+
+  -- what is returned with number 0
+  pub record Shows (r : FirstOrder) : Type 0 where
+    pub costs : r .cost ≡ cost (legsOf n table) (firstOf n table)
+    pub places : r .order ≡ padded orderPlaces (firstOf n table)
+    pub stops : shown n r ≡ firstOf n table
+
+  pub given-shows : (r : FirstOrder) → Given n table r → Shows r
+  unfolding firstAnswer respond
+  given-shows r (e, z) = go (tableCause n table 0) e
+    where
+      go : (k : ℕ) → r ≡ respond n table k → Shows r
+      go zero e = record {
+        costs = ap (λ (a : FirstOrder). a .cost) e;
+        places = ap (λ (a : FirstOrder). a .order) e;
+        stops =
+            ap (λ (a : FirstOrder). take n (a .order)) e
+            ∙ subst (λ (k : ℕ). take k (padded orderPlaces (firstOf n table)) ≡ firstOf n table) (order-length n (firstOf n table) firstOf-order)
+            (take-padded orderPlaces (firstOf n table));
+      }
+      go (suc k) e = absurd (omega (arith, ap (λ (a : FirstOrder). a .number) e, z))
+
+-- ---- what is returned
+
+pub is-order : IsOrder
+is-order n table r g =
+    let s = given-shows n table r g in
+    (rw (s .stops) (firstOf-order n table), rw (s .stops) (s .places))
+
+pub own-cost : OwnCost
+own-cost n table r g = let s = given-shows n table r g in rw (s .stops) (s .costs)
+
+pub no-exchange-cheaper : NoExchangeCheaper
+no-exchange-cheaper n table r g p q h k =
+    let s = given-shows n table r g in
+    rw (s .stops, s .costs) (firstOf-least n table p q h k)
+
+pub no-dearer-than-nearest : NoDearerThanNearest
+no-dearer-than-nearest n table r g =
+    let s = given-shows n table r g in
+    (nearestOf-order n table, rw (s .costs) (firstOf-cost n table))
+
+-- a cause of the table is one of three
+table-small : (n : ℕ) (table : List ℕ) → tableCause n table 0 ≤ 3
+unfolding tableCause
+table-small n table = go (cause₁ n) (cause₂ n table) (cause₃ n table)
+  where
+    go : (a b c : Bool) → orLater a 1 (orLater b 2 (orLater c 3 0)) ≤ 3
+    go true b c = omega arith
+    go false true c = omega arith
+    go false false true = omega arith
+    go false false false = omega arith
+
+pub refused-by-123 : RefusedBy123
+unfolding firstAnswer respond
+refused-by-123 n table r e = go (tableCause n table 0) (table-small n table) e
+  where
+    zeros : FirstOrder
+    zeros = record { number = r .number; cost = 0; order = replicate orderPlaces 0 }
+
+    go : (k : ℕ) → k ≤ 3 → r ≡ respond n table k → (r .number ≡ k) × (r .number ≤ 3) × (r .number ≢ 0 → r ≡ zeros)
+    go zero h e =
+        let none : r .number ≡ 0 = ap (λ (a : FirstOrder). a .number) e in
+        (none, omega arith, λ some. absurd (some none))
+    go (suc k) h e =
+        let number : r .number ≡ suc k = ap (λ (a : FirstOrder). a .number) e in
+        (number, omega arith, λ some. e ∙ rw number)
+
+pub passes-as-start : PassesAsStart
+unfolding cause₅ jobCause
+passes-as-start job table r g =
+    let order : isOrder (job .n) (shown (job .n) r) ≡ true =
+    to-true (isOrder (job .n) (shown (job .n) r)) (order-isOrder (job .n) (shown (job .n) r) (is-order (job .n) table r g .0)) in
+    let passes : cause₅ (job .n) (shown (job .n) r) ≡ false = rw (order, or-true) in
+    (passes, λ later. rw passes)
+
+pub plan-no-dearer : PlanNoDearer written
+unfolding dayOf dayOn day legsOf
+plan-no-dearer c a r p h g =
+    let n : ℕ = c .job .n in
+    rw (own-cost n (c .table) r g)
+    (cheapest-of-all c a p h .least (shown n r) (orders-in n (shown n r) (is-order n (c .table) r g .0)))

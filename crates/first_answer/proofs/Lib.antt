@@ -1,0 +1,5 @@
+pub mod Cheapest
+pub mod ExchangedOrders
+pub mod Settled
+pub mod NearestOrder
+pub mod First

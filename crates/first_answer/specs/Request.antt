@@ -1,0 +1,94 @@
+-- What request A.1 says of a first order, a type for each sentence; proofs/ proves them. The first three are over any legs and any test of what
+-- is allowed. The others are over whatever a call returns that keeps its promise (`Promised`), so that they are of the definition and of the
+-- code at once.
+use mathlib.Core.Path.{_≡_}
+use mathlib.Core.Bool.{Bool, false}
+use mathlib.Core.List.{List, [], _∷_, _++_}
+use mathlib.Core.Logic.{_≢_}
+use Prim.Native.Nat.{ℕ, _≤_, _<_}
+use lib.Dec.{T}
+use lib.ListN.{length, take, replicate}
+use Rattle.sizes.specs.Sizes.{orderPlaces}
+use Rattle.lists.specs.Lists.{In, padded}
+use Rattle.orders.specs.Orders.{Node, Order}
+use Rattle.stops.specs.Legs.{Legs, cost}
+use Rattle.answer.specs.Call.{Call, Answer}
+use Rattle.answer.specs.declared.Job.{Job}
+use Rattle.answer.specs.Checks.{cause₅, tableCause, jobCause}
+use Rattle.answer.specs.Demands.{Planner}
+use Rattle.first_answer.specs.Nearest.{cheapest}
+use Rattle.first_answer.specs.Exchanges.{exchanged, Settles, improved}
+use Rattle.first_answer.specs.First.{legsOf, nearestOf, Promised}
+use Rattle.first_answer.specs.declared.FirstOrder.{FirstOrder}
+
+-- of some elements, a has the least f and is the first that has: each in front of it has a greater one
+pub record FirstCheapest {A : Type 0} (f : A → ℕ) (xs : List A) (a : A) : Type 0 where
+  pub before : List A
+  pub after : List A
+  pub split : xs ≡ before ++ (a ∷ after)
+  pub dearer : (y : A) → In y before → f a < f y
+  pub least : (y : A) → In y xs → f a ≤ f y
+
+-- which is how the nearest stop is chosen among the stops left, the lowest first, and the best exchange among those by their places
+abbrev pub CheapestIsFirst : Type 1
+CheapestIsFirst = (A : Type 0) (f : A → ℕ) (x : A) (xs : List A) → FirstCheapest f (x ∷ xs) (cheapest f x xs)
+
+-- the exchanges end, whatever they start from, and always at one and the same order: the one that `improved` names
+abbrev pub ExchangesEnd : Type 0
+ExchangesEnd =
+    (L : Legs) (allowed : Node → Bool) (x : Node)
+    → Settles L allowed x (improved L allowed x) × ((y : Node) → Settles L allowed x y → y ≡ improved L allowed x)
+
+-- which is no dearer than what they start from, and of which no allowed exchange of two stops is cheaper
+abbrev pub ExchangesImprove : Type 0
+ExchangesImprove =
+    (L : Legs) (allowed : Node → Bool) (x : Node) →
+    let y = improved L allowed x in
+    (cost L y ≤ cost L x) × ((p q : ℕ) → p < q → q < length y → T (allowed (exchanged y p q)) → cost L y ≤ cost L (exchanged y p q))
+
+-- the stops of an answer
+abbrev pub shown : ℕ → FirstOrder → Node
+shown n r = take n (r .order)
+
+-- of n and a table, what is returned with number 0
+abbrev pub Given : ℕ → List ℕ → FirstOrder → Type 0
+Given n table r = Promised n table r × (r .number ≡ 0)
+
+-- an order of 1 to n, and zeros behind it
+abbrev pub IsOrder : Type 0
+IsOrder = (n : ℕ) (table : List ℕ) (r : FirstOrder) → Given n table r → Order n (shown n r) × (r .order ≡ padded orderPlaces (shown n r))
+
+-- the cost is that order's own
+abbrev pub OwnCost : Type 0
+OwnCost = (n : ℕ) (table : List ℕ) (r : FirstOrder) → Given n table r → r .cost ≡ cost (legsOf n table) (shown n r)
+
+-- no exchange of two of its stops is cheaper
+abbrev pub NoExchangeCheaper : Type 0
+NoExchangeCheaper =
+    (n : ℕ) (table : List ℕ) (r : FirstOrder) → Given n table r
+    → (p q : ℕ) → p < q → q < n → r .cost ≤ cost (legsOf n table) (exchanged (shown n r) p q)
+
+-- it costs no more than the nearest-stop order, which is an order too
+abbrev pub NoDearerThanNearest : Type 0
+NoDearerThanNearest =
+    (n : ℕ) (table : List ℕ) (r : FirstOrder) → Given n table r
+    → Order n (nearestOf n table) × (r .cost ≤ cost (legsOf n table) (nearestOf n table))
+
+-- a refusal has the number of the first of causes 1 to 3 that applies, and zeros
+abbrev pub RefusedBy123 : Type 0
+RefusedBy123 =
+    (n : ℕ) (table : List ℕ) (r : FirstOrder) → Promised n table r
+    → (r .number ≡ tableCause n table 0) × (r .number ≤ 3)
+    × (r .number ≢ 0 → r ≡ record { number = r .number; cost = 0; order = replicate orderPlaces 0 })
+
+-- Handed in as a starting order, check 5 lets it pass: whatever the job's choices, its causes are those that it has with no starting order.
+abbrev pub PassesAsStart : Type 0
+PassesAsStart =
+    (job : Job) (table : List ℕ) (r : FirstOrder) → Given (job .n) table r
+    → (cause₅ (job .n) (shown (job .n) r) ≡ false)
+    × ((later : ℕ) → jobCause job table (shown (job .n) r) later ≡ jobCause job table [] later)
+
+-- a run over its table that finishes, however it was started, costs no more
+abbrev pub PlanNoDearer : Planner → Type 0
+PlanNoDearer P =
+    (c : Call) (a : Answer) (r : FirstOrder) → P c a → a .report .number ≡ 0 → Given (c .job .n) (c .table) r → a .report .cost ≤ r .cost
