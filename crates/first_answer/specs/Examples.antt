@@ -1,9 +1,8 @@
 -- Worked examples of first orders: document 01's table T, ties, exchanges and refusals. They stand beside the definitions, and the laws name
 -- this module so that it is checked before them: a wrong definition is met here first.
 use mathlib.Core.Path.{_≡_, refl}
-use mathlib.Core.Bool.{true}
 use mathlib.Core.List.{List, [], _∷_, map}
-use Prim.Native.Nat.{ℕ}
+use Prim.Native.Nat.{ℕ, _/_}
 use Rattle.lists.specs.Lists.{padded}
 use Rattle.orders.specs.Orders.{flown, left, last}
 use Rattle.stops.specs.Tables.{entry, rows}
@@ -26,8 +25,8 @@ three cost a b c = record { number = 0; cost = cost; order = a ∷ b ∷ c ∷ 0
 refused : ℕ → FirstOrder
 refused number = record { number = number; cost = 0; order = 0 ∷ 0 ∷ 0 ∷ 0 ∷ 0 ∷ 0 ∷ 0 ∷ 0 ∷ 0 ∷ 0 ∷ 0 ∷ 0 ∷ 0 ∷ 0 ∷ 0 ∷ 0 ∷ [] }
 
--- of equals the first
-first-of-equals : cheapest (λ (k : ℕ). k) 3 (2 ∷ 4 ∷ 2 ∷ []) ≡ 2
+-- by the tens: the least, and of equals the first
+first-of-equals : cheapest (λ (k : ℕ). k / 10) 31 (21 ∷ 40 ∷ 22 ∷ []) ≡ 21
 first-of-equals = refl
 
 -- the three exchanges of an order of three stops
@@ -82,11 +81,10 @@ unfolding tableT three
 one-stop = refl
 
 -- causes 1 to 3, the lowest that applies, and zeros
-refusals :
-    map (λ n. firstAnswer n (0 ∷ 1_000_001 ∷ 5 ∷ 0 ∷ [])) (0 ∷ 17 ∷ 2 ∷ 1 ∷ []) ≡ map refused (1 ∷ 1 ∷ 2 ∷ 3 ∷ [])
+refusals : map (λ n. firstAnswer n (0 ∷ 3 ∷ 5 ∷ 1 ∷ [])) (0 ∷ 17 ∷ 2 ∷ 1 ∷ []) ≡ map refused (1 ∷ 1 ∷ 2 ∷ 3 ∷ [])
 unfolding tableT refused
 refusals = refl
 
-diagonal-refused : firstAnswer 1 (0 ∷ 3 ∷ 5 ∷ 1 ∷ []) ≡ refused 3
-unfolding tableT refused
-diagonal-refused = refl
+dear-leg : firstAnswer 1 (0 ∷ 1_000_001 ∷ 5 ∷ 0 ∷ []) .number ≡ 3
+unfolding tableT
+dear-leg = refl
