@@ -2,6 +2,7 @@
 --   cheapest-first                   it is one of the elements, none is cheaper, and each in front of it is dearer
 --   cheapest-in, cheapest-least      so it is one of them, and none is cheaper
 --   cheapest-stays                   where it is no cheaper than the first, it is the first
+--   cheapest-append                  of joined lists: of the second, from what the first comes to
 use mathlib.Core.Path.{_≡_, refl, ap, sym}
 use mathlib.Core.Bool.{Bool, true, false, cond}
 use mathlib.Core.List.{List, [], _∷_, _++_, List·Memᴰ·tail, List·Memᴰ·cases-cons, List·Memᴰ·not-nil, Memᴰ·append-right}
@@ -119,3 +120,7 @@ module _ {A : Type 0} (f : A → ℕ) where
           → ((y : A) → In y before → f (cheapest f x xs) < f y) → cheapest f x xs ≡ x
       go [] e d = cc
       go (b ∷ bs) e d = let same : x ≡ b = cc in absurd (omega (arith, ap f same, d b in-head))
+
+  pub cheapest-append : (x : A) (xs ys : List A) → cheapest f x (xs ++ ys) ≡ cheapest f (cheapest f x xs) ys
+  cheapest-append x [] ys = refl
+  cheapest-append x (y ∷ xs) ys = cheapest-append (cond (ltb (f y) (f x)) y x) xs ys

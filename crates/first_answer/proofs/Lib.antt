@@ -1,5 +1,6 @@
 pub mod Cheapest
-pub mod ExchangedOrders
-pub mod Settled
 pub mod NearestOrder
+pub mod Exchanged
+pub mod Exchanges
+pub mod Settled
 pub mod First

@@ -16,7 +16,7 @@ use Rattle.orders.specs.Orders.{Node, Order}
 use Rattle.stops.specs.Legs.{Legs, cost}
 use Rattle.first_answer.specs.Exchanges.{exchanged, exchanges, bestExchange, Settles, settled, lowered, repeated, improved}
 use Rattle.first_answer.proofs.Cheapest.{cheapest-stays}
-use Rattle.first_answer.proofs.ExchangedOrders.{bestExchange-least, bestExchange-order}
+use Rattle.first_answer.proofs.Exchanges.{bestExchange-least, bestExchange-order}
 
 module _ (L : Legs) (allowed : Node → Bool) where
   abbrev next : Node → Node

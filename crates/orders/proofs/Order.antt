@@ -1,6 +1,6 @@
 -- Orders: an order is a complete partial order, so the orders are just the complete nodes reached from e, and have length n; and the
--- test `isOrder` passes just for orders. What has each stop as often as an order has it is one too (`order-counts`), and `count-set` says what
--- another stop in place of one does to that.
+-- test `isOrder` passes just for orders. What has each stop as often as another list has the same stops (`counts-in`), and is an order if that is
+-- (`order-counts`); `count-set` says what another stop in place of one does to how often each stands there.
 use mathlib.Core.Path.{_≡_, sym, _∙_, subst}
 use mathlib.Core.Bool.{Bool, true, false, not}
 use mathlib.Core.List.{List, [], _∷_, List·Memᴰ·tail, List·Memᴰ·not-nil}
@@ -87,15 +87,16 @@ count-distinct (s ∷ x) h = more new (count-distinct x rest)
         go true k = omega arith
         go false k = k
 
-pub order-counts : (n : ℕ) (x y : Node) → ((s : ℕ) → count s y ≡ count s x) → Order n x → Order n y
-order-counts n x y same o = record {
-  once = count-distinct y (λ s m. omega (arith, same s, distinct-count x s (o .once) (back s m)));
-  only = λ s m. o .only s (back s m);
-  every = λ s h k. count-in y s (omega (arith, same s, in-count x s (o .every s h k)));
-}
-  where
-    back : (s : ℕ) → In s y → In s x
-    back s m = count-in x s (omega (arith, same s, in-count y s m))
+module _ (x y : Node) (same : (s : ℕ) → count s y ≡ count s x) where
+  pub counts-in : (s : ℕ) → In s y → In s x
+  counts-in s m = count-in x s (omega (arith, same s, in-count y s m))
+
+  pub order-counts : (n : ℕ) → Order n x → Order n y
+  order-counts n o = record {
+    once = count-distinct y (λ s m. omega (arith, same s, distinct-count x s (o .once) (counts-in s m)));
+    only = λ s m. o .only s (counts-in s m);
+    every = λ s h k. count-in y s (omega (arith, same s, in-count x s (o .every s h k)));
+  }
 
 -- 1 where a test passed
 abbrev pub one : Bool → ℕ
