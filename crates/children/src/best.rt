@@ -16,9 +16,8 @@ use crate::setting::Setting;
 use records::load;
 use sizes::ABOVE_EVERY_COST;
 use sizes::PLACES;
-use stops::bound::ahead;
+use stops::cost::order_cost;
 use stops::node_record::Record;
-use stops::table::further;
 
 // The cost of the best order known, and its two words; `ABOVE_EVERY_COST` and zeros if none is known.
 pub struct Best {
@@ -74,17 +73,15 @@ pub fn started(setting: Setting, t: [[u32; PLACES]; PLACES], start: &[u8]) -> Be
             second: 0,
         };
     }
+    // Only the words of the order are taken from this record: it gets no legs.
     let mut x = Record::empty();
-    let mut place = 0;
     let mut k = 0;
     while k < start.len() {
-        let s = start[k] as u32;
-        x = x.extended(s, further(&t, place, s));
-        place = s;
+        x = x.extended(start[k] as u32, 0);
         k += 1;
     }
     Best {
-        upper: x.path + ahead(&t, 0, place, 0),
+        upper: order_cost(&t, start),
         first: x.first,
         second: x.second,
     }

@@ -37,7 +37,7 @@ use Rattle.first_answer.specs.Request.{
   PlanNoDearer,
 }
 use Rattle.first_answer.proofs.Cheapest.{cheapest-first}
-use Rattle.first_answer.proofs.NearestOrder.{nearest-all}
+use Rattle.first_answer.proofs.NearestOrder.{nearest-free}
 use Rattle.first_answer.proofs.Settled.{improved-settles, improved-only, improved-cost, improved-least, improved-order}
 
 pub cheapest-is-first : CheapestIsFirst
@@ -54,9 +54,9 @@ exchanges-improve L allowed x = (improved-cost L allowed x, improved-least L all
 module _ (n : ℕ) (table : List ℕ) where
   nearestOf-order : Order n (nearestOf n table)
   unfolding nearestOf
-  nearestOf-order = nearest-all n (legsOf n table)
+  nearestOf-order = nearest-free n (legsOf n table) (λ x. true) (λ x. tt)
 
-  firstOf-order : Order n (firstOf n table)
+  pub firstOf-order : Order n (firstOf n table)
   unfolding firstOf
   firstOf-order = improved-order (legsOf n table) (λ x. true) n (nearestOf n table) nearestOf-order
 

@@ -3,13 +3,15 @@
 --   toNearest-child         a node flown on to the nearest of such stops is one of its children
 --   nearest-partial         the nearest-stop order is a partial order
 --   nearest-order           and an order, where no partial order that leaves a stop is without one that may be flown next
---   nearest-all             so it is, if every node is allowed
-use mathlib.Core.Path.{_≡_, refl, ap, sym, subst, _∙_}
-use mathlib.Core.Bool.{Bool, true}
-use mathlib.Core.List.{List, [], _∷_, List·Memᴰ·tail}
+--   onward-free             where every node is allowed, the next stop is the nearest of those that a node leaves
+--   nearest-free            and the nearest-stop order is an order
+use mathlib.Core.Path.{_≡_, refl, ap, sym, _∙_}
+use mathlib.Core.Bool.{Bool}
+use mathlib.Core.List.{List, [], _∷_}
 use mathlib.Core.Logic.{_≢_}
 use Prim.Native.Nat.{ℕ, zero, suc, _+_, _≤_, _<_}
 use native.Mathlib.Omega.{arith}
+use lib.Dec.{T}
 use lib.ListN.{length, length-append}
 use Rattle.lists.specs.Lists.{In}
 use Rattle.lists.proofs.Members.{in-keep}
@@ -67,12 +69,18 @@ module _ (n : ℕ) (L : Legs) (allowed : Node → Bool) where
     unfolding nearest
     nearest-order = full-order n (onward n L allowed n []) nearest-partial (omega (arith, onward-length n [] (partial-root n) (omega arith)))
 
--- a partial order that is shorter than n leaves a stop
-pub nearest-all : (n : ℕ) (L : Legs) → Order n (nearest n L (λ x. true))
-unfolding nextStops
-nearest-all n L = nearest-order n L (λ x. true) ways
-  where
-    ways : Ways n L (λ x. true)
-    ways x p h e =
-        let same : left n x ≡ [] = sym (keep-all (λ r. true) (left n x) (λ r m. tt)) ∙ e in
-        omega (arith, size-left n x, partial-size n x p, ap length same)
+-- where every node is allowed, every stop that a node leaves may be flown next
+module _ (n : ℕ) (L : Legs) (allowed : Node → Bool) (free : (x : Node) → T (allowed x)) where
+  nextStops-all : (x : Node) → nextStops n L allowed x ≡ left n x
+  unfolding nextStops
+  nextStops-all x = keep-all (λ s. allowed (extend x s)) (left n x) (λ s m. free (extend x s))
+
+  pub onward-free : (k : ℕ) (x : Node) → onward n L allowed (suc k) x ≡ onward n L allowed k (toNearest L x (left n x))
+  onward-free k x = ap (λ (ss : List ℕ). onward n L allowed k (toNearest L x ss)) (nextStops-all x)
+
+  -- and a partial order that is shorter than n leaves one
+  pub nearest-free : Order n (nearest n L allowed)
+  nearest-free = nearest-order n L allowed ways
+    where
+      ways : Ways n L allowed
+      ways x p h e = omega (arith, size-left n x, partial-size n x p, ap length (sym (nextStops-all x) ∙ e))

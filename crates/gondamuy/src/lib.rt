@@ -6,8 +6,10 @@ ghost use Rattle.planner.specs.Promise.{Promised};
 ghost use Rattle.job_format.specs.Contents.{contentsOf};
 ghost use Rattle.job_format.specs.Reader.{read};
 ghost use Rattle.job_file.specs.Promise.{returned, Promised as PromisedFile};
+ghost use Rattle.first_answer.specs.First.{Promised as PromisedFirst};
 use answer::Job;
 use answer::Report;
+use first_answer::FirstOrder;
 use job_file::reader::Reading;
 use job_file::writer::Written;
 
@@ -38,4 +40,12 @@ pub extern "C" fn gondamuy_write(
     ensures { λ r. ⌜ PromisedFile (contentsOf job (now (table .entry)) (now (start .entry))) (now (buffer .entry)) r (now (buffer .exit)) ⌝ }
 {
     job_file::writer::write(job, table, start, buffer)
+}
+
+// `first_order::first_order` for C.
+#[no_mangle]
+pub extern "C" fn gondamuy_first_order(n: u32, table: &[u32]) -> FirstOrder
+    ensures { λ r. ⌜ PromisedFirst n (now (table .entry)) r ⌝ }
+{
+    first_order::first_order(n, table)
 }

@@ -1,9 +1,9 @@
 -- A node put together again from its order, stop by stop, as `node::is_record` does. What is built from the first k stops is the record of
 -- the node that they are, but for its path cost and bound: so the words of a record are a node's just when every stop can be added
 -- and what is built has its set and its order.
-use mathlib.Core.Path.{_≡_, refl, ap, sym, _∙_, subst}
+use mathlib.Core.Path.{_≡_, ap, sym, _∙_, subst}
 use mathlib.Core.Bool.{Bool, true, false, not}
-use mathlib.Core.List.{List, [], _∷_, _++_, Memᴰ·append-right}
+use mathlib.Core.List.{List, _∷_, _++_, Memᴰ·append-right}
 use mathlib.Core.Logic.{_≢_}
 use Prim.Native.Nat.{ℕ, suc, _+_, _≤_, _<_}
 use native.Mathlib.Omega.{arith}
@@ -14,52 +14,19 @@ use Rattle.sizes.specs.Sizes.{mostStops, wordStops}
 use Rattle.lists.specs.Lists.{In, Distinct}
 use Rattle.lists.proofs.Tests.{same-tests}
 use Rattle.lists.proofs.Members.{in-head, keep-in}
-use Rattle.lists.proofs.Empty.{no-members}
 use Rattle.lists.proofs.Distinct.{append-apart}
-use Rattle.orders.specs.Orders.{Node, stops, flown, setOf, left, size, extend, Partial, mask}
+use Rattle.orders.specs.Orders.{Node, stops, flown, setOf, left, extend, Partial, mask}
 use Rattle.orders.proofs.Sets.{stops-in, in-set, in-flown, flown-in, left-in, extend-child}
 use Rattle.orders.proofs.Partial.{partial-root, partial-size, partial-child}
-use Rattle.days.specs.Days.{Day}
 use Rattle.stops.specs.Code.{stopsIn, emptyRecord, extended, Wide}
 use Rattle.stops.specs.declared.node_record.Record.{Record}
 use Rattle.records.specs.Records.{orderWord}
-use Rattle.records.specs.Code.{encode}
 use Rattle.records.proofs.OrderWords.{stop-range}
 use Rattle.records.proofs.Mask.{stops-set}
-use Rattle.records.proofs.Encode.{unbounded, encode-extend, encode-wide}
+use Rattle.records.proofs.Encode.{built, built-none, built-words, built-wide, built-more}
 use Rattle.node_answers.specs.Nodes.{flownStops, isNode}
 use Rattle.node_answers.proofs.StopLaws.{stopOf, stops-length, stops-next, stop-here}
 use Rattle.node_answers.proofs.NodeLaws.{node-record, record-node, no-node}
-
--- a day on which nothing costs anything: what is built has no path cost
-abbrev free : Day
-free = record { path = λ x. 0; cost = λ x. 0; bound = λ k x. 0; dominates = λ y z. false }
-
-abbrev built : ℕ → Node → Record
-built n z = unbounded (encode n free 0 z)
-
-set-none : (n : ℕ) → setOf n [] ≡ []
-unfolding flown
-set-none n = no-members (setOf n []) (λ s m. in-set n [] s m .2)
-
-built-none : (n : ℕ) → emptyRecord ≡ built n []
-unfolding encode emptyRecord size mask
-built-none n = rw (set-none n) refl
-
-built-set : (n : ℕ) (z : Node) → built n z .set ≡ mask (setOf n z)
-unfolding encode
-built-set n z = refl
-
-wide-unbounded : {v : Record} {s leg : ℕ} → Wide v s leg → Wide (unbounded v) s leg
-wide-unbounded w = record {
-  some = w .some;
-  few = w .few;
-  room = w .room;
-  set-small = w .set-small;
-  path-small = w .path-small;
-  first-small = w .first-small;
-  second-small = w .second-small;
-}
 
 -- the first k stops are a node, and what is built is its record
 pub record Retraced (n : ℕ) (x w : Record) (k : ℕ) : Type 0 where
@@ -83,7 +50,7 @@ module _ {n : ℕ} {x w : Record} {k : ℕ} (r : Retraced n x w k) where
 
   set-same : w .set ≡ mask (setOf n z)
   unfolding y z
-  set-same = ap (λ (v : Record). v .set) (r .same) ∙ built-set n (take k (flownStops x))
+  set-same = ap (λ (v : Record). v .set) (r .same) ∙ built-words n (take k (flownStops x)) .0
 
   -- whether the set that is built holds a stop is whether it is flown
   flown-same : (s : ℕ) → 1 ≤ s → s ≤ n → flown (stopsIn (w .set)) s ≡ flown z s
@@ -130,12 +97,10 @@ module _ {n : ℕ} {x w : Record} {k : ℕ} (r : Retraced n x w k) where
 
         pub stop-fits : Wide w (stopOf x k) 0
         unfolding y z
-        stop-fits =
-            rw (r .same) (wide-unbounded (encode-wide n (r .few) free 0 z (r .node) (stopOf x k) free-stop 0
-            (omega arith)))
+        stop-fits = rw (r .same) (built-wide n (r .few) z (r .node) (stopOf x k) free-stop)
 
         pub stop-added : Retraced n x (extended w (stopOf x k) 0) (k + 1)
-        unfolding y z extended
+        unfolding y z
         stop-added = record {
           some = r .some;
           few = r .few;
@@ -144,7 +109,7 @@ module _ {n : ℕ} {x w : Record} {k : ℕ} (r : Retraced n x w k) where
           node =
               subst (Partial n) (sym (stops-next x k inside)) (partial-child n z (extend z (stopOf x k)) (r .node)
               (extend-child n z (stopOf x k) free-stop));
-          same = rw (r .same, stops-next x k inside) (encode-extend n (r .few) free 0 z (r .node) (stopOf x k) free-stop 0 (omega arith));
+          same = rw (r .same, stops-next x k inside) (built-more n (r .few) z (r .node) (stopOf x k) free-stop);
         }
 
   module _ (whole : x .size ≤ k) where
@@ -155,8 +120,7 @@ module _ {n : ℕ} {x w : Record} {k : ℕ} (r : Retraced n x w k) where
     words-are :
         (w .set ≡ mask (setOf n (flownStops x))) × (w .first ≡ orderWord (take wordStops (flownStops x)))
         × (w .second ≡ orderWord (drop wordStops (flownStops x)))
-    unfolding encode
-    words-are = rw (r .same, all-stops) (refl, refl, refl)
+    words-are = rw (r .same, all-stops) (built-words n (flownStops x))
 
     pub other-set : x .set ≢ w .set → false ≡ isNode n x
     other-set h = no-node n x (λ q. h (q .set-is ∙ sym (words-are .0)))

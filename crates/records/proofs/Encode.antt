@@ -5,8 +5,9 @@
 --   encode-last         the last stop
 --   encode-extend       one more stop and what it adds to the path cost, but for the bound
 --   encode-wide         the words have room for one more stop
+--   built, built-none, built-wide, built-more, built-words    a node's record made of its stops alone, without costs
 use mathlib.Core.Path.{_≡_, refl, sym, _∙_}
-use mathlib.Core.Bool.{cond}
+use mathlib.Core.Bool.{false, cond}
 use mathlib.Core.List.{[], _∷_}
 use mathlib.Core.Logic.{_⊎_, inl, inr}
 use Prim.Native.Nat.{ℕ, _+_, _-_, _^_, _/_, _%_, _≤_, _<_}
@@ -18,11 +19,11 @@ use Rattle.sizes.specs.Sizes.{mostStops, stopBase, wordStops}
 use Rattle.lists.specs.Lists.{In}
 use Rattle.lists.proofs.Tests.{ordered}
 use Rattle.lists.proofs.Empty.{in-nonempty}
-use Rattle.orders.specs.Orders.{Node, left, last, size, extend, Partial}
-use Rattle.orders.proofs.Sets.{in-left, size-left, last-element}
+use Rattle.orders.specs.Orders.{Node, setOf, left, mask, last, size, extend, Partial}
+use Rattle.orders.proofs.Sets.{empty-set, in-left, size-left, last-element}
 use Rattle.orders.proofs.Partial.{partial-size}
 use Rattle.days.specs.Days.{Day}
-use Rattle.stops.specs.Code.{extended, lastStop, Wide}
+use Rattle.stops.specs.Code.{emptyRecord, extended, lastStop, Wide}
 use Rattle.stops.specs.declared.node_record.Record.{Record}
 use Rattle.records.specs.Records.{orderWord, record-of}
 use Rattle.records.specs.Code.{six, encode}
@@ -104,3 +105,30 @@ module _ (n : ℕ) (few : n ≤ mostStops) (D : Day) (k : ℕ) (x : Node) (p : P
           first-small = λ low. first-below x d (size n x) (omega arith);
           second-small = λ high. second-below x d (size n x - wordStops) (omega arith);
         }
+
+-- a day on which nothing costs anything
+abbrev free : Day
+free = record { path = λ x. 0; cost = λ x. 0; bound = λ k x. 0; dominates = λ y z. false }
+
+pub built : ℕ → Node → Record
+built n x = encode n free 0 x
+
+pub built-none : (n : ℕ) → emptyRecord ≡ built n []
+unfolding built encode emptyRecord size mask
+built-none n = rw (empty-set n) refl
+
+pub built-words :
+    (n : ℕ) (x : Node)
+    → (built n x .set ≡ mask (setOf n x)) × (built n x .first ≡ orderWord (take wordStops x))
+    × (built n x .second ≡ orderWord (drop wordStops x))
+unfolding built encode
+built-words n x = (refl, refl, refl)
+
+module _ (n : ℕ) (few : n ≤ mostStops) (x : Node) (p : Partial n x) (s : ℕ) (m : In s (left n x)) where
+  pub built-wide : Wide (built n x) s 0
+  unfolding built
+  built-wide = encode-wide n few free 0 x p s m 0 (omega arith)
+
+  pub built-more : extended (built n x) s 0 ≡ built n (extend x s)
+  unfolding built encode
+  built-more = encode-extend n few free 0 x p s m 0 refl

@@ -1,6 +1,7 @@
 -- The stops of a table are a day that keeps every law of `Walk`, whatever the legs and the legs home.
 --   stops-walk       the laws; rows-walk: the same of the day of the planner's rows
 --   place-last, after-stop, path-further   a node is where its last stop is, a stop leads to itself, and adds its leg to any path
+--   cost-day         the cost by the legs of the rows is that of their day
 --   close-ge-plain   of the two bounds, close is at least plain
 -- and, where no leg of the rows is above the dearest (`Cheap`), how large the numbers of such a day can be:
 --   further-small, path-small, ahead-small    what a stop adds, a path cost, and what a bound adds
@@ -108,6 +109,10 @@ pub path-further :
     → dayOn n rows .path (extend x s) ≡ dayOn n rows .path x + reckonOn rows .further (reckonOn rows .place x) s
 unfolding dayOn day reckonOn reckoning
 path-further n rows x s = paths.path-extend (legs rows) x s
+
+pub cost-day : (n : ℕ) (rows : List (List ℕ)) (x : Node) → cost (legs rows) x ≡ dayOn n rows .cost x
+unfolding dayOn day
+cost-day n rows x = refl
 
 module _ (rows : List (List ℕ)) (cheap : Cheap rows) where
   pub further-small : (place s : ℕ) → reckonOn rows .further place s ≤ dearest

@@ -7,6 +7,7 @@
 --   ahead k L place rest  what bound k adds to the path cost at a place, with the stops of rest to come
 --   reckonOn rows         the day of the planner's rows as a walk from stop to stop
 --   Cheap rows            no leg of theirs is above the dearest (Within m L: none is above m)
+--   Flyable rows x        what `order_cost` asks, so that each leg of x is in the rows and their sum does not overflow
 --   rowOf n entries       a row of the planner's
 --   Wide x s leg          what `extended` asks, so that no word overflows
 --   emptyRecord           six zeros, e's record before it has a bound
@@ -15,10 +16,10 @@ use mathlib.Core.List.{List, [], _∷_, map}
 use Prim.Native.Nat.{ℕ, zero, suc, _+_, _*_, _-_, _^_, _/_, _%_, _≤_, _<_}
 use lib.Count.{ones}
 use lib.Dec.{leb, ltb, eqb}
-use lib.ListN.{getD}
+use lib.ListN.{length, getD}
 use Rattle.sizes.specs.Sizes.{mostStops, places, dearest, stopBase, wordStops}
-use Rattle.lists.specs.Lists.{put, from}
-use Rattle.orders.specs.Orders.{last}
+use Rattle.lists.specs.Lists.{In, put, from}
+use Rattle.orders.specs.Orders.{Node, last}
 use Rattle.days.specs.Code.{Reckoning}
 use Rattle.stops.specs.Legs.{Legs, legs}
 use Rattle.stops.specs.Bounds.{remainder}
@@ -89,3 +90,9 @@ pub record Within (m : ℕ) (L : Legs) : Type 0 where
 
 abbrev pub Cheap : List (List ℕ) → Type 0
 Cheap rows = Within dearest (legs rows)
+
+-- each stop is a place of the rows, and few as they are, their legs fit a word
+pub record Flyable (rows : List (List ℕ)) (x : Node) : Type 0 where
+  pub cheap : Cheap rows
+  pub few : length x ≤ mostStops
+  pub near : (s : ℕ) → In s x → s ≤ mostStops

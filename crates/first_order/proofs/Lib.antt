@@ -1,0 +1,3 @@
+pub mod NearestLaws
+pub mod ExchangeLaws
+pub mod FirstLaws

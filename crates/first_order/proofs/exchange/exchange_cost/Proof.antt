@@ -1,0 +1,35 @@
+-- `exchange_cost` meets its contract: the order whose cost it takes is the exchanged one, and made again the exchange is undone.
+use borrow.Author.Needs.{needs}
+use Rattle.first_answer.proofs.Exchanged.{exchanged-twice}
+use Rattle.first_order.proofs.ExchangeLaws.{exchanged-flyable}
+use Rattle.first_order.proofs.exchange.exchange_cost.Statement.{statement}
+use Rattle.first_order.proofs.exchange.exchange_cost.Tie as tie
+
+-- the function's entry, seen from the first exchange
+abbrev entry : tie.After-exchange-stops → tie.Start
+entry c = c .before .before .before
+
+order-cost-requires : tie.Need-order-cost-requires
+order-cost-requires c κs =
+    let changed = c .before .before .before in
+    let a = entry changed .args in
+    let pre = entry changed .pre in
+    rw (changed .exchange-stops .ensures) (exchanged-flyable (pre .0) (a .p) (a .q) (pre .1 .0) (pre .1 .1))
+
+returns : tie.Need-returns
+returns c =
+    let spent = c .before .before .before .before in
+    let changed = spent .before .before .before .before in
+    let a = entry changed .args in
+    let pre = entry changed .pre in
+    (cc, cc (exchanged-twice (a .x .now) (a .p) (a .q) (pre .1 .0) (pre .1 .1)))
+
+pub exchange-cost-spec : {M : Type 1} → statement M
+exchange-cost-spec =
+    tie.close
+    (tie.spec
+    (λ c κs. search needs)
+    order-cost-requires
+    (λ c κs. search needs)
+    (λ c. search needs)
+    returns)
