@@ -1,5 +1,5 @@
-/* The proved stop-order planner, and the proved reader and writer of job files, for C on x86-64 Linux. Link with
- * libgondamuy.a. docs/HOSTS.md has the same for people, with examples.
+/* The proved stop-order planner, a first order for it to start from, and the proved reader and writer of job files, for
+ * C on x86-64 Linux. Link with libgondamuy.a. docs/HOSTS.md has the same for people, with examples.
  *
  * Nothing is asked of the numbers and the bytes: whatever they are, each call ends and answers what it is asked for
  * (number 0) or a refusal (number 1 to 10). What is asked is what C asks of any pointer:
@@ -20,7 +20,7 @@ extern "C" {
 #endif
 
 /* Raised with every change of a call, of a struct or of what a number means. */
-#define GONDAMUY_VERSION 2
+#define GONDAMUY_VERSION 3
 
 /* Sizes. */
 #define GONDAMUY_MOST_STOPS 16                                         /* stops of a day at most */
@@ -100,6 +100,12 @@ struct gondamuy_report {
     uint64_t most;      /* the most that were active at once */
 };
 
+struct gondamuy_first {
+    uint32_t number;    /* 0, or the number of the refusal: 1 to 3 */
+    uint32_t cost;
+    uint8_t order[GONDAMUY_ORDER_PLACES]; /* the stops as they are flown, zeros past n */
+};
+
 struct gondamuy_reading {
     uint32_t number;    /* 0, or the number of the refusal: 8, 1, 9, 3, 4 or 5 */
     struct gondamuy_job job;
@@ -141,6 +147,22 @@ struct gondamuy_report gondamuy_plan(struct gondamuy_job job,
                                      const uint32_t *table, size_t table_len,
                                      const uint8_t *start, size_t start_len,
                                      uint32_t *pool, size_t pool_len);
+
+/* Makes an order of the stops 1 to n to start from, where nobody has typed one (request A.1).
+ *
+ * n and table are as for gondamuy_plan. From each place on, home first, the nearest stop left is flown, the lowest number
+ * of several. Then two stops change places as long as that lowers the cost: of all pairs the one that lowers it most,
+ * of several the one that begins earliest in the order, then the one that ends earliest. The order costs no more than
+ * that of the nearest stops, and no exchange of two of its stops makes it cheaper; but another order may be cheaper
+ * still, and gondamuy_plan finds one that is cheapest.
+ *
+ * What comes back, by number; the lowest that applies is returned:
+ *   0       The order and its cost.
+ *   1 to 3  The number, and zeros in every other field.
+ * The table is not written to. To start from the order, hand in the first n of first.order as start; 5 never comes from
+ * that. gondamuy_plan does not make one by itself.
+ */
+struct gondamuy_first gondamuy_first_order(uint32_t n, const uint32_t *table, size_t table_len);
 
 /* Reads a job file. The job comes back by value, so that no buffer can be too short.
  *
@@ -195,6 +217,11 @@ GONDAMUY_FIELD(report, generated, 32);
 GONDAMUY_FIELD(report, eliminated, 40);
 GONDAMUY_FIELD(report, active, 48);
 GONDAMUY_FIELD(report, most, 56);
+
+GONDAMUY_SIZE(first, 24);
+GONDAMUY_FIELD(first, number, 0);
+GONDAMUY_FIELD(first, cost, 4);
+GONDAMUY_FIELD(first, order, 8);
 
 GONDAMUY_SIZE(reading, 1196);
 GONDAMUY_FIELD(reading, number, 0);

@@ -72,6 +72,28 @@ impl fmt::Display for Refused {
 
 impl Error for Refused {}
 
+/// An order of the stops to start from: cheap, but not always the cheapest.
+#[derive(Clone, Copy, Debug, PartialEq, Eq)]
+pub struct FirstOrder {
+    /// What it costs.
+    pub cost: u32,
+    order: [u8; ORDER_PLACES],
+    stops: usize,
+}
+
+impl FirstOrder {
+    /// The stops as they are flown, as [`plan`](crate::plan) and [`write`](crate::write) take a starting order.
+    pub fn order(&self) -> &[u8] {
+        &self.order[..self.stops]
+    }
+
+    pub(crate) fn of(first: raw::FirstOrder, stops: u32) -> Result<FirstOrder, Refusal> {
+        let raw::FirstOrder { number, cost, order } = first;
+        Refusal::check(number)?;
+        Ok(FirstOrder { cost, order, stops: stops as usize })
+    }
+}
+
 /// What a job file holds.
 #[derive(Clone, Copy, Debug, PartialEq, Eq)]
 pub struct Contents {

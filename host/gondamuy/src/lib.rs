@@ -1,4 +1,5 @@
-//! The proved stop-order planner, and the proved reader and writer of job files, safe to call with anything.
+//! The proved stop-order planner, a first order for it to start from, and the proved reader and writer of job files,
+//! safe to call with anything.
 //!
 //! ```
 //! use gondamuy::{plan_records, Bound, Job, Record, Rules, Selection};
@@ -24,7 +25,7 @@ pub mod raw;
 mod refusal;
 mod sizes;
 
-pub use answers::{Contents, Counts, Plan, Refused};
+pub use answers::{Contents, Counts, FirstOrder, Plan, Refused};
 pub use choices::{Bound, Job, Rules, Selection};
 pub use raw::{words, Record};
 pub use refusal::Refusal;
@@ -61,6 +62,31 @@ pub fn plan(job: Job, table: &[u32], start: &[u8], pool: &mut [u32]) -> Result<P
 /// record, so [`Refusal::Pool`] comes from an empty pool alone.
 pub fn plan_records(job: Job, table: &[u32], start: &[u8], pool: &mut [Record]) -> Result<Plan, Refused> {
     plan(job, table, start, words(pool))
+}
+
+/// Makes an order of the stops 1 to n to start from, where nobody has typed one (request A.1).
+///
+/// From each place on, home first, the nearest stop left is flown, the lowest number of several. Then two stops change
+/// places as long as that lowers the cost: of all pairs the one that lowers it most, of several the one that begins
+/// earliest in the order, then the one that ends earliest. The order costs no more than that of the nearest stops, and
+/// no exchange of two of its stops makes it cheaper; but another order may be cheaper still, and [`plan`] finds one that
+/// is cheapest. Refused by the lowest of 1 to 3 that applies.
+///
+/// [`plan`] does not make one by itself. As a starting order it is never refused by 5:
+///
+/// ```
+/// # use gondamuy::*;
+/// let table = [0, 1, 2, 9, 1, 0, 1, 9, 9, 9, 0, 1, 5, 1, 9, 0];
+/// let first = first_order(3, &table)?;
+/// assert_eq!((first.cost, first.order()), (8, &[1, 2, 3][..]));
+/// let job = Job { n: 3, selection: Selection::Lifo, rules: Rules::UPPER_COST, bound: Bound::Close };
+/// let mut pool = vec![Record::default(); 100];
+/// let plan = plan_records(job, &table, first.order(), &mut pool)?;
+/// assert_eq!((plan.cost, plan.order()), (5, &[2, 3, 1][..]));
+/// # Ok::<(), Refusal>(())
+/// ```
+pub fn first_order(n: u32, table: &[u32]) -> Result<FirstOrder, Refusal> {
+    FirstOrder::of(raw::first_order(n, table), n)
 }
 
 /// Reads a job file. Refused by the first of 8, 1, 9, 3, 4 and 5 that applies.

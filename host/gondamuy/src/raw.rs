@@ -1,6 +1,7 @@
 //! The calls as C has them: plain numbers go in, and plain structs, whose layout is C's, come out. They are safe, and
 //! nothing is asked of a number: what does not fit is refused. What they answer is, over all inputs, that of `answer`
-//! (crates/answer/specs/Answer.antt), of `read` and of `write` (crates/job_format/specs/Reader.antt and Writer.antt).
+//! (crates/answer/specs/Answer.antt), of `firstAnswer` (crates/first_answer/specs/First.antt), of `read` and of `write`
+//! (crates/job_format/specs/Reader.antt and Writer.antt).
 //!
 //! ```
 //! use gondamuy::raw::{plan, Job};
@@ -50,6 +51,18 @@ pub struct Report {
     pub active: u64,
     /// See [`Counts`](crate::Counts).
     pub most: u64,
+}
+
+/// An order to start from (number 0) or a refusal (number 1 to 3) and zeros.
+#[repr(C)]
+#[derive(Clone, Copy, Debug, Default, PartialEq, Eq)]
+pub struct FirstOrder {
+    /// 0, or the number of the refusal.
+    pub number: u32,
+    /// The cost of the order.
+    pub cost: u32,
+    /// The stops as they are flown, zeros past n.
+    pub order: [u8; ORDER_PLACES],
 }
 
 /// What a file holds (number 0) or a refusal (number 8, 1, 9, 3, 4 or 5) and zeros.
@@ -135,6 +148,12 @@ pub fn plan_records(job: Job, table: &[u32], start: &[u8], pool: &mut [Record]) 
 pub fn words(pool: &mut [Record]) -> &mut [u32] {
     // SAFETY: a record is six words in a row (`layout`), each of which may hold any number, and the borrow goes over.
     unsafe { slice::from_raw_parts_mut(pool.as_mut_ptr().cast(), pool.len() * RECORD_WORDS) }
+}
+
+/// Makes an order of the stops 1 to n to start from: [`crate::first_order`] with its number.
+pub fn first_order(n: u32, table: &[u32]) -> FirstOrder {
+    // SAFETY: the slice is valid for its length.
+    unsafe { border::gondamuy_first_order(n, table.as_ptr(), table.len()) }
 }
 
 /// Reads a job file: [`crate::read`] with its number.

@@ -1,9 +1,10 @@
 //! The proved planner against the second planner: the report and every word
-//! of the pool, over random jobs of many kinds.
+//! of the pool, over random jobs of many kinds. Of those with a starting
+//! order, half start from the first order of request A.1.
 
 mod common;
 
-use common::{choices, random_job};
+use common::{choices, first_stops, random_job};
 use gondamuy::raw::{plan, Report};
 use gondamuy::RECORD_WORDS;
 use jobtext::Job;
@@ -88,9 +89,11 @@ fn pilots_of_twelve_stops() {
     for _ in 0..6 {
         let mut job = random_job(&mut random, 12, 1_000);
         (job.selection, job.rules, job.bound) = (3, 1, 1);
-        job.start = nearest(12, &job.table);
-        let (report, _) = compare(&job, &random.words(120 * RECORD_WORDS));
-        assert_eq!(report.number, 0);
+        for start in [nearest(12, &job.table), first_stops(12, &job.table)] {
+            job.start = start;
+            let (report, _) = compare(&job, &random.words(120 * RECORD_WORDS));
+            assert_eq!(report.number, 0);
+        }
     }
 }
 

@@ -1,4 +1,4 @@
-//! The header and the wrapper name the same numbers and say the same words.
+//! The header and the wrapper name the same numbers, say the same words and assert the same layout.
 
 use std::collections::HashMap;
 use std::fs;
@@ -6,10 +6,14 @@ use std::path::Path;
 
 use gondamuy::{raw, Bound, Job, Refusal, Rules, Selection, DEAREST_LEG, MOST_STOPS, RECORD_WORDS, VERSION};
 
-/// The lines of include/gondamuy.h.
-fn header() -> Vec<String> {
-    let path = Path::new(env!("CARGO_MANIFEST_DIR")).join("../../include/gondamuy.h");
+/// The lines of a file, by its way from the wrapper's folder.
+fn lines(file: &str) -> Vec<String> {
+    let path = Path::new(env!("CARGO_MANIFEST_DIR")).join(file);
     fs::read_to_string(path).unwrap().lines().map(|line| line.trim().to_string()).collect()
+}
+
+fn header() -> Vec<String> {
+    lines("../../include/gondamuy.h")
 }
 
 /// A name with a number: `#define NAME 7` or `NAME = 7,` of an enum.
@@ -70,4 +74,28 @@ fn the_same_words() {
         let at = header.iter().position(is_it).unwrap();
         assert!(header[at - 1].starts_with(&format!("/* {}.", refusal.words())), "{refusal}: {}", header[at - 1]);
     }
+}
+
+/// What stands between some opening words and `);`.
+fn asserted<'a>(line: &'a str, opening: &str) -> Option<&'a str> {
+    line.strip_prefix(opening)?.strip_suffix(");")
+}
+
+/// `GONDAMUY_SIZE(job, 16);` and a `GONDAMUY_FIELD(job, n, 0);` for each field, as `layout!(Job, 16: n 0, ..);` says it.
+#[test]
+fn the_same_layout() {
+    let header = header();
+    let sizes = header.iter().filter_map(|line| asserted(line, "GONDAMUY_SIZE("));
+    let found: Vec<String> = sizes
+        .map(|size| {
+            let opening = format!("GONDAMUY_FIELD({}, ", size.split(',').next().unwrap());
+            let fields = header.iter().filter_map(|line| asserted(line, &opening));
+            format!("{size}: {}", fields.map(|field| field.replace(',', "")).collect::<Vec<String>>().join(", "))
+        })
+        .collect();
+    let wrapper = lines("src/raw/layout.rs");
+    let told = wrapper.iter().filter_map(|line| asserted(line, "layout!("));
+    let told: Vec<String> = told.map(|layout| layout.replace("FirstOrder", "first").to_lowercase()).collect();
+    assert_eq!(found, told);
+    assert_eq!(told.len(), 6);
 }

@@ -2,8 +2,8 @@
 
 mod common;
 
-use common::{any_job, choices, spoil_choice, spoil_start, spoil_table};
-use gondamuy::{plan, plan_records, raw, read, words, write};
+use common::{any_job, choices, spoil_choice, spoil_length, spoil_start, spoil_stops, spoil_table};
+use gondamuy::{first_order, plan, plan_records, raw, read, words, write};
 use gondamuy::{Counts, Job, Plan, Record, Refusal, Refused, LONGEST_FILE};
 use samples::Random;
 
@@ -84,6 +84,31 @@ fn the_same_plans() {
         seen[report.number as usize] += 1;
     }
     assert!([0, 1, 2, 3, 5, 6, 7].iter().all(|&number| seen[number] > 10), "{seen:?}");
+}
+
+#[test]
+fn the_same_first_orders() {
+    let mut random = Random(73);
+    let mut seen = [0; 4];
+    for _ in 0..4_000 {
+        let mut job = any_job(&mut random);
+        match random.below(6) {
+            0 => spoil_stops(&mut random, &mut job),
+            1 => spoil_length(&mut random, &mut job),
+            2 => spoil_table(&mut random, &mut job),
+            _ => {}
+        }
+        let plain = raw::first_order(job.n, &job.table);
+        match first_order(job.n, &job.table) {
+            Ok(first) => {
+                assert_eq!((plain.number, first.cost), (0, plain.cost));
+                assert_eq!(first.order(), &plain.order[..job.n as usize]);
+            }
+            Err(refusal) => assert_eq!(refusal.number(), plain.number),
+        }
+        seen[plain.number as usize] += 1;
+    }
+    assert!(seen.iter().all(|&k| k > 400), "{seen:?}");
 }
 
 #[test]

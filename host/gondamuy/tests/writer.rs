@@ -9,7 +9,8 @@
 
 mod common;
 
-use common::{any_job, choices, each_size, some_of, spoil_choice, spoil_start, spoil_table};
+use common::{any_job, choices, each_size, some_of};
+use common::{spoil_choice, spoil_length, spoil_start, spoil_stops, spoil_table};
 use gondamuy::raw::{read, write, Written};
 use jobtext::Job;
 use samples::Random;
@@ -75,11 +76,10 @@ fn every_mixture_of_causes() {
         }
         let mut length = file_length(&job);
         if causes.contains(&2) {
-            let legs = job.table.len();
-            job.table.resize(random.pick(&[0, 1, legs - 1, legs + 1, 2 * legs]), 0);
+            spoil_length(&mut random, &mut job);
         }
         if causes.contains(&1) {
-            job.n = random.pick(&[0, 17, 18, 256 + job.n, u32::MAX]);
+            spoil_stops(&mut random, &mut job);
         }
         if causes.contains(&10) {
             length = random.below(length as u64) as usize;

@@ -1,17 +1,22 @@
-//! Job files from plain text (see `jobtext`) and back. What is written and read goes through the proved writer and
-//! reader; this tool is not proved.
+//! Job files from plain text (see `jobtext`) and back, and a first order for a text. What is written, read and made goes
+//! through the proved writer and reader and the proved first order; this tool is not proved.
 //!
 //!     jobtool write < TEXT > FILE     the job file of a text
 //!     jobtool show < FILE             the text of a job file, or why it is refused
+//!     jobtool first < TEXT            what the first order of a text costs, and its stops
+//!     jobtool first start < TEXT      the text with that order as its starting order
 //!     jobtool refusal NUMBER          what a refusal's number says
+//!
+//! A starting order that stands in the text plays no part in `first`.
 
 use std::io::{self, Read, Write};
 use std::process::ExitCode;
 
-use gondamuy::{raw, read, Refusal, LONGEST_FILE};
-use jobtext::{parse, text, Job};
+use gondamuy::{first_order, raw, read, FirstOrder, Refusal, LONGEST_FILE};
+use jobtext::{parse, text, Job, Parsed};
 
-const USAGE: &str = "jobtool write < TEXT > FILE, jobtool show < FILE, or jobtool refusal NUMBER";
+const USAGE: &str =
+    "jobtool write < TEXT > FILE, jobtool show < FILE, jobtool first [start] < TEXT, or jobtool refusal NUMBER";
 
 fn main() -> ExitCode {
     let arguments: Vec<String> = std::env::args().skip(1).collect();
@@ -19,6 +24,8 @@ fn main() -> ExitCode {
     let answer = match words[..] {
         ["write"] => input().and_then(|text| file_of(&text)),
         ["show"] => input().and_then(|file| text_of(&file)),
+        ["first"] => input().and_then(|text| first_of(&text)),
+        ["first", "start"] => input().and_then(|text| started(&text)),
         ["refusal", word] => word.parse().map(in_words).map_err(|_| USAGE.to_string()),
         _ => Err(USAGE.to_string()),
     };
@@ -38,16 +45,43 @@ fn input() -> Result<Vec<u8>, String> {
     Ok(bytes)
 }
 
-fn file_of(bytes: &[u8]) -> Result<Vec<u8>, String> {
+fn parsed(bytes: &[u8]) -> Result<Parsed, String> {
     let text = std::str::from_utf8(bytes).map_err(|_| "the input is no text".to_string())?;
-    let parsed = parse(text).map_err(|fault| fault.to_string())?;
+    parse(text).map_err(|fault| fault.to_string())
+}
+
+/// A refusal of a text's job, with the line that it speaks of.
+fn at_line(parsed: &Parsed, refusal: Refusal) -> String {
+    format!("line {}: {refusal}", parsed.line_of(refusal.number()))
+}
+
+fn file_of(bytes: &[u8]) -> Result<Vec<u8>, String> {
+    let parsed = parsed(bytes)?;
     let Job { n, ref table, selection, rules, bound, ref start } = parsed.job;
     let mut file = vec![0; LONGEST_FILE];
     let written = raw::write(raw::Job { n, selection, rules, bound }, table, start, &mut file);
-    let at_line = |refusal: Refusal| format!("line {}: {refusal}", parsed.line_of(refusal.number()));
-    Refusal::check(written.number).map_err(at_line)?;
+    Refusal::check(written.number).map_err(|refusal| at_line(&parsed, refusal))?;
     file.truncate(written.length);
     Ok(file)
+}
+
+/// The job of a text, and its first order.
+fn with_first(bytes: &[u8]) -> Result<(Job, FirstOrder), String> {
+    let parsed = parsed(bytes)?;
+    let first = first_order(parsed.job.n, &parsed.job.table).map_err(|refusal| at_line(&parsed, refusal))?;
+    Ok((parsed.job, first))
+}
+
+/// Two lines, as `plan` prints cost and order.
+fn first_of(bytes: &[u8]) -> Result<Vec<u8>, String> {
+    let (_, first) = with_first(bytes)?;
+    let stops: String = first.order().iter().map(|stop| format!(" {stop}")).collect();
+    Ok(format!("cost {}\norder{stops}\n", first.cost).into_bytes())
+}
+
+fn started(bytes: &[u8]) -> Result<Vec<u8>, String> {
+    let (job, first) = with_first(bytes)?;
+    Ok(text(&Job { start: first.order().to_vec(), ..job }).into_bytes())
 }
 
 fn text_of(file: &[u8]) -> Result<Vec<u8>, String> {

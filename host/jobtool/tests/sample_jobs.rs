@@ -9,7 +9,7 @@ use gondamuy::raw::{self, plan, read, write};
 use gondamuy::{LONGEST_FILE, RECORD_WORDS};
 use jobtext::{parse, Job};
 
-const NAMES: [&str; 4] = ["case-a", "office", "office-full", "pilot"];
+const NAMES: [&str; 5] = ["case-a", "office", "office-full", "pilot", "pilot-first"];
 
 fn folder() -> PathBuf {
     Path::new(env!("CARGO_MANIFEST_DIR")).join("../../jobs/samples")
@@ -78,6 +78,7 @@ fn choices_of_each() {
     };
     assert_eq!(choices("case-a"), (3, 0, 1, 1, 0));
     assert_eq!(choices("pilot"), (16, 3, 1, 1, 16));
+    assert_eq!(choices("pilot-first"), (16, 3, 1, 1, 16));
     assert_eq!(choices("office"), (12, 0, 15, 1, 0));
     assert_eq!(choices("office-full"), (16, 0, 15, 1, 0));
     assert_eq!(string("office-full", "expected"), "refused 7\n");

@@ -1,7 +1,11 @@
-//! The tool run as a program: both ways, and what it says of faults.
+//! The tool run as a program: both ways, first orders, and what it says of faults.
 
+use std::fs;
 use std::io::Write;
+use std::path::Path;
 use std::process::{Command, Stdio};
+
+use jobtext::{parse, Job};
 
 /// What it writes, or what it complains of with a status of failure.
 fn run(arguments: &[&str], input: &[u8]) -> Result<Vec<u8>, String> {
@@ -56,10 +60,74 @@ fn refused_jobs() {
     assert!(write(none).unwrap_err().starts_with("line 1: refused 1:"));
 }
 
+/// What `first` prints, with or without a word behind it.
+fn first(more: &[&str], text: &str) -> Result<String, String> {
+    let output = run(&[&["first"], more].concat(), text.as_bytes())?;
+    Ok(String::from_utf8(output).unwrap())
+}
+
+#[test]
+fn first_order_of_a_text() {
+    assert_eq!(first(&[], TEXT).unwrap(), "cost 16\norder 1 2\n");
+    let started = first(&["start"], TEXT).unwrap();
+    assert_eq!(write(&started), write(&TEXT.replace("start 2 1", "start 1 2")));
+    // Neither the text's own starting order nor its choices are looked at.
+    for (old, new) in [("start 2 1", "start 2 2"), ("start 2 1", ""), ("LIFO", "4")] {
+        let other = TEXT.replace(old, new);
+        assert_eq!(first(&[], &other).unwrap(), "cost 16\norder 1 2\n");
+        assert!(first(&["start"], &other).unwrap().ends_with("\nstart 1 2\n"));
+    }
+}
+
+/// Refused by 1 and 3 at the line that they speak of. A text's table always fits its stops, so that 2 never comes.
+#[test]
+fn refused_first_orders() {
+    let rows = ("0 ".repeat(18) + "\n").repeat(18);
+    let many = format!("stops 17\ntable\n{rows}selection 0\nrules 0\nbound 0\n");
+    for more in [&[][..], &["start"]] {
+        let refused = |old, new| first(more, &TEXT.replace(old, new)).unwrap_err();
+        assert_eq!(refused("5 0 6", "5 0 1000001"), format!("line 4: {}\n", gondamuy::Refusal::Leg));
+        assert!(refused("7 8 0", "7 8 1").starts_with("line 5: refused 3:"));
+        assert_eq!(first(more, &many).unwrap_err(), format!("line 1: {}\n", gondamuy::Refusal::Stops));
+        assert_eq!(refused("5 0 6", "5 0"), "line 4: a row of 2 legs, and 2 stops have 3\n");
+    }
+}
+
+/// The text of a sample job.
+fn sample(name: &str) -> String {
+    let folder = Path::new(env!("CARGO_MANIFEST_DIR")).join("../../jobs/samples");
+    fs::read_to_string(folder.join(format!("{name}.txt"))).unwrap()
+}
+
+/// As the second planner has them.
+#[test]
+fn first_orders_of_the_samples() {
+    for name in ["case-a", "office", "office-full", "pilot", "pilot-first"] {
+        let job = parse(&sample(name)).unwrap().job;
+        let told = witness::first_order(job.n.into(), &job.table);
+        let stops = &told.order[..job.n as usize];
+        let line: String = stops.iter().map(|stop| format!(" {stop}")).collect();
+        assert_eq!(first(&[], &sample(name)).unwrap(), format!("cost {}\norder{line}\n", told.cost), "{name}");
+        let started = first(&["start"], &sample(name)).unwrap();
+        let start = stops.iter().map(|&stop| stop as u8).collect();
+        assert_eq!(parse(&started).unwrap().job, Job { start, ..job }, "{name}");
+    }
+}
+
+/// The sample that starts from the unit's order is what the tool makes of the pilot's, behind a comment.
+#[test]
+fn the_pilot_from_the_first_order() {
+    let sample_text = sample("pilot-first");
+    let (comment, text) = sample_text.split_once('\n').unwrap();
+    assert!(comment.starts_with('#'));
+    assert_eq!(first(&["start"], &sample("pilot")).unwrap(), text);
+}
+
 #[test]
 fn faulty_texts() {
     assert_eq!(write(&TEXT.replace("5 0 6", "5 0 x")).unwrap_err(), "line 4: `x` is no number of a leg\n");
     assert_eq!(run(&["write"], &[0xff]).unwrap_err(), "the input is no text\n");
+    assert_eq!(run(&["first"], &[0xff]).unwrap_err(), "the input is no text\n");
 }
 
 #[test]
@@ -74,7 +142,7 @@ fn refused_files() {
 fn numbers_in_words() {
     assert_eq!(run(&["refusal", "7"], b"").unwrap(), b"7: the pool is full\n");
     assert_eq!(run(&["refusal", "11"], b"").unwrap(), b"11: no such number\n");
-    for arguments in [&["refusal", "x"][..], &["refusal"], &["read"], &[]] {
+    for arguments in [&["refusal", "x"][..], &["refusal"], &["first", "order"], &["read"], &[]] {
         assert!(run(arguments, b"").unwrap_err().starts_with("jobtool write"));
     }
 }

@@ -43,6 +43,12 @@ impl Random {
         self.table(n, low, high)
     }
 
+    /// Legs of 2, but about one in eight free and one in eight 3: the nearest stops run out of free legs, and many
+    /// exchanges of two stops gain the same.
+    pub fn few_free(&mut self, n: usize) -> Vec<u32> {
+        table(n, || self.pick(&[0, 2, 2, 2, 2, 2, 2, 3]))
+    }
+
     /// The stops 1 to n, shuffled.
     pub fn order<S: From<u8>>(&mut self, n: usize) -> Vec<S> {
         let mut order: Vec<S> = (1..=n as u8).map(S::from).collect();

@@ -17,13 +17,6 @@ fn over(n: usize, table: &[u32]) -> Job {
     Job::new(n, table, [0, 0, 0], &[])
 }
 
-/// Legs of 2, but about one in eight free and one in eight 3: the nearest stops
-/// run out of free legs, and many exchanges gain the same.
-fn few_free(random: &mut Random, n: usize) -> Vec<u32> {
-    let legs = [0, 2, 2, 2, 2, 2, 2, 3];
-    random.table(n, 0, 7).into_iter().map(|k| legs[k as usize]).collect()
-}
-
 /// What ranks an exchange, from the cost it leads to and its two positions.
 type Key = fn(usize, usize, usize) -> [usize; 3];
 
@@ -86,7 +79,7 @@ fn few_free_legs() {
     let mut random = Random(52);
     for n in 1..=16 {
         for _ in 0..300 {
-            check_first_order(&over(n, &few_free(&mut random, n)));
+            check_first_order(&over(n, &random.few_free(n)));
         }
     }
 }
@@ -103,7 +96,7 @@ fn other_readings_differ_somewhere() {
         ("first gain", |cost, p, q| [p, q, cost]),
     ];
     let mut random = Random(53);
-    let jobs: Vec<Job> = (0..3_000).map(|k| k % 13 + 4).map(|n| over(n, &few_free(&mut random, n))).collect();
+    let jobs: Vec<Job> = (0..3_000).map(|k| k % 13 + 4).map(|n| over(n, &random.few_free(n))).collect();
     for (name, key) in others {
         let differs = |job: &&Job| by_keys(job, key) != first_order(job.n as u64, &job.table).order[..job.n];
         let differ = jobs.iter().filter(differs).count();

@@ -1,6 +1,6 @@
 //! The functions of the static library as C sees them: a slice is a pointer and a length.
 
-use super::{Job, Reading, Report, Written};
+use super::{FirstOrder, Job, Reading, Report, Written};
 
 extern "C" {
     pub fn gondamuy_plan(
@@ -12,6 +12,8 @@ extern "C" {
         pool: *mut u32,
         pool_len: usize,
     ) -> Report;
+
+    pub fn gondamuy_first_order(n: u32, table: *const u32, table_len: usize) -> FirstOrder;
 
     pub fn gondamuy_read(file: *const u8, file_len: usize) -> Reading;
 

@@ -2,7 +2,7 @@
 
 use std::mem::{align_of, offset_of, size_of};
 
-use super::{Job, Reading, Record, Report, Written};
+use super::{FirstOrder, Job, Reading, Record, Report, Written};
 use crate::sizes::RECORD_WORDS;
 
 macro_rules! layout {
@@ -14,6 +14,7 @@ macro_rules! layout {
 
 layout!(Job, 16: n 0, selection 4, rules 8, bound 12);
 layout!(Report, 64: number 0, cost 4, order 8, branched 24, generated 32, eliminated 40, active 48, most 56);
+layout!(FirstOrder, 24: number 0, cost 4, order 8);
 layout!(Reading, 1196: number 0, job 4, table 20, start 1176, stops 1192);
 layout!(Written, 16: number 0, length 8);
 layout!(Record, 24: size 0, set 4, path 8, bound 12, first 16, second 20);

@@ -10,12 +10,23 @@ pub fn choices(job: &Job) -> raw::Job {
     raw::Job { n: job.n, selection: job.selection, rules: job.rules, bound: job.bound }
 }
 
-/// A job of n stops that every check lets pass, with or without a starting order.
+/// The first order of n stops, as `plan` takes a starting order.
+pub fn first_stops(n: usize, table: &[u32]) -> Vec<u8> {
+    raw::first_order(n as u32, table).order[..n].to_vec()
+}
+
+/// A job of n stops that every check lets pass: in half of the cases without a starting order, else from any or from
+/// the first order.
 pub fn random_job(random: &mut Random, n: usize, most: u32) -> Job {
-    let start = if random.below(2) == 0 { Vec::new() } else { random.order(n) };
+    let table = random.table(n, 0, most);
+    let start = match random.below(4) {
+        0 => random.order(n),
+        1 => first_stops(n, &table),
+        _ => Vec::new(),
+    };
     Job {
         n: n as u32,
-        table: random.table(n, 0, most),
+        table,
         selection: random.below(4) as u32,
         rules: random.below(16) as u32,
         bound: random.below(2) as u32,
@@ -44,6 +55,17 @@ pub fn each_size(random: &mut Random, mut check: impl FnMut(&mut Random, &Job)) 
 pub fn some_of(numbers: &[u32], round: u64) -> Vec<u32> {
     let named = numbers.iter().enumerate().filter(|(bit, _)| round >> bit & 1 == 1);
     named.map(|(_, &number)| number).collect()
+}
+
+/// Number 1: no stop, or more than sixteen.
+pub fn spoil_stops(random: &mut Random, job: &mut Job) {
+    job.n = random.pick(&[0, 17, 18, 256 + job.n, u32::MAX]);
+}
+
+/// Number 2: a table too short or too long.
+pub fn spoil_length(random: &mut Random, job: &mut Job) {
+    let legs = job.table.len();
+    job.table.resize(random.pick(&[0, 1, legs - 1, legs + 1, 2 * legs]), 0);
 }
 
 /// Number 3: a leg too dear, or a diagonal entry that is not 0.

@@ -1,0 +1,128 @@
+//! The first order (request A.1): every field against the second planner's, the worked calls of host/vectors, and what
+//! `plan` makes of it as a starting order:
+//!
+//! - 60,000 tables of 1 to 6 stops and 20,000 of 7 to 16, most of them with so few values that ties are common;
+//! - 128,000 calls with causes 1 to 3, each in half of them and in every mixture, where the number is known beforehand;
+//! - 200 worked calls;
+//! - 20,000 plans of 1 to 6 stops under all choices and 100 of 7 to 16 in the pilot's way, each with and without it.
+
+mod common;
+
+use std::ops::RangeInclusive;
+
+use common::{any_job, some_of, spoil_length, spoil_stops, spoil_table};
+use gondamuy::raw::{first_order, plan, FirstOrder, Job, Report};
+use gondamuy::RECORD_WORDS;
+use samples::{nearest, Random};
+
+/// Holds both to each other. Returns what the proved one answers.
+fn compare(n: u32, table: &[u32]) -> FirstOrder {
+    let ours = first_order(n, table);
+    let theirs = witness::first_order(n.into(), table);
+    assert_eq!((ours.number, ours.cost), (theirs.number, theirs.cost), "{n} {table:?}");
+    assert_eq!(ours.order.map(u32::from), theirs.order, "{n} {table:?}");
+    ours
+}
+
+/// Legs of few values, but for the last two kinds.
+fn any_table(random: &mut Random, n: usize) -> Vec<u32> {
+    match random.below(9) {
+        0..=2 => random.few_free(n),
+        kind => random.table(n, 0, [0, 1, 2, 3, 1_000, 1_000_000][kind as usize - 3]),
+    }
+}
+
+/// Compares over so many tables of some sizes, and counts those where stops of the nearest-stop order were exchanged.
+fn exchanged(random: &mut Random, tables: usize, sizes: RangeInclusive<usize>) -> usize {
+    let mut count = 0;
+    for n in sizes.cycle().take(tables) {
+        let table = any_table(random, n);
+        let first = compare(n as u32, &table);
+        assert_eq!(first.number, 0);
+        count += (first.order[..n] != nearest(n, &table)) as usize;
+    }
+    count
+}
+
+#[test]
+fn small_tables() {
+    let count = exchanged(&mut Random(81), 60_000, 1..=6);
+    assert!(count > 15_000, "{count}");
+}
+
+#[test]
+fn up_to_sixteen_stops() {
+    let count = exchanged(&mut Random(82), 20_000, 7..=16);
+    assert!(count > 10_000, "{count}");
+}
+
+#[test]
+fn every_mixture_of_causes() {
+    let mut random = Random(83);
+    for round in 0..128_000 {
+        let mut job = any_job(&mut random);
+        let causes = some_of(&[1, 2, 3], round);
+        if causes.contains(&3) {
+            spoil_table(&mut random, &mut job);
+        }
+        if causes.contains(&2) {
+            spoil_length(&mut random, &mut job);
+        }
+        if causes.contains(&1) {
+            spoil_stops(&mut random, &mut job);
+        }
+        let first = compare(job.n, &job.table);
+        assert_eq!(first.number, causes.first().copied().unwrap_or(0), "{causes:?} {job:?}");
+        if first.number != 0 {
+            assert_eq!(first, FirstOrder { number: first.number, ..FirstOrder::default() });
+        }
+    }
+}
+
+#[test]
+fn worked_calls() {
+    for call in vectors::first() {
+        let told = FirstOrder { number: call.number, cost: call.cost, order: call.order };
+        assert_eq!(first_order(call.n, &call.table), told, "{call:?}");
+    }
+}
+
+/// Plans with and without it, in a pool that is large enough without: the same cost, no more than the order's own, and
+/// no more work.
+fn started(job: Job, table: &[u32], records: usize) -> (Report, Report) {
+    let first = first_order(job.n, table);
+    let mut pool = vec![0; records * RECORD_WORDS];
+    let without = plan(job, table, &[], &mut pool);
+    let with = plan(job, table, &first.order[..job.n as usize], &mut pool);
+    assert_eq!((with.number, without.number), (0, 0), "{job:?} {table:?}");
+    assert_eq!(with.cost, without.cost, "{job:?} {table:?}");
+    assert!(with.cost <= first.cost, "{job:?} {table:?}");
+    assert!(with.branched <= without.branched && with.generated <= without.generated, "{job:?} {table:?}");
+    assert!(with.most <= without.most, "{job:?} {table:?}");
+    (with, without)
+}
+
+#[test]
+fn as_a_starting_order() {
+    let mut random = Random(84);
+    for _ in 0..20_000 {
+        let choices = [1 + random.below(6), random.below(4), random.below(16), random.below(2)];
+        let [n, selection, rules, bound] = choices.map(|k| k as u32);
+        started(Job { n, selection, rules, bound }, &any_table(&mut random, n as usize), 2_000);
+    }
+}
+
+#[test]
+fn as_a_pilots_starting_order() {
+    let mut random = Random(85);
+    let mut fewer = 0;
+    for n in 7..=16 {
+        for _ in 0..10 {
+            let job = Job { n, selection: 3, rules: 1, bound: 1 };
+            let (with, without) = started(job, &random.table(n as usize, 1, 1_000), 150);
+            assert!(with.most < 100, "{}", with.most);
+            fewer += (with.branched < without.branched) as u32;
+        }
+    }
+    assert!(fewer > 50, "{fewer}");
+}

@@ -1,0 +1,47 @@
+//! The files are parsed as a whole, and nothing else passes for a line.
+
+use vectors::{first, First};
+
+const LINE: &str = "n 1 table 0 25 21 0 => 0 cost 46 order 1 0 0 0 0 0 0 0 0 0 0 0 0 0 0 0";
+
+#[test]
+fn a_line_of_first() {
+    let mut order = [0; 16];
+    order[0] = 1;
+    let told = First { n: 1, table: vec![0, 25, 21, 0], number: 0, cost: 46, order };
+    assert_eq!(First::parse(LINE), Ok(told.clone()));
+    assert_eq!(first()[0], told);
+}
+
+/// Answers of every number, and every n from 0 to 17.
+#[test]
+fn the_calls_of_first() {
+    let calls = first();
+    for number in 0..=3 {
+        assert!(calls.iter().any(|call| call.number == number), "{number}");
+    }
+    for n in 0..=17 {
+        assert!(calls.iter().any(|call| call.n == n), "{n}");
+    }
+    let sized = |call: &&First| call.table.len() as u32 == (call.n + 1) * (call.n + 1);
+    assert!(calls.iter().any(|call| call.number == 2 && !sized(&call)));
+    assert!(calls.iter().filter(|call| call.number == 0).all(|call| sized(&call)));
+}
+
+#[test]
+fn faulty_lines() {
+    let fault = |old, new| First::parse(&LINE.replacen(old, new, 1)).unwrap_err();
+    assert_eq!(fault("n 1", "m 1"), "`m` in the place of `n`");
+    assert_eq!(fault("n 1", "n  1"), "`` in the place of a number");
+    assert_eq!(fault("n 1", "n +1"), "`+1` in the place of a number");
+    assert_eq!(fault("25", "025"), "`025` in the place of a number");
+    assert_eq!(fault("25", "4294967296"), "`4294967296` in the place of a number");
+    assert_eq!(fault("25", "x"), "`x` in the place of `=>`");
+    assert_eq!(fault("cost 46", "46"), "`46` in the place of `cost`");
+    assert_eq!(fault("order 1", "order 256"), "`256` in the place of a number");
+    assert_eq!(fault("order 1", "order"), "an order of 15 places");
+    assert_eq!(fault("order 1", "order 1 1"), "an order of 17 places");
+    assert_eq!(First::parse(&format!("{LINE} ")).unwrap_err(), "`` behind the end");
+    assert_eq!(First::parse("").unwrap_err(), "`` in the place of `n`");
+    assert_eq!(First::parse("n").unwrap_err(), "`` in the place of a number");
+}
