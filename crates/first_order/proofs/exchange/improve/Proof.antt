@@ -36,7 +36,7 @@ loop-again c =
     let best = next .best-exchange2 in
     let is = made .exchange-stops .ensures in
     improving-again (turn .before .before .loop .inv) (best .last .1 .0) (best .result) (best .ensures .0 ∙ is) (rw is at (best .ensures .1))
-    (turn .if1 .taken)
+    (omega (arith, turn .if1 .taken))
 
 same-length : tie.Need-same-length Inv-loop μ-loop
 same-length c = let l = c .before .before in l .loop .inv .long ∙ ap length (searched l .best-exchange .ensures .0)
@@ -44,7 +44,7 @@ same-length c = let l = c .before .before in l .loop .inv .long ∙ ap length (s
 returns : tie.Need-returns Inv-loop μ-loop
 returns c =
     let l = c .before .before in
-    (rw (searched l .best-exchange .ensures .0) at (improving-ends (l .loop .inv) (c .if1 .left)), l .loop .inv .costs)
+    (rw (searched l .best-exchange .ensures .0) at (improving-ends (l .loop .inv) (omega (arith, c .if1 .left))), l .loop .inv .costs)
 
 pub improve-spec : {M : Type 1} → statement M
 improve-spec =
