@@ -5,8 +5,8 @@ use mathlib.Core.List.{List, [], _∷_}
 use mathlib.Core.Logic.{_≢_}
 use Prim.Native.Nat.{ℕ, zero, suc, _≤_, _<_}
 use native.Mathlib.Omega.{arith}
-use lib.ListN.{take, replicate}
-use Rattle.sizes.specs.Sizes.{orderPlaces}
+use lib.ListN.{length, take, replicate, length-append, length-replicate}
+use Rattle.sizes.specs.Sizes.{mostStops, orderPlaces}
 use Rattle.lists.specs.Lists.{padded}
 use Rattle.lists.proofs.Tests.{to-true}
 use Rattle.lists.proofs.Padded.{take-padded}
@@ -17,6 +17,7 @@ use Rattle.stops.specs.Legs.{cost}
 use Rattle.stops.specs.Stops.{day, dayOn}
 use Rattle.answer.specs.Answer.{dayOf}
 use Rattle.answer.specs.Demands.{written}
+use Rattle.answer.proofs.Passes.{table-passed}
 use Rattle.answer.proofs.Demand3.{cheapest-of-all}
 use Rattle.answer.specs.Checks.{cause₁, cause₂, cause₃, cause₅, isEmpty, orLater, tableCause, jobCause}
 use Rattle.first_answer.specs.Exchanges.{exchanged, improved}
@@ -135,6 +136,18 @@ refused-by-123 n table r e = go (tableCause n table 0) (table-small n table) e
     go (suc k) h e =
         let number : r .number ≡ suc k = ap (λ (a : FirstOrder). a .number) e in
         (number, omega arith, λ some. e ∙ rw number)
+
+-- an answer has as many places as there may be stops
+pub promised-places : (n : ℕ) (table : List ℕ) (r : FirstOrder) → Promised n table r → length (r .order) ≡ orderPlaces
+unfolding firstAnswer respond padded
+promised-places n table r e = go (tableCause n table 0) refl e
+  where
+    go : (k : ℕ) → tableCause n table 0 ≡ k → r ≡ respond n table k → length (r .order) ≡ orderPlaces
+    go zero none e =
+        let few : n ≤ mostStops = table-passed n table 0 none .0 .few in
+        rw e
+        (simp (length-append, length-replicate) (omega (arith, order-length n (firstOf n table) (firstOf-order n table))))
+    go (suc k) some e = rw e refl
 
 pub passes-as-start : PassesAsStart
 unfolding cause₅ jobCause

@@ -4,6 +4,7 @@ ghost use Rattle.sizes.specs.Sizes.{mostStops};
 use crate::enumerate::cost_of;
 use crate::enumerate::is_order;
 use answer::Report;
+use first_answer::FirstOrder;
 use sizes::ORDER_PLACES;
 
 pub enum Verdict {
@@ -47,6 +48,21 @@ fn priced(table: &[u32], n: usize, cost: u64, x: &[u8; ORDER_PLACES]) -> bool
         return false;
     }
     cost_of(table, x, n) == cost
+}
+
+// A first order is right if it is an order, its cost is the one given, and that is not below the least.
+pub fn first_right(table: &[u32], n: usize, least: u64, r: FirstOrder) -> bool
+    requires { ⌜ n ≤ mostStops ⌝ }
+{
+    if r.number != 0 {
+        return false;
+    }
+    let cost = r.cost as u64;
+    if cost < least {
+        return false;
+    }
+    let order = r.order;
+    priced(table, n, cost, &order)
 }
 
 // A finished report is right if its cost is the least and that of its order; a full one if it has no cost and no order.

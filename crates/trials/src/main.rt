@@ -1,5 +1,5 @@
-// Random tables under every choice, with and without a starting order, each report held against full enumeration. The tables, and so
-// what is printed, are the same in every run.
+// Random tables under every choice, without a starting order, with one, and with the unit's first order, each report held against full
+// enumeration. The tables, and so what is printed, are the same in every run.
 ghost use Prim.Native.Nat.{_≤_};
 ghost use Rattle.sizes.specs.Sizes.{mostStops};
 
@@ -9,6 +9,7 @@ mod tables;
 
 use crate::enumerate::least;
 use crate::judge::Verdict;
+use crate::judge::first_right;
 use crate::judge::judged;
 use crate::tables::TABLES;
 use crate::tables::next;
@@ -18,6 +19,7 @@ use crate::tables::stops_in;
 use crate::tables::table_of;
 use answer::Job;
 use answer::Report;
+use first_order::first_order;
 use libc::STDOUT_FILENO;
 use planner::plan;
 use sizes::RECORD_WORDS;
@@ -129,17 +131,33 @@ fn both(table: &[u32], n: usize, start: &[u8], pool: &mut [u32], t: Tally) -> Ta
     jobs(table, n, cost, start, pool, without)
 }
 
-// The jobs over table k.
-fn trial(k: u64, pool: &mut [u32], t: Tally) -> Tally {
+// The jobs over one table from the unit's first order, if that is right.
+fn from_first(table: &[u32], n: usize, pool: &mut [u32], t: Tally) -> Tally
+    requires { ⌜ (1 ≤ n) × (n ≤ 6) ⌝ }
+{
+    let cost = least(table, n);
+    let first = first_order(n as u32, table);
+    if !first_right(table, n, cost, first) {
+        return counted(t, Verdict::Differs, t.sum);
+    }
+    let start = first.order;
+    jobs(table, n, cost, &start[..n], pool, t)
+}
+
+// The jobs over table k: from the unit's first order, or without a starting order and from another.
+fn trial(k: u64, first: bool, pool: &mut [u32], t: Tally) -> Tally {
     let n = stops_in(k);
     let size = size_of(n);
     let table = table_of(k, n);
+    if first {
+        return from_first(&table[..size], n, pool, t);
+    }
     let start = order_of(n, next(k));
     both(&table[..size], n, &start[..n], pool, t)
 }
 
 // The jobs over all tables.
-fn all_tables(pool: &mut [u32]) -> Tally {
+fn all_tables(first: bool, pool: &mut [u32]) -> Tally {
     let mut t = Tally {
         best: 0,
         full: 0,
@@ -148,7 +166,7 @@ fn all_tables(pool: &mut [u32]) -> Tally {
     };
     let mut k = 0u64;
     while k < TABLES {
-        t = trial(k, pool, t);
+        t = trial(k, first, pool, t);
         k += 1;
     }
     t
@@ -160,15 +178,23 @@ fn line(n: u64, words: &[u8]) {
     io::write_all(STDOUT_FILENO, words);
 }
 
-fn main() {
-    let mut pool = [0u32; POOL];
-    let t = all_tables(&mut pool);
+// What a tally says, behind what it counts.
+fn tell(t: Tally, jobs: &[u8]) {
     line(
         wrapping_add_u64(wrapping_add_u64(t.best, t.full), t.differed),
-        b" jobs planned\n",
+        jobs,
     );
     line(t.best, b" finished, at the least cost over all orders\n");
     line(t.full, b" filled the pool\n");
     line(t.differed, b" differed\n");
     line(t.sum, b" is the checksum over all costs and counts\n");
+}
+
+fn main() {
+    let mut pool = [0u32; POOL];
+    tell(all_tables(false, &mut pool), b" jobs planned\n");
+    tell(
+        all_tables(true, &mut pool),
+        b" jobs planned from the unit's first order\n",
+    );
 }

@@ -7,10 +7,10 @@ use Rattle.trials.proofs.all_tables.Statement.{statement}
 use Rattle.trials.proofs.all_tables.Tie as tie
 
 abbrev Inv-loop : tie.InvT-loop
-Inv-loop pool₀ t₀ k₀ pool t k = length pool ≡ length pool₀
+Inv-loop first pool₀ t₀ k₀ pool t k = length pool ≡ length pool₀
 
 abbrev μ-loop : tie.MeasureT-loop
-μ-loop pool₀ t₀ k₀ pool t k = 1530 - k
+μ-loop first pool₀ t₀ k₀ pool t k = 1530 - k
 
 pub all-tables-spec : {M : Type 1} → statement M
 all-tables-spec =

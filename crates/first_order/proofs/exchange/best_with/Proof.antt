@@ -1,6 +1,6 @@
 -- `best_with` meets its contract. The loop's invariant: the order is as at entry, and the best of the exchange found and of those of place p
 -- with the places from q on is the best of all. The measure is how many places these are.
-use mathlib.Core.Path.{_≡_, refl, ap}
+use mathlib.Core.Path.{_≡_, refl, ap, _∙_}
 use Prim.Native.Nat.{_-_, _<_}
 use native.Mathlib.Omega.{arith}
 use lib.ListN.{length}
@@ -36,8 +36,10 @@ loop-again : tie.Need-loop-again Inv-loop μ-loop
 loop-again c =
     let own = tried c .exchange-cost in
     let l = tried c .before .before in
-    let now = l .before .loop in
-    (cc, behind-tried (entry l .args .p) (now .q) (own .result) (now .inv .1) (entry l .pre .1 .0) (inside l) (cc) (c .better .ensures))
+    let now = l .before .loop in (
+      own .ensures .1 ∙ now .inv .0,
+      behind-tried (entry l .args .p) (now .q) (own .result) (now .inv .1) (entry l .pre .1 .0) (inside l) (cc) (c .better .ensures),
+    )
 
 returns : tie.Need-returns Inv-loop μ-loop
 returns c =

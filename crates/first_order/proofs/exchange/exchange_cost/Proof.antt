@@ -1,4 +1,5 @@
 -- `exchange_cost` meets its contract: the order whose cost it takes is the exchanged one, and made again the exchange is undone.
+use mathlib.Core.Path.{_∙_}
 use borrow.Author.Needs.{needs}
 use Rattle.first_answer.proofs.Exchanged.{exchanged-twice}
 use Rattle.first_order.proofs.ExchangeLaws.{exchanged-flyable}
@@ -22,7 +23,10 @@ returns c =
     let changed = spent .before .before .before .before in
     let a = entry changed .args in
     let pre = entry changed .pre in
-    (cc, cc (exchanged-twice (a .x .now) (a .p) (a .q) (pre .1 .0) (pre .1 .1)))
+    let is = changed .exchange-stops .ensures in (
+      rw is at (spent .order-cost .ensures),
+      c .before .before .exchange-stops2 .ensures ∙ rw is (exchanged-twice (a .x .now) (a .p) (a .q) (pre .1 .0) (pre .1 .1)),
+    )
 
 pub exchange-cost-spec : {M : Type 1} → statement M
 exchange-cost-spec =
