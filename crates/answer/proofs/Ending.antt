@@ -2,8 +2,10 @@
 --   Finished, Filled    the outcome is a finished run; it is a full pool
 --   Came, call-came     a check refuses the call, or one of these. No run is left `unfinished`: its fuel is never used up (`outcome-ends`)
 --   number-0, number-7  the number of a report says which
+--   tableCause-small, cause-small    a cause of a table is one of three, and of a call one of six
 use mathlib.Core.Path.{_≡_, refl, ap, sym, _∙_}
 use mathlib.Core.Bool.{Bool, true, false}
+use mathlib.Core.List.{List}
 use Prim.Native.Nat.{ℕ, zero, suc, _≤_}
 use native.Mathlib.Omega.{arith}
 use Rattle.search.specs.Problem.{State}
@@ -44,10 +46,16 @@ call-came c = go (cause c) refl
     go zero e = ran e (outcome c) refl
     go (suc k) e = checked k e (ap (respond c) e ∙ ap (λ (m : ℕ). record { report = refusal m; pool = c .pool }) (sym e))
 
--- a cause is one of six
+-- a cause of a table is one of three, and of a call one of six
 or-later : (b : Bool) (number later m : ℕ) → number ≤ m → later ≤ m → orLater b number later ≤ m
 or-later true number later m h k = h
 or-later false number later m h k = k
+
+pub tableCause-small : (n : ℕ) (table : List ℕ) → tableCause n table 0 ≤ 3
+unfolding tableCause
+tableCause-small n table =
+    or-later (cause₁ n) 1 _ 3 (omega arith)
+    (or-later (cause₂ n table) 2 _ 3 (omega arith) (or-later (cause₃ n table) 3 0 3 (omega arith) (omega arith)))
 
 pub cause-small : (c : Call) → cause c ≤ 6
 unfolding cause tableCause jobCause

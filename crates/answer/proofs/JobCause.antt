@@ -1,6 +1,6 @@
 -- Causes 1 to 5 and the cause of a call.
---   First, table-first, job-first    a cause from 1 to 3, or to 5, stands whatever comes later; where there is none, what comes later is the
---                                    answer
+--   First, table-causes, job-first    a cause from 1 to 3, or to 5, stands whatever comes later; where there is none, what comes later is the
+--                                     answer
 --   job-refuses         a call with one of causes 1 to 5 has that cause, whatever its pool
 --   job-passes          a call with none has cause 6 or no cause
 use mathlib.Core.Path.{_≡_, refl, sym, _∙_}
@@ -18,16 +18,16 @@ pub record First (f : ℕ → ℕ) : Type 0 where
   pub own : f 0 ≢ 0 → (later : ℕ) → f 0 ≡ f later
   pub none : f 0 ≡ 0 → (later : ℕ) → f later ≡ later
 
-pub first-later : First (λ later. later)
+first-later : First (λ later. later)
 first-later = record { own = λ h later. absurd (h refl); none = λ e later. refl }
 
-pub first-or : (b : Bool) (number : ℕ) {f : ℕ → ℕ} → First f → First (λ later. orLater b (suc number) (f later))
+first-or : (b : Bool) (number : ℕ) {f : ℕ → ℕ} → First f → First (λ later. orLater b (suc number) (f later))
 first-or true number h = record { own = λ k later. refl; none = λ e later. absurd (omega arith) }
 first-or false number h = record { own = h .own; none = h .none }
 
-pub table-first : (n : ℕ) (table : List ℕ) → First (tableCause n table)
+pub table-causes : (n : ℕ) (table : List ℕ) → First (tableCause n table)
 unfolding tableCause
-table-first n table = first-or (cause₁ n) 0 (first-or (cause₂ n table) 1 (first-or (cause₃ n table) 2 first-later))
+table-causes n table = first-or (cause₁ n) 0 (first-or (cause₂ n table) 1 (first-or (cause₃ n table) 2 first-later))
 
 pub job-first : (job : Job) (table start : List ℕ) → First (jobCause job table start)
 unfolding tableCause jobCause

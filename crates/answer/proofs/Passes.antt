@@ -27,10 +27,7 @@ pub record TablePasses (n : ℕ) (table : List ℕ) : Type 0 where
   pub cheap : (w : ℕ) → In w table → w ≤ dearest
 
 pub record JobPasses (job : Job) (table order : List ℕ) : Type 0 where
-  pub some : 1 ≤ job .n
-  pub few : job .n ≤ mostStops
-  pub square : length table ≡ suc (job .n) * suc (job .n)
-  pub cheap : (w : ℕ) → In w table → w ≤ dearest
+  pub legs : TablePasses (job .n) table
   pub selection : job .selection ≤ 3
   pub rules : job .rules ≤ 15
   pub bound : job .bound ≤ 1
@@ -119,10 +116,7 @@ job-passed job table order later e =
     let (h₄, e₄) = none-first (cause₄ job) 3 after₄ e₃ in
     let (h₅, e₅) = none-first (cause₅ (job .n) order) 4 later e₄ in
     let passed : JobPasses job table order = record {
-      some = p .some;
-      few = p .few;
-      square = p .square;
-      cheap = p .cheap;
+      legs = p;
       selection = choices-pass job h₄ .0;
       rules = choices-pass job h₄ .1;
       bound = choices-pass job h₄ .2;
@@ -136,10 +130,10 @@ passes c e =
     let (p, e₅) = job-passed (c .job) (c .table) (c .start) (orLater (cause₆ (c .pool)) 6 0) e in
     let (h₆, e₆) = none-first (cause₆ (c .pool)) 5 0 e₅ in
     record {
-      some = p .some;
-      few = p .few;
-      square = p .square;
-      cheap = p .cheap;
+      some = p .legs .some;
+      few = p .legs .few;
+      square = p .legs .square;
+      cheap = p .legs .cheap;
       selection = p .selection;
       rules = p .rules;
       bound = p .bound;

@@ -1,6 +1,6 @@
 -- Causes 1 to 5, test by test: what each test of the code decides of its cause, and what the causes make up.
 --   table-first, table-second, table-third, table-right    the answer of `table_cause`, by causes 1 to 3
---   table-refuses, table-passes, passed-few                what it says of a job with this table
+--   table-refuses, table-passes                            what it says of a job with this table
 use mathlib.Core.Path.{_≡_, refl, sym, _∙_}
 use mathlib.Core.Bool.{Bool, true, false, not, or-true}
 use mathlib.Core.List.{List, [], _∷_}
@@ -17,7 +17,7 @@ use Rattle.orders.specs.Orders.{isOrder}
 use Rattle.stops.specs.Tables.{entry}
 use Rattle.answer.specs.declared.Job.{Job}
 use Rattle.answer.specs.Checks.{cause₁, cause₂, cause₃, cause₄, cause₅, isEmpty, orLater, tableCause, jobCause}
-use Rattle.answer.proofs.JobCause as answer
+use Rattle.answer.proofs.JobCause.{table-causes}
 
 -- ---- causes 1 to 3
 
@@ -120,15 +120,8 @@ later job start = orLater (cause₄ job) 4 (orLater (cause₅ (job .n) start) 5 
 module _ (job : Job) (table start : List ℕ) (k : ℕ) (e : k ≡ tableCause (job .n) table 0) where
   pub table-refuses : k ≢ 0 → k ≡ jobCause job table start 0
   unfolding jobCause
-  table-refuses h = e ∙ answer.table-first (job .n) table .own (λ z. h (e ∙ z)) (later job start)
+  table-refuses h = e ∙ table-causes (job .n) table .own (λ z. h (e ∙ z)) (later job start)
 
   pub table-passes : k ≡ 0 → jobCause job table start 0 ≡ later job start
   unfolding jobCause
-  table-passes z = answer.table-first (job .n) table .none (sym e ∙ z) (later job start)
-
-pub passed-few : (n : ℕ) (table : List ℕ) (k : ℕ) → k ≡ tableCause n table 0 → k ≡ 0 → n ≤ mostStops
-passed-few n table k e z = few-stops n (go (cause₁ n) refl)
-  where
-    go : (b : Bool) → cause₁ n ≡ b → b ≡ false
-    go true f = absurd (omega (arith, table-first n table f))
-    go false f = refl
+  table-passes z = table-causes (job .n) table .none (sym e ∙ z) (later job start)

@@ -2,7 +2,7 @@
 --   kid-places              the last stop of a record and those that it leaves are places of the table
 --   kid-wide, kid-small     its words have room for one of those stops, and 32 bits hold the child's bound
 --   kid-made                the record extended, with what the bound adds, is the child
---   all-small, root-made    the set of all stops fits, and e with the bound of that set is the root's record
+--   root-made               e with the bound of the set of all stops is the root's record
 use mathlib.Core.Path.{_≡_, ap, ap₂, sym, subst, _∙_}
 use mathlib.Core.Bool.{Bool, true, false, cond}
 use Prim.Native.Nat.{ℕ, _+_, _-_, _*_, _^_, _%_, _≤_, _<_}
@@ -10,7 +10,6 @@ use native.Mathlib.Nat.{mul-le-mul-right}
 use native.Mathlib.Omega.{arith}
 use lib.Dec.{leb, eqb}
 use lib.ListN.{length}
-use lib.Pow.{pow-pos, pow-mono}
 use Rattle.sizes.specs.Sizes.{mostStops, dearest, wordStops}
 use Rattle.lists.specs.Lists.{In}
 use Rattle.orders.specs.Orders.{left}
@@ -19,7 +18,7 @@ use Rattle.orders.proofs.Sets.{size-left}
 use Rattle.stops.specs.Stops.{dayOn}
 use Rattle.stops.specs.Code.{emptyRecord, Wide, extended, lastStop, stopsIn, reckonOn}
 use Rattle.stops.specs.declared.node_record.Record.{Record}
-use Rattle.stops.proofs.SetBits.{stopsIn-range, stopsIn-few}
+use Rattle.stops.proofs.SetBits.{stopsIn-range, stopsIn-few, all-small}
 use Rattle.stops.proofs.StopsWalk.{after-stop, further-small, path-small, ahead-small}
 use Rattle.records.specs.Code.{encode}
 use Rattle.records.proofs.Mask.{rest-small}
@@ -52,17 +51,13 @@ module _ {d : Setting} {t : Table} (rows : Rows d t) where
       let short : length x ≤ mostStops = omega (arith, partial-size (d .n) x (e .partial), size-left (d .n) x, rows .few) in
       (same, omega (arith, path-small t (rows .cheap) (d .n) x, mul-le-mul-right dearest short))
 
-  -- the set of all stops, as a word, is one less than 2 to the power n
-  pub all-small : (1 ≤ 2 ^ d .n) × (2 ^ d .n ≤ 2 ^ mostStops)
-  all-small = (pow-pos (d .n), pow-mono {i = d .n} {j = mostStops} (rows .few))
-
   -- e with its bound, as the code puts it together
   pub root-made :
       (x : Record) (v : ℕ) → x ≡ emptyRecord → v ≡ reckonOn t .ahead (d .bound) 0 (stopsIn (1 * 2 ^ d .n % 2 ^ 32 - 1))
       → bounded v x ≡ rootOf d t
   unfolding rootOf
   root-made x v e f =
-      let all : 1 * 2 ^ d .n % 2 ^ 32 - 1 ≡ 2 ^ d .n - 1 = omega (arith, all-small) in
+      let all : 1 * 2 ^ d .n % 2 ^ 32 - 1 ≡ 2 ^ d .n - 1 = omega (arith, all-small (d .n) (rows .few)) in
       ap₂ bounded (f ∙ ap (λ (m : ℕ). reckonOn t .ahead (d .bound) 0 (stopsIn m)) all) e
 
 module _ {d : Setting} {t : Table} {b : Record} {place rest s : ℕ} (q : Kid d t b place rest s) where

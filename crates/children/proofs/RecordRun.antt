@@ -17,6 +17,7 @@ use Rattle.stops.specs.Stops.{dayOn}
 use Rattle.stops.specs.Code.{emptyRecord, extended, lastStop, stopsIn, reckonOn}
 use Rattle.stops.proofs.StopsWalk.{rows-walk, place-last}
 use Rattle.records.specs.Code.{encode}
+use Rattle.stops.proofs.SetBits.{stopsIn-all}
 use Rattle.records.proofs.Mask.{stops-left}
 use Rattle.records.proofs.Encode.{encode-last, encode-extend}
 use Rattle.records.proofs.EncodeLaws.{encode-child, encode-dominates}
@@ -51,11 +52,8 @@ module _ {d : Setting} {t : Table} (rows : Rows d t) where
       unset : mask (setOf n []) ≡ 0
       unset = ap mask (empty-set n)
 
-      all : stopsIn (2 ^ n - 1) ≡ left n []
-      all = ap stopsIn (let e : 2 ^ n - 1 ≡ 2 ^ n - 1 - mask (setOf n []) = omega (arith, unset) in e) ∙ stops-left n (rows .few) []
-
       bound : R .ahead k 0 (stopsIn (2 ^ n - 1)) ≡ D .bound k []
-      bound = rw (all, walk .bound-ahead k (rows .bound) [], walk .path-root, walk .place-root) (omega arith)
+      bound = rw (stopsIn-all n (rows .few), walk .bound-ahead k (rows .bound) [], walk .path-root, walk .place-root) (omega arith)
 
   module _ (x : Node) (p : Partial (d .n) x) where
     encode-kid : (s : ℕ) → In s (left n x) → childOf d t (encodeOf d t x) s ≡ encodeOf d t (extend x s)

@@ -3,8 +3,8 @@
 --   cheapest-in, cheapest-least      so it is one of them, and none is cheaper
 --   cheapest-stays                   where it is no cheaper than the first, it is the first
 --   cheapest-append                  of joined lists: of the second, from what the first comes to
-use mathlib.Core.Path.{_≡_, refl, ap, sym}
-use mathlib.Core.Bool.{Bool, true, false, cond}
+use mathlib.Core.Path.{_≡_, refl, ap}
+use mathlib.Core.Bool.{cond}
 use mathlib.Core.List.{List, [], _∷_, _++_, List·Memᴰ·tail, List·Memᴰ·cases-cons, List·Memᴰ·not-nil, Memᴰ·append-right}
 use mathlib.Core.Logic.{_⊎_, inl, inr}
 use Prim.Native.Nat.{ℕ, _≤_, _<_}

@@ -1,17 +1,17 @@
 -- Laws of `exchanged`.
---   exchanged-length, exchanged-self, exchanged-twice    it has as many stops; of a place with itself it changes nothing; made again it is undone
+--   exchanged-length, exchanged-self, exchanged-twice    it has as many stops; of a position with itself it changes nothing; made again it is undone
 --   exchanged-in, exchanged-order                        it has the same stops, so that of an order it is an order
 use mathlib.Core.Path.{_≡_, ap, sym, _∙_}
+use mathlib.Core.List.{[], _∷_}
 use mathlib.Core.Logic.{_⊎_, inl, inr, _≢_}
 use Prim.Native.Nat.{ℕ, _<_}
 use native.Mathlib.Omega.{arith}
-use lib.Dec.{eqb}
 use lib.ListN.{length, getD, set, length-set}
 use lib.Seq.{getD-set-same, getD-set-other, set-getD, set-set, set-comm}
 use Rattle.lists.specs.Lists.{In}
 use Rattle.lists.proofs.Tests.{compared}
 use Rattle.orders.specs.Orders.{Node, Order, count}
-use Rattle.orders.proofs.Order.{one, count-set, counts-in, order-counts}
+use Rattle.orders.proofs.Order.{count-set, counts-in, order-counts}
 use Rattle.first_answer.specs.Exchanges.{exchanged}
 use Rattle.first_answer.specs.Examples
 
@@ -25,7 +25,7 @@ module _ (x : Node) where
   exchanged-self p = set-set x p (getD x p 0) (getD x p 0) ∙ set-getD x p 0
 
   module _ (p q : ℕ) (inside-p : p < length x) (inside-q : q < length x) where
-    -- p and q differ: each place gets the other's stop, and then its own again
+    -- p and q differ: each position gets the other's stop, and then its own again
     twice-apart : p ≢ q → exchanged (exchanged x p q) p q ≡ x
     unfolding exchanged
     twice-apart n =
@@ -43,7 +43,7 @@ module _ (x : Node) where
         go (inl e) = rw (← e, exchanged-self p) (exchanged-self p)
         go (inr n) = twice-apart n
 
-    -- what stands at place q once place p has the same
+    -- what stands at position q once position p has the same
     at-second : getD (set x p (getD x q 0)) q 0 ≡ getD x q 0
     at-second = go (compared q p)
       where
@@ -51,7 +51,7 @@ module _ (x : Node) where
         go (inl e) = rw (← e) (getD-set-same x q (getD x q 0) 0 inside-q)
         go (inr e) = getD-set-other x p q (getD x q 0) 0 e
 
-    -- place p loses a stop that place q gets, and the other way round
+    -- position p loses a stop that position q gets, and the other way round
     exchanged-counts : (s : ℕ) → count s (exchanged x p q) ≡ count s x
     unfolding exchanged
     exchanged-counts s =
@@ -60,7 +60,7 @@ module _ (x : Node) where
           arith,
           count-set s (getD x q 0) x p inside-p,
           count-set s (getD x p 0) y q (omega (arith, length-set x p (getD x q 0))),
-          ap (λ (r : ℕ). one (eqb s r)) at-second,
+          ap (λ (r : ℕ). count s (r ∷ [])) at-second,
         )
 
     pub exchanged-in : (s : ℕ) → In s (exchanged x p q) → In s x

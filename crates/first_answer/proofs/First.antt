@@ -1,7 +1,7 @@
 -- What request A.1 says of a first order (specs/Request), proved.
-use mathlib.Core.Path.{_≡_, refl, ap, sym, subst, _∙_}
-use mathlib.Core.Bool.{Bool, true, false, not, or-true}
-use mathlib.Core.List.{List, [], _∷_}
+use mathlib.Core.Path.{_≡_, refl, ap, subst, _∙_}
+use mathlib.Core.Bool.{true, false, or-true}
+use mathlib.Core.List.{List}
 use mathlib.Core.Logic.{_≢_}
 use Prim.Native.Nat.{ℕ, zero, suc, _≤_, _<_}
 use native.Mathlib.Omega.{arith}
@@ -10,17 +10,19 @@ use Rattle.sizes.specs.Sizes.{mostStops, orderPlaces}
 use Rattle.lists.specs.Lists.{padded}
 use Rattle.lists.proofs.Tests.{to-true}
 use Rattle.lists.proofs.Padded.{take-padded}
-use Rattle.orders.specs.Orders.{Node, Order, isOrder}
+use Rattle.orders.specs.Orders.{Order, isOrder}
 use Rattle.orders.proofs.Order.{order-length, order-isOrder}
 use Rattle.orders.proofs.Orders.{orders-in}
 use Rattle.stops.specs.Legs.{cost}
 use Rattle.stops.specs.Stops.{day, dayOn}
 use Rattle.answer.specs.Answer.{dayOf}
-use Rattle.answer.specs.Demands.{written}
+use Rattle.answer.specs.Demands.{Planner, RunIsWritten}
 use Rattle.answer.proofs.Passes.{table-passed}
+use Rattle.answer.proofs.Ending.{tableCause-small}
 use Rattle.answer.proofs.Demand3.{cheapest-of-all}
-use Rattle.answer.specs.Checks.{cause₁, cause₂, cause₃, cause₅, isEmpty, orLater, tableCause, jobCause}
-use Rattle.first_answer.specs.Exchanges.{exchanged, improved}
+use Rattle.answer.specs.Checks.{cause₅, tableCause, jobCause}
+use Rattle.first_answer.specs.Nearest.{anyNode}
+use Rattle.first_answer.specs.Exchanges.{exchanged}
 use Rattle.first_answer.specs.First.{legsOf, nearestOf, firstOf, respond, firstAnswer, Promised}
 use Rattle.first_answer.specs.declared.FirstOrder.{FirstOrder}
 use Rattle.first_answer.specs.Request.{
@@ -29,11 +31,11 @@ use Rattle.first_answer.specs.Request.{
   ExchangesImprove,
   shown,
   Given,
-  IsOrder,
+  GivesOrder,
   OwnCost,
   NoExchangeCheaper,
   NoDearerThanNearest,
-  RefusedBy123,
+  RefusedByTable,
   PassesAsStart,
   PlanNoDearer,
 }
@@ -55,28 +57,28 @@ exchanges-improve L allowed x = (improved-cost L allowed x, improved-least L all
 module _ (n : ℕ) (table : List ℕ) where
   nearestOf-order : Order n (nearestOf n table)
   unfolding nearestOf
-  nearestOf-order = nearest-free n (legsOf n table) (λ x. true) (λ x. tt)
+  nearestOf-order = nearest-free n (legsOf n table) anyNode (λ x. tt)
 
   pub firstOf-order : Order n (firstOf n table)
   unfolding firstOf
-  firstOf-order = improved-order (legsOf n table) (λ x. true) n (nearestOf n table) nearestOf-order
+  firstOf-order = improved-order (legsOf n table) anyNode n (nearestOf n table) nearestOf-order
 
   firstOf-cost : cost (legsOf n table) (firstOf n table) ≤ cost (legsOf n table) (nearestOf n table)
   unfolding firstOf
-  firstOf-cost = improved-cost (legsOf n table) (λ x. true) (nearestOf n table)
+  firstOf-cost = improved-cost (legsOf n table) anyNode (nearestOf n table)
 
   firstOf-least : (p q : ℕ) → p < q → q < n → cost (legsOf n table) (firstOf n table) ≤ cost (legsOf n table) (exchanged (firstOf n table) p q)
   unfolding firstOf
   firstOf-least p q h k =
-      improved-least (legsOf n table) (λ x. true) (nearestOf n table) p q h (omega (arith, order-length n (firstOf n table) firstOf-order)) tt
+      improved-least (legsOf n table) anyNode (nearestOf n table) p q h (omega (arith, order-length n (firstOf n table) firstOf-order)) tt
 
   -- what is returned with number 0
-  pub record Shows (r : FirstOrder) : Type 0 where
-    pub costs : r .cost ≡ cost (legsOf n table) (firstOf n table)
-    pub places : r .order ≡ padded orderPlaces (firstOf n table)
-    pub stops : shown n r ≡ firstOf n table
+  record Shows (r : FirstOrder) : Type 0 where
+    costs : r .cost ≡ cost (legsOf n table) (firstOf n table)
+    places : r .order ≡ padded orderPlaces (firstOf n table)
+    stops : shown n r ≡ firstOf n table
 
-  pub given-shows : (r : FirstOrder) → Given n table r → Shows r
+  given-shows : (r : FirstOrder) → Given n table r → Shows r
   unfolding firstAnswer respond
   given-shows r (e, z) = go (tableCause n table 0) e
     where
@@ -93,8 +95,8 @@ module _ (n : ℕ) (table : List ℕ) where
 
 -- ---- what is returned
 
-pub is-order : IsOrder
-is-order n table r g =
+pub gives-order : GivesOrder
+gives-order n table r g =
     let s = given-shows n table r g in
     (rw (s .stops) (firstOf-order n table), rw (s .stops) (s .places))
 
@@ -111,20 +113,9 @@ no-dearer-than-nearest n table r g =
     let s = given-shows n table r g in
     (nearestOf-order n table, rw (s .costs) (firstOf-cost n table))
 
--- a cause of the table is one of three
-table-small : (n : ℕ) (table : List ℕ) → tableCause n table 0 ≤ 3
-unfolding tableCause
-table-small n table = go (cause₁ n) (cause₂ n table) (cause₃ n table)
-  where
-    go : (a b c : Bool) → orLater a 1 (orLater b 2 (orLater c 3 0)) ≤ 3
-    go true b c = omega arith
-    go false true c = omega arith
-    go false false true = omega arith
-    go false false false = omega arith
-
-pub refused-by-123 : RefusedBy123
+pub refused-by-table : RefusedByTable
 unfolding firstAnswer respond
-refused-by-123 n table r e = go (tableCause n table 0) (table-small n table) e
+refused-by-table n table r e = go (tableCause n table 0) (tableCause-small n table) e
   where
     zeros : FirstOrder
     zeros = record { number = r .number; cost = 0; order = replicate orderPlaces 0 }
@@ -153,13 +144,14 @@ pub passes-as-start : PassesAsStart
 unfolding cause₅ jobCause
 passes-as-start job table r g =
     let order : isOrder (job .n) (shown (job .n) r) ≡ true =
-    to-true (isOrder (job .n) (shown (job .n) r)) (order-isOrder (job .n) (shown (job .n) r) (is-order (job .n) table r g .0)) in
+    to-true (isOrder (job .n) (shown (job .n) r)) (order-isOrder (job .n) (shown (job .n) r) (gives-order (job .n) table r g .0)) in
     let passes : cause₅ (job .n) (shown (job .n) r) ≡ false = rw (order, or-true) in
     (passes, λ later. rw passes)
 
-pub plan-no-dearer : PlanNoDearer written
+-- whatever planner answers as the written run does
+pub plan-no-dearer : (P : Planner) → RunIsWritten P → PlanNoDearer P
 unfolding dayOf dayOn day legsOf
-plan-no-dearer c a r p h g =
+plan-no-dearer P run c a r p h g =
     let n : ℕ = c .job .n in
     rw (own-cost n (c .table) r g)
-    (cheapest-of-all c a p h .least (shown n r) (orders-in n (shown n r) (is-order n (c .table) r g .0)))
+    (cheapest-of-all c a (run c a p) h .least (shown n r) (orders-in n (shown n r) (gives-order n (c .table) r g .0)))

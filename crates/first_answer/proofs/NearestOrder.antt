@@ -25,7 +25,7 @@ use Rattle.first_answer.specs.Nearest.{cheapest, toNearest, nextStops, o
 use Rattle.first_answer.proofs.Cheapest.{cheapest-in}
 
 module _ (n : ℕ) (L : Legs) (allowed : Node → Bool) where
-  pub nextStops-left : (x : Node) (s : ℕ) → In s (nextStops n L allowed x) → In s (left n x)
+  nextStops-left : (x : Node) (s : ℕ) → In s (nextStops n allowed x) → In s (left n x)
   unfolding nextStops
   nextStops-left x s m = in-keep (λ r. allowed (extend x r)) (left n x) s m .0
 
@@ -36,24 +36,24 @@ module _ (n : ℕ) (L : Legs) (allowed : Node → Bool) where
 
   onward-partial : (k : ℕ) (x : Node) → Partial n x → Partial n (onward n L allowed k x)
   onward-partial zero x p = p
-  onward-partial (suc k) x p = onward-partial k (toNearest L x (nextStops n L allowed x)) (go (nextStops n L allowed x) (nextStops-left x))
+  onward-partial (suc k) x p = onward-partial k (toNearest L x (nextStops n allowed x)) (go (nextStops n allowed x) (nextStops-left x))
     where
       go : (stops : List ℕ) → ((r : ℕ) → In r stops → In r (left n x)) → Partial n (toNearest L x stops)
       go [] h = p
       go (s ∷ ss) h = partial-child n x (toNearest L x (s ∷ ss)) p (toNearest-child x s ss h)
 
-  pub nearest-partial : Partial n (nearest n L allowed)
+  nearest-partial : Partial n (nearest n L allowed)
   unfolding nearest
   nearest-partial = onward-partial n [] (partial-root n)
 
   -- some stop may always be flown next
-  abbrev pub Ways : Type 0
-  Ways = (x : Node) → Partial n x → length x < n → nextStops n L allowed x ≢ []
+  abbrev Ways : Type 0
+  Ways = (x : Node) → Partial n x → length x < n → nextStops n allowed x ≢ []
 
   module _ (ways : Ways) where
     onward-length : (k : ℕ) (x : Node) → Partial n x → length x + k ≤ n → length (onward n L allowed k x) ≡ length x + k
     onward-length zero x p h = omega arith
-    onward-length (suc k) x p h = go (nextStops n L allowed x) (nextStops-left x) (ways x p (omega arith)) (λ y. onward-length k y)
+    onward-length (suc k) x p h = go (nextStops n allowed x) (nextStops-left x) (ways x p (omega arith)) (λ y. onward-length k y)
       where
         go :
             (stops : List ℕ) → ((r : ℕ) → In r stops → In r (left n x)) → stops ≢ []
@@ -65,13 +65,13 @@ module _ (n : ℕ) (L : Legs) (allowed : Node → Bool) where
             let one : length y ≡ length x + 1 = length-append x (cheapest (L .leg (last x)) s ss ∷ []) in
             omega (arith, again y (partial-child n x y p (toNearest-child x s ss among)) (omega arith))
 
-    pub nearest-order : Order n (nearest n L allowed)
+    nearest-order : Order n (nearest n L allowed)
     unfolding nearest
     nearest-order = full-order n (onward n L allowed n []) nearest-partial (omega (arith, onward-length n [] (partial-root n) (omega arith)))
 
 -- where every node is allowed, every stop that a node leaves may be flown next
 module _ (n : ℕ) (L : Legs) (allowed : Node → Bool) (free : (x : Node) → T (allowed x)) where
-  nextStops-all : (x : Node) → nextStops n L allowed x ≡ left n x
+  nextStops-all : (x : Node) → nextStops n allowed x ≡ left n x
   unfolding nextStops
   nextStops-all x = keep-all (λ s. allowed (extend x s)) (left n x) (λ s m. free (extend x s))
 

@@ -3,7 +3,7 @@
 --   improved-stays, improved-goes-on       so it is the node itself where no exchange lowers the cost, else what the best exchange settles to
 --   improved-cost, improved-least          it is no dearer than the node, and no allowed exchange of two of its stops is cheaper
 --   improved-order                         it is an order, if the node is
-use mathlib.Core.Path.{_≡_, refl, sym, subst, _∙_}
+use mathlib.Core.Path.{_≡_, refl, sym, subst}
 use mathlib.Core.Bool.{Bool}
 use mathlib.Core.Logic.{_⊎_, inl, inr}
 use Prim.Native.Nat.{ℕ, zero, suc, _≤_, _<_}

@@ -9,13 +9,13 @@ use Rattle.stops.specs.Tables.{entry, rows}
 use Rattle.stops.specs.Legs.{rowLeg, legs, path, cost}
 use Rattle.answer.specs.Checks.{cause₁, cause₂, cause₃, tableCause}
 use Rattle.first_answer.specs.Nearest.{cheapest, nextStops, nearest}
-use Rattle.first_answer.specs.Exchanges.{exchanged, exchanges, bestExchange, improved}
+use Rattle.first_answer.specs.Exchanges.{exchanged, behind, exchanges, bestExchange, improved}
 use Rattle.first_answer.specs.First.{legsOf, nearestOf, firstOf, respond, firstAnswer}
 use Rattle.first_answer.specs.declared.FirstOrder.{FirstOrder}
 
 -- the legs of T, with every definition that the examples rest on open
 tableT : List ℕ
-unfolding padded flown left last entry rows rowLeg legs path cost cause₁ cause₂ cause₃ tableCause nextStops nearest exchanged exchanges bestExchange improved legsOf nearestOf firstOf respond firstAnswer
+unfolding padded flown left last entry rows rowLeg legs path cost cause₁ cause₂ cause₃ tableCause nextStops nearest exchanged behind exchanges bestExchange improved legsOf nearestOf firstOf respond firstAnswer
 tableT = 0 ∷ 4 ∷ 7 ∷ 9 ∷ 5 ∷ 0 ∷ 2 ∷ 6 ∷ 3 ∷ 8 ∷ 0 ∷ 1 ∷ 6 ∷ 5 ∷ 4 ∷ 0 ∷ []
 
 -- an answer to three stops
@@ -29,10 +29,12 @@ refused number = record { number = number; cost = 0; order = 0 ∷ 0 ∷ 0 ∷ 0
 first-of-equals : cheapest (λ (k : ℕ). k / 10) 31 (21 ∷ 40 ∷ 22 ∷ []) ≡ 21
 first-of-equals = refl
 
--- the three exchanges of an order of three stops
-exchanges-of-213 : exchanges (2 ∷ 1 ∷ 3 ∷ []) ≡ (1 ∷ 2 ∷ 3 ∷ []) ∷ (3 ∷ 1 ∷ 2 ∷ []) ∷ (2 ∷ 3 ∷ 1 ∷ []) ∷ []
+-- the six exchanges of an order of four stops: by the first position, then by the second, and the stops between stay where they are
+exchanges-of-1234 :
+    exchanges (1 ∷ 2 ∷ 3 ∷ 4 ∷ [])
+    ≡ (2 ∷ 1 ∷ 3 ∷ 4 ∷ []) ∷ (3 ∷ 2 ∷ 1 ∷ 4 ∷ []) ∷ (4 ∷ 2 ∷ 3 ∷ 1 ∷ []) ∷ (1 ∷ 3 ∷ 2 ∷ 4 ∷ []) ∷ (1 ∷ 4 ∷ 3 ∷ 2 ∷ []) ∷ (1 ∷ 2 ∷ 4 ∷ 3 ∷ []) ∷ []
 unfolding tableT
-exchanges-of-213 = refl
+exchanges-of-1234 = refl
 
 -- in T the nearest stop is 1 (4), then 2 (2), then 3; no exchange is cheaper than 13
 first-of-T : firstAnswer 3 tableT ≡ three 13 1 2 3
@@ -56,24 +58,32 @@ greatest-gain : firstAnswer 3 exchanged-table ≡ three 0 3 2 1
 unfolding tableT exchanged-table three
 greatest-gain = refl
 
--- 123 costs 3, and both 321 (places 0 and 2) and 132 (places 1 and 2) cost nothing: the smallest first place
-smallest-first-place : firstAnswer 3 (0 ∷ 0 ∷ 0 ∷ 0 ∷ 0 ∷ 0 ∷ 0 ∷ 0 ∷ 0 ∷ 0 ∷ 0 ∷ 0 ∷ 3 ∷ 1 ∷ 0 ∷ 0 ∷ []) ≡ three 0 3 2 1
+-- 123 costs 3, and both 321 (positions 0 and 2) and 132 (1 and 2) cost nothing: the smallest first position
+smallest-first-position : firstAnswer 3 (0 ∷ 0 ∷ 0 ∷ 0 ∷ 0 ∷ 0 ∷ 0 ∷ 0 ∷ 0 ∷ 0 ∷ 0 ∷ 0 ∷ 3 ∷ 1 ∷ 0 ∷ 0 ∷ []) ≡ three 0 3 2 1
 unfolding tableT three
-smallest-first-place = refl
+smallest-first-position = refl
 
--- 1243 costs 6, and four exchanges cost 5: 3241 has the smallest first place (0 and 3), 1423 (1 and 2) the smallest second; then 2341 costs 4
+-- 1243 costs 6, and four exchanges cost 5: 3241 has the smallest first position (0 and 3), 1423 (1 and 2) the smallest second; then 2341 costs 4
 second-table : List ℕ
 second-table =
     0 ∷ 0 ∷ 0 ∷ 1 ∷ 0 ∷ 2 ∷ 0 ∷ 0 ∷ 2 ∷ 0 ∷ 3 ∷ 4 ∷ 0 ∷ 2 ∷ 0 ∷ 3 ∷ 0 ∷ 2 ∷ 0 ∷ 0 ∷ 3 ∷ 0 ∷ 0 ∷ 3 ∷ 0 ∷ []
 
-first-place-before-second : firstOf 4 second-table ≡ 2 ∷ 3 ∷ 4 ∷ 1 ∷ []
+first-position-before-second : firstOf 4 second-table ≡ 2 ∷ 3 ∷ 4 ∷ 1 ∷ []
 unfolding tableT second-table
-first-place-before-second = refl
+first-position-before-second = refl
 
 -- 132 costs 3; the best exchange leads to 123 at 1, and the next to 213 at 0
 two-exchanges : firstAnswer 3 (0 ∷ 0 ∷ 0 ∷ 0 ∷ 1 ∷ 0 ∷ 1 ∷ 0 ∷ 1 ∷ 0 ∷ 0 ∷ 0 ∷ 0 ∷ 1 ∷ 2 ∷ 0 ∷ []) ≡ three 0 2 1 3
 unfolding tableT three
 two-exchanges = refl
+
+-- no exchange of 123 is cheaper, and yet 231, which is none, costs less: a first order need not be the cheapest
+missed-table : List ℕ
+missed-table = 0 ∷ 1 ∷ 2 ∷ 9 ∷ 1 ∷ 0 ∷ 1 ∷ 9 ∷ 9 ∷ 9 ∷ 0 ∷ 1 ∷ 5 ∷ 1 ∷ 9 ∷ 0 ∷ []
+
+not-the-cheapest : (firstAnswer 3 missed-table ≡ three 8 1 2 3) × (cost (legsOf 3 missed-table) (2 ∷ 3 ∷ 1 ∷ []) ≡ 5)
+unfolding tableT missed-table three
+not-the-cheapest = (refl, refl)
 
 -- one stop has no exchange
 one-stop : firstAnswer 1 (0 ∷ 3 ∷ 5 ∷ 0 ∷ []) ≡ three 8 1 0 0

@@ -8,13 +8,17 @@ use Rattle.orders.specs.Orders.{Node}
 use Rattle.stops.specs.Legs.{Legs, cost}
 use Rattle.first_answer.specs.Nearest.{cheapest}
 
--- x with the stops at places p and q exchanged, places counted from 0
+-- x with the stops at positions p and q exchanged, positions counted from 0; the others stay where they are
 unfoldable pub exchanged : Node → ℕ → ℕ → Node
 exchanged x p q = set (set x p (getD x q 0)) q (getD x p 0)
 
--- every exchange of two stops of x: by the smallest first place, then by the smallest second
+-- the exchanges of position p with each position from q on
+unfoldable pub behind : Node → ℕ → ℕ → List Node
+behind x p q = map (exchanged x p) (from q (length x - q))
+
+-- every exchange of two stops of x: by the smallest first position, then by the smallest second
 unfoldable pub exchanges : Node → List Node
-exchanges x = each (λ p. map (exchanged x p) (from (suc p) (length x - suc p))) (from 0 (length x))
+exchanges x = each (λ p. behind x p (suc p)) (from 0 (length x))
 
 module _ (L : Legs) (allowed : Node → Bool) where
   -- of the allowed exchanges the one that lowers the cost most, the first of equals; x itself if none lowers it
@@ -31,7 +35,7 @@ module _ (L : Legs) (allowed : Node → Bool) where
   repeated zero x = x
   repeated (suc k) x = repeated k (bestExchange x)
 
-  -- The order that x settles to, and the only one (`Settles`, in specs/Request). An exchange that changes anything lowers the cost by 1 or more,
+  -- The order that x settles to, and the only one (`ExchangesEnd`, in specs/Request). An exchange that changes anything lowers the cost by 1 or more,
   -- so that as many exchanges as x costs are enough, and those that are left over change nothing.
   unfoldable pub improved : Node → Node
   improved x = repeated (cost L x) x

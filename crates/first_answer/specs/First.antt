@@ -1,6 +1,5 @@
 -- The first order of a table, and what the call for it answers: document 02, A.1.
 use mathlib.Core.Path.{_≡_}
-use mathlib.Core.Bool.{true}
 use mathlib.Core.List.{List}
 use Prim.Native.Nat.{ℕ, zero, suc}
 use lib.ListN.{replicate}
@@ -10,19 +9,21 @@ use Rattle.orders.specs.Orders.{Node}
 use Rattle.stops.specs.Tables.{rows}
 use Rattle.stops.specs.Legs.{Legs, legs, cost}
 use Rattle.answer.specs.Checks.{tableCause}
-use Rattle.first_answer.specs.Nearest.{nearest}
+use Rattle.first_answer.specs.Nearest.{anyNode, nearest}
 use Rattle.first_answer.specs.Exchanges.{improved}
 use Rattle.first_answer.specs.declared.FirstOrder.{FirstOrder}
 
+-- the legs of a table
 unfoldable pub legsOf : ℕ → List ℕ → Legs
 legsOf n table = legs (rows n table)
 
--- every node is allowed
+-- its nearest-stop order, in which every node is allowed
 unfoldable pub nearestOf : ℕ → List ℕ → Node
-nearestOf n table = nearest n (legsOf n table) (λ x. true)
+nearestOf n table = nearest n (legsOf n table) anyNode
 
+-- its first order: that order, made cheaper by exchanges
 unfoldable pub firstOf : ℕ → List ℕ → Node
-firstOf n table = improved (legsOf n table) (λ x. true) (nearestOf n table)
+firstOf n table = improved (legsOf n table) anyNode (nearestOf n table)
 
 -- where no cause of 1 to 3 applies, the cost and the order, in as many places as there may be stops; else the cause's number and zeros
 unfoldable pub respond : ℕ → List ℕ → ℕ → FirstOrder

@@ -1,5 +1,5 @@
 -- The nearest-stop order: document 02, A.1. It is over any legs, and over any test of which nodes are allowed.
-use mathlib.Core.Bool.{Bool, cond}
+use mathlib.Core.Bool.{Bool, true, cond}
 use mathlib.Core.List.{List, [], _∷_}
 use Prim.Native.Nat.{ℕ, zero, suc}
 use lib.Dec.{ltb}
@@ -17,15 +17,19 @@ abbrev pub toNearest : Legs → Node → List ℕ → Node
 toNearest L x [] = x
 toNearest L x (s ∷ ss) = extend x (cheapest (L .leg (last x)) s ss)
 
-module _ (n : ℕ) (L : Legs) (allowed : Node → Bool) where
-  -- the stops that may be flown behind x, ascending
-  unfoldable pub nextStops : Node → List ℕ
-  nextStops x = keep (λ s. allowed (extend x s)) (left n x)
+-- a test that allows every node
+abbrev pub anyNode : Node → Bool
+anyNode x = true
 
+-- the stops that may be flown behind x, ascending
+unfoldable pub nextStops : ℕ → (Node → Bool) → Node → List ℕ
+nextStops n allowed x = keep (λ s. allowed (extend x s)) (left n x)
+
+module _ (n : ℕ) (L : Legs) (allowed : Node → Bool) where
   -- x and up to k stops more, each the nearest
   abbrev pub onward : ℕ → Node → Node
   onward zero x = x
-  onward (suc k) x = onward k (toNearest L x (nextStops x))
+  onward (suc k) x = onward k (toNearest L x (nextStops n allowed x))
 
   -- from home, all n stops; fewer, where at some place no stop may be flown
   unfoldable pub nearest : Node

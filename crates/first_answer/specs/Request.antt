@@ -1,6 +1,6 @@
--- What request A.1 says of a first order, a type for each sentence; proofs/ proves them. The first three are over any legs and any test of what
--- is allowed. The others are over whatever a call returns that keeps its promise (`Promised`), so that they are of the definition and of the
--- code at once.
+-- What request A.1 says of a first order beside how it is made, which the definitions say (Nearest, Exchanges) and Examples shows: a type for
+-- each sentence, proved in proofs/. The first is over any elements, the next two over any legs and any test of what is allowed. The others
+-- are over whatever a call returns that keeps its promise (`Promised`), so that they are of the definition and of the code at once.
 use mathlib.Core.Path.{_≡_}
 use mathlib.Core.Bool.{Bool, false}
 use mathlib.Core.List.{List, [], _∷_, _++_}
@@ -29,7 +29,7 @@ pub record FirstCheapest {A : Type 0} (f : A → ℕ) (xs : List A) (a : A) : Ty
   pub dearer : (y : A) → In y before → f a < f y
   pub least : (y : A) → In y xs → f a ≤ f y
 
--- which is how the nearest stop is chosen among the stops left, the lowest first, and the best exchange among those by their places
+-- which is how the nearest stop is chosen among the stops left, the lowest first, and the best exchange among those by their positions
 abbrev pub CheapestIsFirst : Type 1
 CheapestIsFirst = (A : Type 0) (f : A → ℕ) (x : A) (xs : List A) → FirstCheapest f (x ∷ xs) (cheapest f x xs)
 
@@ -55,8 +55,8 @@ abbrev pub Given : ℕ → List ℕ → FirstOrder → Type 0
 Given n table r = Promised n table r × (r .number ≡ 0)
 
 -- an order of 1 to n, and zeros behind it
-abbrev pub IsOrder : Type 0
-IsOrder = (n : ℕ) (table : List ℕ) (r : FirstOrder) → Given n table r → Order n (shown n r) × (r .order ≡ padded orderPlaces (shown n r))
+abbrev pub GivesOrder : Type 0
+GivesOrder = (n : ℕ) (table : List ℕ) (r : FirstOrder) → Given n table r → Order n (shown n r) × (r .order ≡ padded orderPlaces (shown n r))
 
 -- the cost is that order's own
 abbrev pub OwnCost : Type 0
@@ -75,8 +75,8 @@ NoDearerThanNearest =
     → Order n (nearestOf n table) × (r .cost ≤ cost (legsOf n table) (nearestOf n table))
 
 -- a refusal has the number of the first of causes 1 to 3 that applies, and zeros
-abbrev pub RefusedBy123 : Type 0
-RefusedBy123 =
+abbrev pub RefusedByTable : Type 0
+RefusedByTable =
     (n : ℕ) (table : List ℕ) (r : FirstOrder) → Promised n table r
     → (r .number ≡ tableCause n table 0) × (r .number ≤ 3)
     × (r .number ≢ 0 → r ≡ record { number = r .number; cost = 0; order = replicate orderPlaces 0 })

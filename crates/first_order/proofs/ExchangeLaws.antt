@@ -1,9 +1,9 @@
 -- Laws of the loops that look for the best exchange of an order and make it.
---   exchanged-flyable                          an order whose cost can be added up (`Flyable`) is one still once two stops are exchanged
+--   exchanged-reckonable                          an order whose cost can be added up (`Reckonable`) is one still once two stops are exchanged
 --   Trying L x rest y e                        e is the best exchange tried so far; the cheapest of what it makes and of rest is y
---   behind-starts, behind-tried, behind-ends   rest is what is made by the exchanges of one place: all of them, one less, none
---   pairs x p                                  what is made by the exchanges of each place from p on with the places behind it
---   pairs-start, pairs-tried, pairs-end        rest is what is made by these: of all places, of one less, of none
+--   behind-starts, behind-tried, behind-ends   rest is what is made by the exchanges of one position: all of them, one less, none
+--   pairs x p                                  what is made by the exchanges of each position from p on with the positions behind it
+--   pairs-start, pairs-tried, pairs-end        rest is what is made by these: of all positions, of one less, of none
 --   Improving rows x₀ x own e                  x settles to what x₀ does, own is its cost and e its best exchange
 --   improving-starts, improving-asks, improving-again, improving-ends   so it is at first, with one more exchange made, and at last
 use mathlib.Core.Path.{_≡_, refl, sym, _∙_}
@@ -18,18 +18,18 @@ use Rattle.lists.specs.Lists.{from, each}
 use Rattle.lists.proofs.Keep.{keep-all}
 use Rattle.orders.specs.Orders.{Node}
 use Rattle.stops.specs.Legs.{Legs, legs, cost}
-use Rattle.stops.specs.Code.{Flyable}
-use Rattle.first_answer.specs.Nearest.{cheapest}
-use Rattle.first_answer.specs.Exchanges.{exchanged, exchanges, bestExchange, improved}
+use Rattle.stops.specs.Code.{Reckonable}
+use Rattle.first_answer.specs.Nearest.{cheapest, anyNode}
+use Rattle.first_answer.specs.Exchanges.{exchanged, behind, exchanges, bestExchange, improved}
 use Rattle.first_answer.proofs.Cheapest.{cheapest-append}
 use Rattle.first_answer.proofs.Exchanged.{exchanged-length, exchanged-in, exchanged-self}
 use Rattle.first_answer.proofs.Settled.{improved-stays, improved-goes-on}
-use Rattle.first_order.specs.Code.{made, Makes, better, behind, bestBehind}
+use Rattle.first_order.specs.Code.{made, Makes, better, bestBehind}
 use Rattle.first_order.specs.declared.exchange.Exchange.{Exchange}
 
-pub exchanged-flyable :
-    {rows : List (List ℕ)} {x : Node} → Flyable rows x → (p q : ℕ) → p < length x → q < length x → Flyable rows (exchanged x p q)
-exchanged-flyable {x = x} f p q h k = record {
+pub exchanged-reckonable :
+    {rows : List (List ℕ)} {x : Node} → Reckonable rows x → (p q : ℕ) → p < length x → q < length x → Reckonable rows (exchanged x p q)
+exchanged-reckonable {x = x} f p q h k = record {
   cheap = f .cheap;
   few = rw (exchanged-length x p q) (f .few);
   near = λ s m. f .near s (exchanged-in x p q h k s m);
@@ -59,17 +59,17 @@ module _ (x : Node) where
   unfolding pairs
   pairs-none p h = let none : length x - p ≡ 0 = omega arith in rw none
 
-  pairs-all : (L : Legs) → cheapest (cost L) x (pairs x 0) ≡ bestExchange L (λ y. true) x
+  pairs-all : (L : Legs) → cheapest (cost L) x (pairs x 0) ≡ bestExchange L anyNode x
   unfolding pairs behind exchanges bestExchange
-  pairs-all L = let all : length x - 0 ≡ length x = omega arith in rw (all, keep-all (λ y. true) (exchanges x) (λ y m. tt))
+  pairs-all L = let all : length x - 0 ≡ length x = omega arith in rw (all, keep-all anyNode (exchanges x) (λ y m. tt))
 
 module _ {L : Legs} {x : Node} where
   pub behind-starts : (p : ℕ) {e : Exchange} → Makes L x e (made x e) → Trying L x (behind x p (p + 1)) (bestBehind L x p e) e
   behind-starts p m = record { found = m; best = rw (add-one p) }
 
-  -- the exchange of the first place with itself leaves x as it is
+  -- the exchange of the first position with itself leaves x as it is
   pub pairs-start :
-      (own : ℕ) → own ≡ cost L x → 0 < length x → Trying L x (pairs x 0) (bestExchange L (λ y. true) x) (record { cost = own; p = 0; q = 0 })
+      (own : ℕ) → own ≡ cost L x → 0 < length x → Trying L x (pairs x 0) (bestExchange L anyNode x) (record { cost = own; p = 0; q = 0 })
   pairs-start own costs some = record {
     found = record { first = some; second = some; makes = refl; costs = rw (exchanged-self x 0) costs };
     best = rw (exchanged-self x 0) (pairs-all x L);
@@ -109,36 +109,36 @@ module _ {L : Legs} {x y : Node} {e : Exchange} where
   pairs-end p t h = none-left (rw (pairs-none x p h) at t)
 
 pub record Improving (rows : List (List ℕ)) (x₀ x : Node) (own : ℕ) (e : Exchange) : Type 0 where
-  pub flyable : Flyable rows x
+  pub reckonable : Reckonable rows x
   pub long : length x ≡ length x₀
   pub costs : own ≡ cost (legs rows) x
-  pub found : Makes (legs rows) x e (bestExchange (legs rows) (λ y. true) x)
-  pub same : improved (legs rows) (λ y. true) x ≡ improved (legs rows) (λ y. true) x₀
+  pub found : Makes (legs rows) x e (bestExchange (legs rows) anyNode x)
+  pub same : improved (legs rows) anyNode x ≡ improved (legs rows) anyNode x₀
 
 pub improving-starts :
-    {rows : List (List ℕ)} {x : Node} {own : ℕ} {e : Exchange} → Flyable rows x → own ≡ cost (legs rows) x
-    → Makes (legs rows) x e (bestExchange (legs rows) (λ y. true) x) → Improving rows x x own e
-improving-starts f costs m = record { flyable = f; long = refl; costs = costs; found = m; same = refl }
+    {rows : List (List ℕ)} {x : Node} {own : ℕ} {e : Exchange} → Reckonable rows x → own ≡ cost (legs rows) x
+    → Makes (legs rows) x e (bestExchange (legs rows) anyNode x) → Improving rows x x own e
+improving-starts f costs m = record { reckonable = f; long = refl; costs = costs; found = m; same = refl }
 
 module _ {rows : List (List ℕ)} {x₀ x : Node} {own : ℕ} {e : Exchange} (i : Improving rows x₀ x own e) where
   -- what is asked where the best exchange of the order that e makes is looked for
-  pub improving-asks : Flyable rows (made x e) × ((0 < length (made x e)) × (e .cost ≡ cost (legs rows) (made x e)))
+  pub improving-asks : Reckonable rows (made x e) × ((0 < length (made x e)) × (e .cost ≡ cost (legs rows) (made x e)))
   improving-asks = (
-    exchanged-flyable (i .flyable) (e .p) (e .q) (i .found .first) (i .found .second),
+    exchanged-reckonable (i .reckonable) (e .p) (e .q) (i .found .first) (i .found .second),
     (omega (arith, exchanged-length x (e .p) (e .q), i .found .first), rw (i .found .makes) (i .found .costs)),
   )
 
   pub improving-again :
-      (x′ : Node) (r : Exchange) → x′ ≡ made x e → Makes (legs rows) (made x e) r (bestExchange (legs rows) (λ y. true) (made x e))
+      (x′ : Node) (r : Exchange) → x′ ≡ made x e → Makes (legs rows) (made x e) r (bestExchange (legs rows) anyNode (made x e))
       → e .cost < own → Improving rows x₀ x′ (e .cost) r
   improving-again x′ r is m less = rw is (record {
-    flyable = improving-asks .0;
+    reckonable = improving-asks .0;
     long = exchanged-length x (e .p) (e .q) ∙ i .long;
     costs = improving-asks .1 .1;
     found = m;
     same =
-        rw (i .found .makes) (sym (improved-goes-on (legs rows) (λ y. true) x (omega (arith, i .costs, i .found .costs))) ∙ i .same);
+        rw (i .found .makes) (sym (improved-goes-on (legs rows) anyNode x (omega (arith, i .costs, i .found .costs))) ∙ i .same);
   })
 
-  pub improving-ends : own ≤ e .cost → x ≡ improved (legs rows) (λ y. true) x₀
-  improving-ends done = sym (improved-stays (legs rows) (λ y. true) x (omega (arith, i .costs, i .found .costs))) ∙ i .same
+  pub improving-ends : own ≤ e .cost → x ≡ improved (legs rows) anyNode x₀
+  improving-ends done = sym (improved-stays (legs rows) anyNode x (omega (arith, i .costs, i .found .costs))) ∙ i .same

@@ -3,23 +3,22 @@
 --   refused-first   a refusal is the answer where one of causes 1 to 3 applies
 --   made-first      where none does, the order that was made, with zeros behind it, and its cost are
 --   zeros-front     the part of the answer's places that is lent for the order has n
-use mathlib.Core.Path.{_≡_, refl, ap, sym, subst, _∙_}
-use mathlib.Core.Bool.{true}
-use mathlib.Core.List.{List, [], _++_}
+use mathlib.Core.Path.{_≡_, refl, ap, sym, _∙_}
+use mathlib.Core.List.{List, _++_}
 use mathlib.Core.Logic.{_≢_}
-use Prim.Native.Nat.{ℕ, zero, suc, _-_, _≤_, _<_}
+use Prim.Native.Nat.{ℕ, zero, suc, _≤_, _<_}
 use native.Mathlib.Omega.{arith}
 use lib.ListN.{length, take, drop, replicate, length-take}
 use Rattle.sizes.specs.Sizes.{mostStops, orderPlaces}
-use Rattle.lists.specs.Lists.{padded}
+use Rattle.lists.proofs.Padded.{append-zeros}
 use Rattle.orders.specs.Orders.{Order}
 use Rattle.orders.proofs.Order.{order-partial, order-length}
 use Rattle.stops.specs.Tables.{rows}
 use Rattle.stops.specs.Legs.{legs, cost}
-use Rattle.stops.specs.Code.{Cheap, Flyable}
-use Rattle.stops.proofs.Paths.{partial-flyable}
+use Rattle.stops.specs.Code.{Cheap, Reckonable}
+use Rattle.stops.proofs.Paths.{partial-reckonable}
 use Rattle.answer.specs.Checks.{tableCause}
-use Rattle.first_answer.specs.Nearest.{nearest}
+use Rattle.first_answer.specs.Nearest.{anyNode, nearest}
 use Rattle.first_answer.specs.Exchanges.{improved}
 use Rattle.first_answer.specs.First.{legsOf, nearestOf, firstOf, respond, firstAnswer}
 use Rattle.first_answer.specs.declared.FirstOrder.{FirstOrder}
@@ -27,16 +26,10 @@ use Rattle.first_answer.proofs.NearestOrder.{nearest-free}
 use Rattle.first_answer.proofs.First.{firstOf-order}
 
 pub nearest-asks :
-    {t : List (List ℕ)} {n : ℕ} (x : List ℕ) → Cheap t → 1 ≤ n → n ≤ mostStops → x ≡ nearest n (legs t) (λ y. true) → Flyable t x × (0 < length x)
+    {t : List (List ℕ)} {n : ℕ} (x : List ℕ) → Cheap t → 1 ≤ n → n ≤ mostStops → x ≡ nearest n (legs t) anyNode → Reckonable t x × (0 < length x)
 nearest-asks {t} {n} x cheap some few e =
-    let o : Order n (nearest n (legs t) (λ y. true)) = nearest-free n (legs t) (λ y. true) (λ y. tt) in
-    (rw e (partial-flyable few cheap (order-partial n (nearest n (legs t) (λ y. true)) o)), omega (arith, ap length e, order-length n (nearest n (legs t) (λ y. true)) o))
-
--- equal elements, but for the first n
-drop-replicate : (a n m : ℕ) → drop n (replicate m a) ≡ replicate (m - n) a
-drop-replicate a zero m = let e : m ≡ m - 0 = omega arith in ap (λ (k : ℕ). replicate k a) e
-drop-replicate a (suc n) zero = let e : 0 - suc n ≡ 0 = omega arith in rw e
-drop-replicate a (suc n) (suc m) = let e : suc m - suc n ≡ m - n = omega arith in rw e (drop-replicate a n m)
+    let o : Order n (nearest n (legs t) anyNode) = nearest-free n (legs t) anyNode (λ y. tt) in
+    (rw e (partial-reckonable few cheap (order-partial n (nearest n (legs t) anyNode) o)), omega (arith, ap length e, order-length n (nearest n (legs t) anyNode) o))
 
 -- as many zeros as an order has places
 unfoldable pub zeros : List ℕ
@@ -58,11 +51,10 @@ module _ (n : ℕ) (table : List ℕ) (k : ℕ) (e : k ≡ tableCause n table 0)
 
   pub made-first :
       k ≡ 0 → {t : List (List ℕ)} {j : ℕ} (x : List ℕ) {v : ℕ} → t ≡ rows n table → n ≡ j
-      → x ≡ improved (legs t) (λ y. true) (nearest j (legs t) (λ y. true)) → v ≡ cost (legs t) x
+      → x ≡ improved (legs t) anyNode (nearest j (legs t) anyNode) → v ≡ cost (legs t) x
       → _≡_ {A = FirstOrder} (record { number = 0; cost = v; order = x ++ drop n zeros }) (firstAnswer n table)
-  unfolding firstAnswer respond legsOf nearestOf firstOf padded zeros
+  unfolding firstAnswer respond legsOf nearestOf firstOf zeros
   made-first none x loaded lent made costs =
       let first : x ≡ firstOf n table = made ∙ rw (loaded, ← lent) in
       let long : length (firstOf n table) ≡ n = order-length n (firstOf n table) (firstOf-order n table) in
-      let behind : drop n zeros ≡ replicate (orderPlaces - length (firstOf n table)) 0 = drop-replicate 0 n orderPlaces ∙ rw long in
-      rw (costs, first, loaded, behind) (ap (respond n table) (sym none ∙ e))
+      rw (costs, first, loaded, append-zeros orderPlaces n (firstOf n table) long) (ap (respond n table) (sym none ∙ e))

@@ -1,7 +1,6 @@
 -- What the loops of the nearest-stop order need.
 --   Found, found-starts, found-again, found-ends    a loop that looks for the nearest stop of a set
 --   nearestIn-in, nearestIn-next    the nearest of some stops is one of them, and it is the next that a node flies
---   all-small, all-left             the set of all n stops is small as a word, and is what e leaves
 --   Underway, underway-starts, underway-again, underway-ends    a loop that flies from a stop to the nearest of those left
 --   underway-some, underway-stop    a stop is left until all are flown, and the nearest is one of those left
 use mathlib.Core.Path.{_≡_, refl, ap, sym, _∙_}
@@ -12,16 +11,15 @@ use Prim.Native.Nat.{ℕ, suc, _+_, _-_, _^_, _≤_, _<_}
 use native.Mathlib.Omega.{arith}
 use lib.Dec.{T}
 use lib.ListN.{length}
-use lib.Pow.{pow-pos, pow-mono}
 use Rattle.sizes.specs.Sizes.{mostStops}
 use Rattle.lists.specs.Lists.{In, without}
 use Rattle.lists.proofs.Tests.{ordered}
 use Rattle.lists.proofs.Distinct.{length-without}
-use Rattle.orders.specs.Orders.{Node, flown, setOf, left, mask, last, size, extend}
+use Rattle.orders.specs.Orders.{Node, left, last, size, extend}
 use Rattle.orders.proofs.Sets.{empty-set, size-left, last-extend, left-extend}
 use Rattle.stops.specs.Legs.{Legs}
 use Rattle.stops.specs.Code.{stopsIn}
-use Rattle.stops.proofs.SetBits.{stopsIn-zero, stopsIn-range, stopsIn-distinct, stopsIn-without, stopsIn-others}
+use Rattle.stops.proofs.SetBits.{stopsIn-zero, stopsIn-range, stopsIn-distinct, stopsIn-without, all-small, stopsIn-all}
 use Rattle.stops.proofs.SetLoops.{First}
 use Rattle.first_answer.specs.Nearest.{cheapest, toNearest, onward, nearest}
 use Rattle.first_answer.proofs.Cheapest.{cheapest-in}
@@ -76,26 +74,15 @@ pub record Underway (n : ℕ) (L : Legs) (allowed : Node → Bool) (x : Node) (k
   pub many : k + length (stopsIn rest) ≡ n
   pub same : onward n L allowed (length (stopsIn rest)) x ≡ nearest n L allowed
 
--- the set of all stops: as a word it is one less than 2 to the power n
-pub all-small : (n : ℕ) → n ≤ mostStops → (1 ≤ 2 ^ n) × (2 ^ n ≤ 2 ^ mostStops)
-all-small n few = (pow-pos n, pow-mono {i = n} {j = mostStops} few)
-
-all-left : (n : ℕ) → n ≤ mostStops → stopsIn (2 ^ n - 1) ≡ left n []
-unfolding setOf left mask
-all-left n few =
-    let none : mask (setOf n []) ≡ 0 = ap mask (empty-set n) in
-    let all : 2 ^ n - 1 ≡ 2 ^ n - 1 - mask (setOf n []) = omega arith in
-    ap stopsIn all ∙ stopsIn-others (flown []) n few
-
 pub underway-starts : (n : ℕ) (L : Legs) (allowed : Node → Bool) → n ≤ mostStops → Underway n L allowed [] 0 0 (2 ^ n - 1)
 unfolding last size nearest
 underway-starts n L allowed few =
-    let many : length (stopsIn (2 ^ n - 1)) ≡ n = omega (arith, ap length (all-left n few), size-left n [], ap length (empty-set n)) in
+    let many : length (stopsIn (2 ^ n - 1)) ≡ n = omega (arith, ap length (stopsIn-all n few), size-left n [], ap length (empty-set n)) in
     record {
       at = refl;
       inside = omega arith;
       small = omega (arith, all-small n few);
-      leaves = all-left n few;
+      leaves = stopsIn-all n few;
       many = omega arith;
       same = ap (λ (k : ℕ). onward n L allowed k []) many;
     }

@@ -4,19 +4,17 @@
 --   made x e             what the exchange e makes of the order x
 --   Makes L x e y        e is an exchange of two stops of x; it makes y, and has y's cost
 --   better a b           of two exchanges the one of lower cost, the first of equals
---   behind x p q         what is made of x by the exchanges of place p with each place from q on
---   bestBehind L x p e   the cheapest of what is made of x by e and by the exchanges of place p with the places behind it
+--   bestBehind L x p e   the cheapest of what is made of x by e and by the exchanges of position p with the positions behind it
 use mathlib.Core.Path.{_≡_}
 use mathlib.Core.Bool.{cond}
-use mathlib.Core.List.{List, [], _∷_, map}
-use Prim.Native.Nat.{ℕ, suc, _-_, _<_}
+use mathlib.Core.List.{List, [], _∷_}
+use Prim.Native.Nat.{ℕ, suc, _<_}
 use lib.Dec.{ltb}
 use lib.ListN.{length}
-use Rattle.lists.specs.Lists.{from}
 use Rattle.orders.specs.Orders.{Node}
 use Rattle.stops.specs.Legs.{Legs, cost}
 use Rattle.first_answer.specs.Nearest.{cheapest}
-use Rattle.first_answer.specs.Exchanges.{exchanged}
+use Rattle.first_answer.specs.Exchanges.{exchanged, behind}
 use Rattle.first_order.specs.declared.exchange.Exchange.{Exchange}
 
 abbrev pub nearestIn : (ℕ → ℕ) → List ℕ → ℕ
@@ -34,9 +32,6 @@ pub record Makes (L : Legs) (x : Node) (e : Exchange) (y : Node) : Type 0 where
 
 abbrev pub better : Exchange → Exchange → Exchange
 better a b = cond (ltb (b .cost) (a .cost)) b a
-
-unfoldable pub behind : Node → ℕ → ℕ → List Node
-behind x p q = map (exchanged x p) (from q (length x - q))
 
 abbrev pub bestBehind : Legs → Node → ℕ → Exchange → Node
 bestBehind L x p e = cheapest (cost L) (made x e) (behind x p (suc p))

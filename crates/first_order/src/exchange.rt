@@ -1,23 +1,23 @@
 // An order made cheaper by exchanges of two of its stops.
 ghost use mathlib.Core.Path.{_≡_};
-ghost use mathlib.Core.Bool.{true};
 ghost use Prim.Native.Nat.{_<_};
 ghost use lib.ListN.{length};
 ghost use Rattle.stops.specs.Legs.{legs, cost};
-ghost use Rattle.stops.specs.Code.{Flyable};
+ghost use Rattle.stops.specs.Code.{Reckonable};
+ghost use Rattle.first_answer.specs.Nearest.{anyNode};
 ghost use Rattle.first_answer.specs.Exchanges.{exchanged, bestExchange, improved};
 ghost use Rattle.first_order.specs.Code.{made, Makes, better, bestBehind};
 use stops::cost::order_cost;
 use stops::table::Rows;
 
-// Two places of an order, and what it costs once their stops are exchanged.
+// Two positions of an order, and what it costs once their stops are exchanged.
 struct Exchange {
     cost: u32,
     p: usize,
     q: usize,
 }
 
-// Exchanges the stops at two places.
+// Exchanges the stops at two positions.
 fn exchange_stops(x: &mut [u8], p: usize, q: usize)
     requires { ⌜ (p < length (now x)) × (q < length (now x)) ⌝ }
     ensures { λ u. ⌜ now (x .exit) ≡ exchanged (now (x .entry)) p q ⌝ }
@@ -27,9 +27,9 @@ fn exchange_stops(x: &mut [u8], p: usize, q: usize)
     x[q] = held;
 }
 
-// What an order costs once the stops at two places are exchanged. The order is left as it was.
+// What an order costs once the stops at two positions are exchanged. The order is left as it was.
 fn exchange_cost(t: &Rows, x: &mut [u8], p: usize, q: usize) -> u32
-    requires { ⌜ Flyable (now t) (now x) × ((p < length (now x)) × (q < length (now x))) ⌝ }
+    requires { ⌜ Reckonable (now t) (now x) × ((p < length (now x)) × (q < length (now x))) ⌝ }
     ensures { λ r. ⌜ (r ≡ cost (legs (now (t .entry))) (exchanged (now (x .entry)) p q)) × (now (x .exit) ≡ now (x .entry)) ⌝ }
 {
     exchange_stops(x, p, q);
@@ -45,9 +45,9 @@ fn better(a: Exchange, b: Exchange) -> Exchange
     if b.cost < a.cost { b } else { a }
 }
 
-// The best of an exchange and of those of place p with the places behind it.
+// The best of an exchange and of those of position p with the positions behind it.
 fn best_with(t: &Rows, x: &mut [u8], p: usize, best: Exchange) -> Exchange
-    requires { ⌜ Flyable (now t) (now x) × ((p < length (now x)) × Makes (legs (now t)) (now x) best (made (now x) best)) ⌝ }
+    requires { ⌜ Reckonable (now t) (now x) × ((p < length (now x)) × Makes (legs (now t)) (now x) best (made (now x) best)) ⌝ }
     ensures { λ r. ⌜ (now (x .exit) ≡ now (x .entry)) × Makes (legs (now (t .entry))) (now (x .entry)) r (bestBehind (legs (now (t .entry))) (now (x .entry)) p best) ⌝ }
 {
     let mut found = best;
@@ -62,8 +62,8 @@ fn best_with(t: &Rows, x: &mut [u8], p: usize, best: Exchange) -> Exchange
 
 // The exchange that lowers the cost of an order most; of its first stop with itself if none lowers it. The order is left as it was.
 fn best_exchange(t: &Rows, x: &mut [u8], own: u32) -> Exchange
-    requires { ⌜ Flyable (now t) (now x) × ((0 < length (now x)) × (own ≡ cost (legs (now t)) (now x))) ⌝ }
-    ensures { λ r. ⌜ (now (x .exit) ≡ now (x .entry)) × Makes (legs (now (t .entry))) (now (x .entry)) r (bestExchange (legs (now (t .entry))) (λ y. true) (now (x .entry))) ⌝ }
+    requires { ⌜ Reckonable (now t) (now x) × ((0 < length (now x)) × (own ≡ cost (legs (now t)) (now x))) ⌝ }
+    ensures { λ r. ⌜ (now (x .exit) ≡ now (x .entry)) × Makes (legs (now (t .entry))) (now (x .entry)) r (bestExchange (legs (now (t .entry))) anyNode (now (x .entry))) ⌝ }
 {
     let mut found = Exchange {
         cost: own,
@@ -80,8 +80,8 @@ fn best_exchange(t: &Rows, x: &mut [u8], own: u32) -> Exchange
 
 // Makes exchanges as long as one lowers the cost, each time the one that lowers it most. Returns the cost that is left.
 pub fn improve(t: &Rows, x: &mut [u8]) -> u32
-    requires { ⌜ Flyable (now t) (now x) × (0 < length (now x)) ⌝ }
-    ensures { λ r. ⌜ (now (x .exit) ≡ improved (legs (now (t .entry))) (λ y. true) (now (x .entry))) × (r ≡ cost (legs (now (t .entry))) (now (x .exit))) ⌝ }
+    requires { ⌜ Reckonable (now t) (now x) × (0 < length (now x)) ⌝ }
+    ensures { λ r. ⌜ (now (x .exit) ≡ improved (legs (now (t .entry))) anyNode (now (x .entry))) × (r ≡ cost (legs (now (t .entry))) (now (x .exit))) ⌝ }
 {
     let mut cost = order_cost(t, x);
     let mut found = best_exchange(t, x, cost);

@@ -1,13 +1,12 @@
 // A first order for a host (request A.1): `first_order` is open to a caller. The functions of `nearest` and `exchange` are this crate's own, and
 // what they require `first_order` meets. specs/First of crate `first_answer` says what it answers; specs/Code is the code's own.
 ghost use mathlib.Core.Path.{_≡_};
-ghost use mathlib.Core.Bool.{true};
 ghost use Prim.Native.Nat.{_≤_};
 ghost use lib.ListN.{length};
 ghost use Rattle.sizes.specs.Sizes.{mostStops};
 ghost use Rattle.stops.specs.Legs.{legs, cost};
 ghost use Rattle.stops.specs.Code.{Cheap};
-ghost use Rattle.first_answer.specs.Nearest.{nearest};
+ghost use Rattle.first_answer.specs.Nearest.{anyNode, nearest};
 ghost use Rattle.first_answer.specs.Exchanges.{improved};
 ghost use Rattle.first_answer.specs.First.{Promised};
 
@@ -25,7 +24,7 @@ use stops::table::rows;
 // Writes the first order of as many stops as x has places, and returns its cost.
 fn make(t: &Rows, x: &mut [u8]) -> u32
     requires { ⌜ Cheap (now t) × ((1 ≤ length (now x)) × (length (now x) ≤ mostStops)) ⌝ }
-    ensures { λ r. ⌜ (now (x .exit) ≡ improved (legs (now (t .entry))) (λ y. true) (nearest (length (now (x .entry))) (legs (now (t .entry))) (λ y. true))) × (r ≡ cost (legs (now (t .entry))) (now (x .exit))) ⌝ }
+    ensures { λ r. ⌜ (now (x .exit) ≡ improved (legs (now (t .entry))) anyNode (nearest (length (now (x .entry))) (legs (now (t .entry))) anyNode)) × (r ≡ cost (legs (now (t .entry))) (now (x .exit))) ⌝ }
 {
     nearest_order(t, x);
     improve(t, x)

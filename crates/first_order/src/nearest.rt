@@ -1,13 +1,12 @@
 // The nearest-stop order. A set of stops is a word: bit s-1 is stop s's.
 ghost use mathlib.Core.Path.{_≡_};
-ghost use mathlib.Core.Bool.{true};
 ghost use mathlib.Core.List.{[], _∷_};
 ghost use Prim.Native.Nat.{_^_, _≤_, _<_};
 ghost use lib.ListN.{length};
 ghost use Rattle.sizes.specs.Sizes.{mostStops};
 ghost use Rattle.stops.specs.Legs.{legs};
 ghost use Rattle.stops.specs.Code.{stopsIn};
-ghost use Rattle.first_answer.specs.Nearest.{nearest};
+ghost use Rattle.first_answer.specs.Nearest.{anyNode, nearest};
 ghost use Rattle.first_order.specs.Code.{nearestIn};
 use stops::bound::later;
 use stops::bound::next;
@@ -45,7 +44,7 @@ fn nearest_stop(t: &Rows, place: u32, rest: u32) -> u32
 // Writes the nearest-stop order of as many stops as x has places.
 pub fn nearest_order(t: &Rows, x: &mut [u8])
     requires { ⌜ length (now x) ≤ mostStops ⌝ }
-    ensures { λ u. ⌜ now (x .exit) ≡ nearest (length (now (x .entry))) (legs (now (t .entry))) (λ y. true) ⌝ }
+    ensures { λ u. ⌜ now (x .exit) ≡ nearest (length (now (x .entry))) (legs (now (t .entry))) anyNode ⌝ }
 {
     let mut rest = (1u32 << x.len()) - 1;
     let mut place = 0;

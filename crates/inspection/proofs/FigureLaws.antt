@@ -1,29 +1,28 @@
 -- The figures of a record: what the checks that a job passes say of its table, and the bound from the set of a node's record.
 use mathlib.Core.Path.{_≡_, refl, sym, _∙_}
-use mathlib.Core.Bool.{Bool, true, false, not, _||_}
+use mathlib.Core.Bool.{Bool, true, false}
 use mathlib.Core.List.{List, []}
 use mathlib.Core.Logic.{_≢_}
 use Prim.Native.Nat.{ℕ, zero, suc, _+_, _*_, _-_, _^_, _%_, _≤_}
 use native.Mathlib.Nat.{mod-eq-of-lt}
 use native.Mathlib.Omega.{arith}
-use lib.Dec.{T, ltb, eqb, nltb→le, eqb→eq, T-not, not-T}
+use lib.Dec.{T}
 use lib.ListN.{length}
-use lib.Pow.{pow-mono}
-use Rattle.sizes.specs.Sizes.{mostStops, dearest}
-use Rattle.lists.specs.Lists.{any, from}
-use Rattle.lists.proofs.Tests.{to-true, not-either, twice-not}
-use Rattle.lists.proofs.Members.{in-any}
+use Rattle.sizes.specs.Sizes.{mostStops}
+use Rattle.lists.proofs.Tests.{to-true}
 use Rattle.orders.specs.Orders.{size}
 use Rattle.orders.proofs.Sets.{size-left}
-use Rattle.stops.specs.Tables.{entry, rows}
+use Rattle.stops.specs.Tables.{rows}
 use Rattle.stops.specs.Stops.{dayOn}
 use Rattle.stops.specs.Code.{stopsIn, reckonOn, Cheap}
 use Rattle.stops.specs.declared.node_record.Record.{Record}
+use Rattle.stops.proofs.SetBits.{all-small}
 use Rattle.stops.proofs.LegTable.{rows-cheap}
 use Rattle.stops.proofs.StopsWalk.{rows-walk}
 use Rattle.records.proofs.Mask.{mask-stops, rest-left}
-use Rattle.answer.specs.Checks.{cause₁, cause₂, cause₃, cause₄, cause₅, orLater, tableCause, jobCause}
+use Rattle.answer.specs.Checks.{jobCause}
 use Rattle.answer.specs.declared.Job.{Job}
+use Rattle.answer.proofs.Passes.{JobPasses, job-passed}
 use Rattle.inspection.specs.Code.{ofFour}
 use Rattle.node_answers.specs.Nodes.{flownStops, isRecordOf, isNode}
 use Rattle.node_answers.specs.Answers.{isInside, recordAt, found, noFigures, figuresBy, figures}
@@ -31,50 +30,26 @@ use Rattle.node_answers.specs.declared.Found.{Found}
 use Rattle.node_answers.proofs.NodeLaws.{NodeRecord, node-record}
 
 -- What the checks of a job let pass.
-none-apply :
-    (a b c d : Bool) (later : ℕ) → orLater a 1 (orLater b 2 (orLater c 3 (orLater d 4 later))) ≡ 0
-    → T (not a) × T (not b) × T (not c) × T (not d)
-none-apply true b c d later e = absurd (omega arith)
-none-apply false true c d later e = absurd (omega arith)
-none-apply false false true d later e = absurd (omega arith)
-none-apply false false false true later e = absurd (omega arith)
-none-apply false false false false later e = (tt, tt, tt, tt)
-
 module _ (job : Job) (table : List ℕ) (none : jobCause job table [] 0 ≡ 0) where
-  abbrev n : ℕ
-  n = job .n
-
-  passed : T (not (cause₁ n)) × T (not (cause₂ n table)) × T (not (cause₃ n table)) × T (not (cause₄ job))
-  unfolding tableCause jobCause
-  passed = none-apply (cause₁ n) (cause₂ n table) (cause₃ n table) (cause₄ job) (orLater (cause₅ n []) 5 0) none
+  passed : JobPasses job table []
+  passed = job-passed job table [] 0 none .0
 
   pub job-few : job .n ≤ mostStops
-  unfolding cause₁
-  job-few = nltb→le mostStops n (not-either (eqb n 0) (ltb mostStops n) (passed .0) .1)
+  job-few = passed .legs .few
 
   pub job-square : length table ≡ suc (job .n) * suc (job .n)
-  unfolding cause₂
-  job-square =
-      let area : ℕ = suc n * suc n in
-      eqb→eq (length table) area (twice-not (eqb (length table) area) (passed .1))
+  job-square = passed .legs .square
 
   pub job-cheap : Cheap (rows (job .n) table)
-  unfolding cause₃
-  job-cheap =
-      let cheap : T (not (any (ltb dearest) table)) =
-      not-either (any (ltb dearest) table) (any (λ i. not (eqb (entry n table i i) 0)) (from 0 (suc n))) (passed .2) .0 in
-      rows-cheap n table
-      (λ w m. nltb→le dearest w (not-T (ltb dearest w) (λ h. T-not (any (ltb dearest) table) cheap (in-any (ltb dearest) table w m h))))
+  job-cheap = rows-cheap (job .n) table (passed .legs .cheap)
 
   pub job-bound : job .bound ≤ 1
-  unfolding cause₄
-  job-bound = nltb→le 1 (job .bound) (not-either (ltb 3 (job .selection) || ltb 15 (job .rules)) (ltb 1 (job .bound)) (passed .3) .1)
+  job-bound = passed .bound
 
 -- all stops of n, and one more, as a shift gives it
 pub one-shifted : (n : ℕ) → n ≤ mostStops → (1 * 2 ^ n) % 4_294_967_296 ≡ 2 ^ n
 one-shifted n few =
-    let k : 2 ^ n ≤ 2 ^ mostStops = pow-mono {i = n} {j = mostStops} few in
-    mod-eq-of-lt {n = 1 * 2 ^ n} (omega arith) ∙ (let e : 1 * 2 ^ n ≡ 2 ^ n = omega arith in e)
+    mod-eq-of-lt {n = 1 * 2 ^ n} (omega (arith, all-small n few)) ∙ (let e : 1 * 2 ^ n ≡ 2 ^ n = omega arith in e)
 
 module _ (n : ℕ) (x : Record) (node : T (isNode n x)) where
   abbrev q : NodeRecord n x (flownStops x)

@@ -37,12 +37,12 @@ order-short n x h (inr o) = (omega (arith, order-length n x o), λ b m. omega (a
 pub passed : (c : Contents) → Passes c → Passed c
 passed c e =
     let p = job-passed (c .job) (c .table) (c .start) 0 e .0 in
-    let order = order-short (c .job .n) (c .start) (p .few) (p .start) in
+    let order = order-short (c .job .n) (c .start) (p .legs .few) (p .start) in
     record {
-      some = p .some;
-      few = p .few;
-      square = p .square;
-      cheap = p .cheap;
+      some = p .legs .some;
+      few = p .legs .few;
+      square = p .legs .square;
+      cheap = p .legs .cheap;
       selection = p .selection;
       rules = p .rules;
       bound = p .bound;

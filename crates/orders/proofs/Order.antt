@@ -98,21 +98,17 @@ module _ (x y : Node) (same : (s : ℕ) → count s y ≡ count s x) where
     every = λ s h k. count-in y s (omega (arith, same s, in-count x s (o .every s h k)));
   }
 
--- 1 where a test passed
-abbrev pub one : Bool → ℕ
-one true = 1
-one false = 0
-
-count-first : (s r : ℕ) (x : Node) → count s (r ∷ x) ≡ one (eqb s r) + count s x
+-- a stop stands in a list as often as in its first element and in the rest
+count-first : (s r : ℕ) (x : Node) → count s (r ∷ x) ≡ count s (r ∷ []) + count s x
 unfolding count
 count-first s r x = go (eqb s r)
   where
-    go : (b : Bool) → length (put b r (keep (eqb s) x)) ≡ one b + length (keep (eqb s) x)
+    go : (b : Bool) → length (put b r (keep (eqb s) x)) ≡ length (put b r []) + length (keep (eqb s) x)
     go true = omega arith
     go false = omega arith
 
 pub count-set :
-    (s v : ℕ) (x : Node) (i : ℕ) → i < length x → count s (set x i v) + one (eqb s (getD x i 0)) ≡ count s x + one (eqb s v)
+    (s v : ℕ) (x : Node) (i : ℕ) → i < length x → count s (set x i v) + count s (getD x i 0 ∷ []) ≡ count s x + count s (v ∷ [])
 count-set s v [] i h = absurd (omega arith)
 count-set s v (r ∷ x) zero h = omega (arith, count-first s r x, count-first s v x)
 count-set s v (r ∷ x) (suc i) h = omega (arith, count-first s r x, count-first s r (set x i v), count-set s v x i (omega arith))

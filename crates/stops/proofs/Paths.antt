@@ -2,7 +2,7 @@
 --   path-extend               what one more stop does to one
 --   path-small, cost-small    how large path cost and cost can be where no leg is above m (`Within`)
 --   Spent, spent-none, spent-more, spent-whole    the cost of an order, added up leg by leg
---   partial-flyable           what adding it up asks (`Flyable`) holds of partial orders
+--   partial-reckonable           what adding it up asks (`Reckonable`) holds of partial orders
 use mathlib.Core.Path.{_≡_}
 use mathlib.Core.List.{List, [], _∷_, _++_}
 use Prim.Native.Nat.{ℕ, suc, _+_, _*_, _≤_, _<_}
@@ -15,7 +15,7 @@ use Rattle.orders.specs.Orders.{Node, lastFrom, last, extend, Partial}
 use Rattle.orders.proofs.Sets.{size-left}
 use Rattle.orders.proofs.Partial.{partial-size}
 use Rattle.stops.specs.Legs.{Legs, pathFrom, path, cost}
-use Rattle.stops.specs.Code.{Within, Cheap, Flyable}
+use Rattle.stops.specs.Code.{Within, Cheap, Reckonable}
 use Rattle.stops.specs.Examples
 
 module _ (L : Legs) where
@@ -59,8 +59,8 @@ module _ {L : Legs} {x : Node} where
     pub spent-whole : length x ≤ k → spent + L .home place ≡ cost L x
     spent-whole i = omega (arith, rw (drop-of-length-le x i) at (h .same))
 
-pub partial-flyable : {n : ℕ} {rows : List (List ℕ)} {x : Node} → n ≤ mostStops → Cheap rows → Partial n x → Flyable rows x
-partial-flyable {n} {x = x} h cheap p = record {
+pub partial-reckonable : {n : ℕ} {rows : List (List ℕ)} {x : Node} → n ≤ mostStops → Cheap rows → Partial n x → Reckonable rows x
+partial-reckonable {n} {x = x} h cheap p = record {
   cheap = cheap;
   few = omega (arith, partial-size n x p, size-left n x);
   near = λ s m. omega (arith, p .only s m);

@@ -4,6 +4,7 @@
 --   stopsIn-without               taking 2 to the power s-1 off takes stop s out, and nothing else
 --   stopsIn-mask, mask-stopsIn, mask-small    the number of a set of stops (`mask`), and the way back
 --   mask-others, stopsIn-others   what is missing from the number of all n stops is the number of the other stops
+--   all-small, stopsIn-all        the number of all n stops, one less than 2 to the power n, is small; its stops are those that e leaves
 --   stopsIn-ones                  the digits that are set are as many as the stops
 -- Each is shown of `Digits`, by halving the number.
 use mathlib.Core.Path.{_≡_, refl, ap, _∙_, sym}
@@ -16,13 +17,15 @@ use native.Mathlib.Omega.{arith}
 use lib.Count.{trailingZeros, ones, ones-step}
 use lib.Dec.{eqb, eqb-refl}
 use lib.ListN.{length}
+use lib.Pow.{pow-pos, pow-mono}
 use Rattle.sizes.specs.Sizes.{mostStops}
 use Rattle.lists.specs.Lists.{In, put, keep, sum, from, without, Distinct, none, more}
 use Rattle.lists.proofs.Tests.{compared, to-true, to-false, ne-neqb}
 use Rattle.lists.proofs.Members.{in-head, in-keep, in-from}
 use Rattle.lists.proofs.Numbers.{sum-parts}
 use Rattle.lists.proofs.Distinct.{without-absent}
-use Rattle.orders.specs.Orders.{mask}
+use Rattle.orders.specs.Orders.{flown, setOf, left, mask}
+use Rattle.orders.proofs.Sets.{empty-set}
 use Rattle.stops.specs.Code.{bits, stopsIn}
 use Rattle.stops.specs.Examples
 
@@ -259,3 +262,13 @@ module _ (test : ℕ → Bool) (n : ℕ) where
 pub stopsIn-others :
     (test : ℕ → Bool) (n : ℕ) → n ≤ mostStops → stopsIn (2 ^ n - 1 - mask (keep test (from 1 n))) ≡ keep (λ s. not (test s)) (from 1 n)
 stopsIn-others test n f = ap stopsIn (mask-others test n) ∙ stopsIn-mask (λ s. not (test s)) n f
+
+pub all-small : (n : ℕ) → n ≤ mostStops → (1 ≤ 2 ^ n) × (2 ^ n ≤ 2 ^ mostStops)
+all-small n f = (pow-pos n, pow-mono {i = n} {j = mostStops} f)
+
+pub stopsIn-all : (n : ℕ) → n ≤ mostStops → stopsIn (2 ^ n - 1) ≡ left n []
+unfolding setOf left mask
+stopsIn-all n f =
+    let none : mask (setOf n []) ≡ 0 = ap mask (empty-set n) in
+    let all : 2 ^ n - 1 ≡ 2 ^ n - 1 - mask (setOf n []) = omega arith in
+    ap stopsIn all ∙ stopsIn-others (flown []) n f

@@ -7,7 +7,7 @@
 --   ahead k L place rest  what bound k adds to the path cost at a place, with the stops of rest to come
 --   reckonOn rows         the day of the planner's rows as a walk from stop to stop
 --   Cheap rows            no leg of theirs is above the dearest (Within m L: none is above m)
---   Flyable rows x        what `order_cost` asks, so that each leg of x is in the rows and their sum does not overflow
+--   Reckonable rows x        what `order_cost` asks, so that each leg of x is in the rows and their sum does not overflow
 --   rowOf n entries       a row of the planner's
 --   Wide x s leg          what `extended` asks, so that no word overflows
 --   emptyRecord           six zeros, e's record before it has a bound
@@ -92,7 +92,7 @@ abbrev pub Cheap : List (List ℕ) → Type 0
 Cheap rows = Within dearest (legs rows)
 
 -- each stop is a place of the rows, and few as they are, their legs fit a word
-pub record Flyable (rows : List (List ℕ)) (x : Node) : Type 0 where
+pub record Reckonable (rows : List (List ℕ)) (x : Node) : Type 0 where
   pub cheap : Cheap rows
   pub few : length x ≤ mostStops
   pub near : (s : ℕ) → In s x → s ≤ mostStops

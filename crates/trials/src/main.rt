@@ -45,6 +45,12 @@ struct Tally {
     sum: u64,
 }
 
+// The jobs without a starting order and with one that is drawn, and those from the unit's first order.
+struct Tallies {
+    typed: Tally,
+    first: Tally,
+}
+
 // A checksum with one number more.
 fn mixed(sum: u64, x: u64) -> u64 {
     (sum % 1_000_000_007 * 31 + x % 1_000_000_007) % 1_000_000_007
@@ -123,50 +129,56 @@ fn jobs(table: &[u32], n: usize, least: u64, start: &[u8], pool: &mut [u32], t: 
 }
 
 // The jobs over one table, without a starting order and with one.
-fn both(table: &[u32], n: usize, start: &[u8], pool: &mut [u32], t: Tally) -> Tally
-    requires { ⌜ (1 ≤ n) × (n ≤ 6) ⌝ }
+fn both(table: &[u32], n: usize, least: u64, start: &[u8], pool: &mut [u32], t: Tally) -> Tally
+    requires { ⌜ n ≤ mostStops ⌝ }
 {
-    let cost = least(table, n);
-    let without = jobs(table, n, cost, &start[..0], pool, t);
-    jobs(table, n, cost, start, pool, without)
+    let without = jobs(table, n, least, &start[..0], pool, t);
+    jobs(table, n, least, start, pool, without)
 }
 
 // The jobs over one table from the unit's first order, if that is right.
-fn from_first(table: &[u32], n: usize, pool: &mut [u32], t: Tally) -> Tally
-    requires { ⌜ (1 ≤ n) × (n ≤ 6) ⌝ }
+fn from_first(table: &[u32], n: usize, least: u64, pool: &mut [u32], t: Tally) -> Tally
+    requires { ⌜ n ≤ mostStops ⌝ }
 {
-    let cost = least(table, n);
     let first = first_order(n as u32, table);
-    if !first_right(table, n, cost, first) {
+    if !first_right(table, n, least, first) {
         return counted(t, Verdict::Differs, t.sum);
     }
     let start = first.order;
-    jobs(table, n, cost, &start[..n], pool, t)
+    jobs(table, n, least, &start[..n], pool, t)
 }
 
-// The jobs over table k: from the unit's first order, or without a starting order and from another.
-fn trial(k: u64, first: bool, pool: &mut [u32], t: Tally) -> Tally {
+// The jobs over table k, each kind behind those over the tables before it.
+fn trial(k: u64, pool: &mut [u32], t: Tallies) -> Tallies {
     let n = stops_in(k);
     let size = size_of(n);
     let table = table_of(k, n);
-    if first {
-        return from_first(&table[..size], n, pool, t);
-    }
     let start = order_of(n, next(k));
-    both(&table[..size], n, &start[..n], pool, t)
+    let cost = least(&table[..size], n);
+    let typed = both(&table[..size], n, cost, &start[..n], pool, t.typed);
+    let first = from_first(&table[..size], n, cost, pool, t.first);
+    Tallies { typed, first }
 }
 
-// The jobs over all tables.
-fn all_tables(first: bool, pool: &mut [u32]) -> Tally {
-    let mut t = Tally {
+// A tally of no jobs.
+fn none() -> Tally {
+    Tally {
         best: 0,
         full: 0,
         differed: 0,
         sum: 0,
+    }
+}
+
+// The jobs over all tables.
+fn all_tables(pool: &mut [u32]) -> Tallies {
+    let mut t = Tallies {
+        typed: none(),
+        first: none(),
     };
     let mut k = 0u64;
     while k < TABLES {
-        t = trial(k, first, pool, t);
+        t = trial(k, pool, t);
         k += 1;
     }
     t
@@ -178,11 +190,11 @@ fn line(n: u64, words: &[u8]) {
     io::write_all(STDOUT_FILENO, words);
 }
 
-// What a tally says, behind what it counts.
-fn tell(t: Tally, jobs: &[u8]) {
+// What a tally says; the words are for all of its jobs.
+fn tell(t: Tally, words: &[u8]) {
     line(
         wrapping_add_u64(wrapping_add_u64(t.best, t.full), t.differed),
-        jobs,
+        words,
     );
     line(t.best, b" finished, at the least cost over all orders\n");
     line(t.full, b" filled the pool\n");
@@ -192,9 +204,7 @@ fn tell(t: Tally, jobs: &[u8]) {
 
 fn main() {
     let mut pool = [0u32; POOL];
-    tell(all_tables(false, &mut pool), b" jobs planned\n");
-    tell(
-        all_tables(true, &mut pool),
-        b" jobs planned from the unit's first order\n",
-    );
+    let t = all_tables(&mut pool);
+    tell(t.typed, b" jobs planned\n");
+    tell(t.first, b" jobs planned from the unit's first order\n");
 }

@@ -2,8 +2,10 @@
 //! needed, and the ratio of the times. `cargo run --release -p bench [tables] [seconds] [R, P or Q]`: tables a row
 //! (default 5), how long the peer may take for one (default 10; those over it are left out and counted), and the job to
 //! run alone (default all three). Each table is planned three times by each of the two in turn, thirty times where that
-//! is short, and the least time counts, so that what else the machine does shows little.
+//! is short, and the least time counts, so that what else the machine does shows little. `first` in place of the job
+//! times the unit's first order instead.
 
+mod first;
 mod peer;
 mod tables;
 
@@ -56,8 +58,11 @@ fn main() {
     let tables: u64 = words.next().and_then(|w| w.parse().ok()).unwrap_or(5);
     let seconds: u64 = words.next().and_then(|w| w.parse().ok()).unwrap_or(10);
     let letter = words.next();
+    if letter.as_deref() == Some("first") {
+        return first::all_rows(tables);
+    }
     let kinds: Vec<&Kind> = KINDS.iter().filter(|kind| letter.as_ref().is_none_or(|l| l == kind.letter)).collect();
-    assert!(!kinds.is_empty(), "the job is R, P or Q");
+    assert!(!kinds.is_empty(), "the job is R, P or Q, or first");
     let mut pool: Vec<Record> = vec![[0; RECORD_WORDS]; 4_000_000];
     print!(
         "{:<8}{:>3}  {:<26}{:>7}{:>10}{:>12}{:>10}",

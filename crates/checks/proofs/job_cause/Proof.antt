@@ -4,7 +4,8 @@ use mathlib.Core.Bool.{false}
 use borrow.Author.Needs.{needs}
 use Rattle.answer.specs.Checks.{jobCause, cause₄}
 use Rattle.answer.specs.declared.Job.{Job}
-use Rattle.checks.proofs.CauseLaws.{later, table-refuses, table-passes, passed-few}
+use Rattle.answer.proofs.Passes.{table-passed}
+use Rattle.checks.proofs.CauseLaws.{later, table-refuses, table-passes}
 use Rattle.checks.proofs.job_cause.Statement.{statement}
 use Rattle.checks.proofs.job_cause.Tie as tie
 
@@ -32,7 +33,7 @@ returns-2 c =
 wrong-start-requires : tie.Need-wrong-start-requires
 wrong-start-requires c κs =
     let d = c .before .before .before in
-    passed-few (job d .n) _ _ (d .table-cause .ensures) (c .before .before .if1 .left)
+    table-passed (job d .n) _ 0 (sym (d .table-cause .ensures) ∙ c .before .before .if1 .left) .0 .few
 
 returns-3 : tie.Need-returns-3
 returns-3 c =

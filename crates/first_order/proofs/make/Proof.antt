@@ -1,8 +1,8 @@
 -- `make` meets its contract: the nearest-stop order is one that `improve` takes.
 use mathlib.Core.Path.{ap, _∙_}
-use mathlib.Core.Bool.{true}
 use borrow.Author.Needs.{needs}
 use Rattle.stops.specs.Legs.{legs}
+use Rattle.first_answer.specs.Nearest.{anyNode}
 use Rattle.first_answer.specs.Exchanges.{improved}
 use Rattle.first_order.proofs.FirstLaws.{nearest-asks}
 use Rattle.first_order.proofs.make.Statement.{statement}
@@ -19,7 +19,7 @@ returns c =
     let i = c .before .before in
     let n = i .before .before .before .before in
     let t = n .before .before .before .args .t .now in
-    (i .improve .ensures .0 ∙ ap (improved (legs t) (λ y. true)) (n .nearest-order .ensures), i .improve .ensures .1)
+    (i .improve .ensures .0 ∙ ap (improved (legs t) anyNode) (n .nearest-order .ensures), i .improve .ensures .1)
 
 pub make-spec : {M : Type 1} → statement M
 make-spec = tie.close (tie.spec (λ c κs. search needs) improve-requires (λ c. search needs) returns)

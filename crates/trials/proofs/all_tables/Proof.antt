@@ -7,12 +7,12 @@ use Rattle.trials.proofs.all_tables.Statement.{statement}
 use Rattle.trials.proofs.all_tables.Tie as tie
 
 abbrev Inv-loop : tie.InvT-loop
-Inv-loop first pool₀ t₀ k₀ pool t k = length pool ≡ length pool₀
+Inv-loop pool₀ t₀ k₀ pool t k = length pool ≡ length pool₀
 
 abbrev μ-loop : tie.MeasureT-loop
-μ-loop first pool₀ t₀ k₀ pool t k = 1530 - k
+μ-loop pool₀ t₀ k₀ pool t k = 1530 - k
 
 pub all-tables-spec : {M : Type 1} → statement M
 all-tables-spec =
     tie.close
-    (tie.spec Inv-loop μ-loop (search needs) (search needs) (search needs) (search needs) (search needs) (search needs) (search needs))
+    (tie.spec Inv-loop μ-loop (search needs) (search needs) (search needs) (search needs) (search needs) (search needs) (search needs) (search needs) (search needs))

@@ -15,7 +15,6 @@ pub from-first-spec : {M : Type 1} → statement M
 from-first-spec =
     tie.close
     (tie.spec
-    (λ c κs. search needs)
     (λ c. search needs)
     (λ c κs. search needs)
     (λ c κs. search needs)

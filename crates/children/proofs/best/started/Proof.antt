@@ -9,7 +9,7 @@ use denote.Ref.{now}
 use Rattle.sizes.specs.Sizes.{mostStops}
 use Rattle.orders.specs.Orders.{Order}
 use Rattle.orders.proofs.Order.{order-partial}
-use Rattle.stops.proofs.Paths.{partial-flyable}
+use Rattle.stops.proofs.Paths.{partial-reckonable}
 use Rattle.stops.proofs.StopsWalk.{cost-day}
 use Rattle.children.specs.Code.{Rows, encodeOf}
 use Rattle.children.proofs.FlownLaws.{empty-best, Flown, flown-none, flown-more, flown-wide, flown-best, order-given}
@@ -64,5 +64,5 @@ started-spec =
     (λ c. omega arith)
     (λ c. omega arith)
     loop-again
-    (λ c κs. let l = c .before .before in partial-flyable (rows l .few) (rows l .cheap) (order-partial _ _ (order l)))
+    (λ c κs. let l = c .before .before in partial-reckonable (rows l .few) (rows l .cheap) (order-partial _ _ (order l)))
     returns-2)

@@ -1,18 +1,18 @@
 -- `best_exchange` meets its contract. The loop's invariant: the order is as at entry, and the best of the exchange found and of those of the
 -- places from p on with the places behind them is the best of all. The measure is how many places these are.
 use mathlib.Core.Path.{_≡_, refl, ap, _∙_}
-use mathlib.Core.Bool.{true}
 use Prim.Native.Nat.{_-_, _<_}
 use native.Mathlib.Omega.{arith}
 use lib.ListN.{length}
 use Rattle.stops.specs.Legs.{legs}
+use Rattle.first_answer.specs.Nearest.{anyNode}
 use Rattle.first_answer.specs.Exchanges.{bestExchange}
 use Rattle.first_order.proofs.ExchangeLaws.{Trying, pairs, pairs-start, pairs-tried, pairs-end}
 use Rattle.first_order.proofs.exchange.best_exchange.Statement.{statement}
 use Rattle.first_order.proofs.exchange.best_exchange.Tie as tie
 
 abbrev Inv-loop : tie.InvT-loop
-Inv-loop t x₀ own found₀ p₀ x found p = (x ≡ x₀) × Trying (legs t) x₀ (pairs x₀ p) (bestExchange (legs t) (λ y. true) x₀) found
+Inv-loop t x₀ own found₀ p₀ x found p = (x ≡ x₀) × Trying (legs t) x₀ (pairs x₀ p) (bestExchange (legs t) anyNode x₀) found
 
 abbrev μ-loop : tie.MeasureT-loop
 μ-loop t x₀ own found₀ p₀ x found p = length x₀ - p

@@ -5,7 +5,8 @@ use Prim.Native.Nat.{_-_, _<_}
 use native.Mathlib.Omega.{arith}
 use lib.ListN.{length}
 use Rattle.stops.specs.Legs.{legs}
-use Rattle.first_order.specs.Code.{behind, bestBehind}
+use Rattle.first_answer.specs.Exchanges.{behind}
+use Rattle.first_order.specs.Code.{bestBehind}
 use Rattle.first_order.proofs.ExchangeLaws.{Trying, behind-starts, behind-tried, behind-ends}
 use Rattle.first_order.proofs.exchange.best_with.Statement.{statement}
 use Rattle.first_order.proofs.exchange.best_with.Tie as tie

@@ -2,7 +2,7 @@
 use mathlib.Core.Path.{_∙_}
 use borrow.Author.Needs.{needs}
 use Rattle.first_answer.proofs.Exchanged.{exchanged-twice}
-use Rattle.first_order.proofs.ExchangeLaws.{exchanged-flyable}
+use Rattle.first_order.proofs.ExchangeLaws.{exchanged-reckonable}
 use Rattle.first_order.proofs.exchange.exchange_cost.Statement.{statement}
 use Rattle.first_order.proofs.exchange.exchange_cost.Tie as tie
 
@@ -15,7 +15,7 @@ order-cost-requires c κs =
     let changed = c .before .before .before in
     let a = entry changed .args in
     let pre = entry changed .pre in
-    rw (changed .exchange-stops .ensures) (exchanged-flyable (pre .0) (a .p) (a .q) (pre .1 .0) (pre .1 .1))
+    rw (changed .exchange-stops .ensures) (exchanged-reckonable (pre .0) (a .p) (a .q) (pre .1 .0) (pre .1 .1))
 
 returns : tie.Need-returns
 returns c =

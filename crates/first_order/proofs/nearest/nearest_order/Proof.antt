@@ -1,7 +1,6 @@
 -- `nearest::nearest_order` meets its contract. The loop's invariant: x keeps its length, and its first k places are the node so far, from
 -- which the nearest-stop order goes on (`Underway`). The measure is how many places are left.
 use mathlib.Core.Path.{_≡_, refl, sym, _∙_}
-use mathlib.Core.Bool.{true}
 use Prim.Native.Nat.{_-_, _*_, _^_, _%_, _≤_, _<_}
 use native.Mathlib.Numerals.{add-one}
 use native.Mathlib.Omega.{arith}
@@ -11,12 +10,14 @@ use Rattle.sizes.specs.Sizes.{mostStops}
 use Rattle.lists.specs.Lists.{In}
 use Rattle.stops.specs.Legs.{legs}
 use Rattle.stops.specs.Code.{stopsIn}
-use Rattle.first_order.proofs.NearestLaws.{Underway, all-small, underway-starts, underway-some, underway-stop, underway-again, underway-ends}
+use Rattle.stops.proofs.SetBits.{all-small}
+use Rattle.first_answer.specs.Nearest.{anyNode}
+use Rattle.first_order.proofs.NearestLaws.{Underway, underway-starts, underway-some, underway-stop, underway-again, underway-ends}
 use Rattle.first_order.proofs.nearest.nearest_order.Statement.{statement}
 use Rattle.first_order.proofs.nearest.nearest_order.Tie as tie
 
 abbrev Inv-loop : tie.InvT-loop
-Inv-loop t x₀ rest₀ place₀ k₀ x rest place k = (length x ≡ length x₀) × Underway (length x₀) (legs t) (λ y. true) (take k x) k place rest
+Inv-loop t x₀ rest₀ place₀ k₀ x rest place k = (length x ≡ length x₀) × Underway (length x₀) (legs t) anyNode (take k x) k place rest
 
 abbrev μ-loop : tie.MeasureT-loop
 μ-loop t x₀ rest₀ place₀ k₀ x rest place k = length x - k
@@ -26,7 +27,7 @@ loop-holds c =
     let a = c .before .args in
     let n = length (a .x .now) in
     let all : 1 * 2 ^ n % 2 ^ 32 - 1 ≡ 2 ^ n - 1 = omega (arith, all-small n (c .before .pre)) in
-    (refl, rw all (underway-starts n (legs (a .t .now)) (λ y. true) (c .before .pre)))
+    (refl, rw all (underway-starts n (legs (a .t .now)) anyNode (c .before .pre)))
 
 -- in the loop not all stops are flown
 fewer : (c : tie.In-loop Inv-loop μ-loop) → c .before .loop .k < length (c .before .before .before .args .x .now)
