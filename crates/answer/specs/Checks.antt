@@ -45,7 +45,7 @@ abbrev pub orLater : Bool → ℕ → ℕ → ℕ
 orLater true number later = number
 orLater false number later = later
 
--- causes 1 to 3, of a table for n stops; `later` where none applies
+-- causes 1 to 3, of a table for n stops, which are all that request A.1 asks for; `later` where none applies
 unfoldable pub tableCause : ℕ → List ℕ → ℕ → ℕ
 tableCause n table later = orLater (cause₁ n) 1 (orLater (cause₂ n table) 2 (orLater (cause₃ n table) 3 later))
 

@@ -3,27 +3,29 @@
 use mathlib.Core.Path.{_≡_, refl}
 use mathlib.Core.List.{List, [], _∷_, map}
 use Prim.Native.Nat.{ℕ, _/_}
+use lib.ListN.{replicate}
 use Rattle.lists.specs.Lists.{padded}
 use Rattle.orders.specs.Orders.{flown, left, last}
 use Rattle.stops.specs.Tables.{entry, rows}
 use Rattle.stops.specs.Legs.{rowLeg, legs, path, cost}
+use Rattle.answer.specs.Cases.{tableT}
 use Rattle.answer.specs.Checks.{cause₁, cause₂, cause₃, tableCause}
 use Rattle.first_answer.specs.Nearest.{cheapest, nextStops, nearest}
 use Rattle.first_answer.specs.Exchanges.{exchanged, behind, exchanges, bestExchange, improved}
 use Rattle.first_answer.specs.First.{legsOf, nearestOf, firstOf, respond, firstAnswer}
 use Rattle.first_answer.specs.declared.FirstOrder.{FirstOrder}
 
--- the legs of T, with every definition that the examples rest on open
-tableT : List ℕ
+-- an answer, with every definition that it rests on open: a proof that says `unfolding computed` computes it
+computed : ℕ → List ℕ → FirstOrder
 unfolding padded flown left last entry rows rowLeg legs path cost cause₁ cause₂ cause₃ tableCause nextStops nearest exchanged behind exchanges bestExchange improved legsOf nearestOf firstOf respond firstAnswer
-tableT = 0 ∷ 4 ∷ 7 ∷ 9 ∷ 5 ∷ 0 ∷ 2 ∷ 6 ∷ 3 ∷ 8 ∷ 0 ∷ 1 ∷ 6 ∷ 5 ∷ 4 ∷ 0 ∷ []
+computed = firstAnswer
 
 -- an answer to three stops
 three : ℕ → ℕ → ℕ → ℕ → FirstOrder
-three cost a b c = record { number = 0; cost = cost; order = a ∷ b ∷ c ∷ 0 ∷ 0 ∷ 0 ∷ 0 ∷ 0 ∷ 0 ∷ 0 ∷ 0 ∷ 0 ∷ 0 ∷ 0 ∷ 0 ∷ 0 ∷ [] }
+three cost a b c = record { number = 0; cost = cost; order = a ∷ b ∷ c ∷ replicate 13 0 }
 
 refused : ℕ → FirstOrder
-refused number = record { number = number; cost = 0; order = 0 ∷ 0 ∷ 0 ∷ 0 ∷ 0 ∷ 0 ∷ 0 ∷ 0 ∷ 0 ∷ 0 ∷ 0 ∷ 0 ∷ 0 ∷ 0 ∷ 0 ∷ 0 ∷ [] }
+refused number = record { number = number; cost = 0; order = replicate 16 0 }
 
 -- by the tens: the least, and of equals the first
 first-of-equals : cheapest (λ (k : ℕ). k / 10) 31 (21 ∷ 40 ∷ 22 ∷ []) ≡ 21
@@ -33,17 +35,17 @@ first-of-equals = refl
 exchanges-of-1234 :
     exchanges (1 ∷ 2 ∷ 3 ∷ 4 ∷ [])
     ≡ (2 ∷ 1 ∷ 3 ∷ 4 ∷ []) ∷ (3 ∷ 2 ∷ 1 ∷ 4 ∷ []) ∷ (4 ∷ 2 ∷ 3 ∷ 1 ∷ []) ∷ (1 ∷ 3 ∷ 2 ∷ 4 ∷ []) ∷ (1 ∷ 4 ∷ 3 ∷ 2 ∷ []) ∷ (1 ∷ 2 ∷ 4 ∷ 3 ∷ []) ∷ []
-unfolding tableT
+unfolding computed
 exchanges-of-1234 = refl
 
 -- in T the nearest stop is 1 (4), then 2 (2), then 3; no exchange is cheaper than 13
 first-of-T : firstAnswer 3 tableT ≡ three 13 1 2 3
-unfolding tableT three
+unfolding computed tableT three
 first-of-T = refl
 
 -- home is as near to 1 as to 2, which is nearer than 3: of equals the lowest
 lowest-of-equals : firstAnswer 3 (0 ∷ 0 ∷ 0 ∷ 1 ∷ 0 ∷ 0 ∷ 1 ∷ 0 ∷ 0 ∷ 0 ∷ 0 ∷ 0 ∷ 2 ∷ 0 ∷ 0 ∷ 0 ∷ []) ≡ three 0 1 3 2
-unfolding tableT three
+unfolding computed three
 lowest-of-equals = refl
 
 -- 312 costs 2: its exchange 132 costs 2 too, 213 costs 1, 321 nothing
@@ -51,16 +53,16 @@ exchanged-table : List ℕ
 exchanged-table = 0 ∷ 2 ∷ 1 ∷ 0 ∷ 0 ∷ 0 ∷ 2 ∷ 0 ∷ 0 ∷ 0 ∷ 0 ∷ 0 ∷ 0 ∷ 0 ∷ 0 ∷ 0 ∷ []
 
 nearest-before-exchange : nearestOf 3 exchanged-table ≡ 3 ∷ 1 ∷ 2 ∷ []
-unfolding tableT exchanged-table
+unfolding computed exchanged-table
 nearest-before-exchange = refl
 
 greatest-gain : firstAnswer 3 exchanged-table ≡ three 0 3 2 1
-unfolding tableT exchanged-table three
+unfolding computed exchanged-table three
 greatest-gain = refl
 
 -- 123 costs 3, and both 321 (positions 0 and 2) and 132 (1 and 2) cost nothing: the smallest first position
 smallest-first-position : firstAnswer 3 (0 ∷ 0 ∷ 0 ∷ 0 ∷ 0 ∷ 0 ∷ 0 ∷ 0 ∷ 0 ∷ 0 ∷ 0 ∷ 0 ∷ 3 ∷ 1 ∷ 0 ∷ 0 ∷ []) ≡ three 0 3 2 1
-unfolding tableT three
+unfolding computed three
 smallest-first-position = refl
 
 -- 1243 costs 6, and four exchanges cost 5: 3241 has the smallest first position (0 and 3), 1423 (1 and 2) the smallest second; then 2341 costs 4
@@ -69,12 +71,12 @@ second-table =
     0 ∷ 0 ∷ 0 ∷ 1 ∷ 0 ∷ 2 ∷ 0 ∷ 0 ∷ 2 ∷ 0 ∷ 3 ∷ 4 ∷ 0 ∷ 2 ∷ 0 ∷ 3 ∷ 0 ∷ 2 ∷ 0 ∷ 0 ∷ 3 ∷ 0 ∷ 0 ∷ 3 ∷ 0 ∷ []
 
 first-position-before-second : firstOf 4 second-table ≡ 2 ∷ 3 ∷ 4 ∷ 1 ∷ []
-unfolding tableT second-table
+unfolding computed second-table
 first-position-before-second = refl
 
 -- 132 costs 3; the best exchange leads to 123 at 1, and the next to 213 at 0
 two-exchanges : firstAnswer 3 (0 ∷ 0 ∷ 0 ∷ 0 ∷ 1 ∷ 0 ∷ 1 ∷ 0 ∷ 1 ∷ 0 ∷ 0 ∷ 0 ∷ 0 ∷ 1 ∷ 2 ∷ 0 ∷ []) ≡ three 0 2 1 3
-unfolding tableT three
+unfolding computed three
 two-exchanges = refl
 
 -- no exchange of 123 is cheaper, and yet 231, which is none, costs less: a first order need not be the cheapest
@@ -82,19 +84,20 @@ missed-table : List ℕ
 missed-table = 0 ∷ 1 ∷ 2 ∷ 9 ∷ 1 ∷ 0 ∷ 1 ∷ 9 ∷ 9 ∷ 9 ∷ 0 ∷ 1 ∷ 5 ∷ 1 ∷ 9 ∷ 0 ∷ []
 
 not-the-cheapest : (firstAnswer 3 missed-table ≡ three 8 1 2 3) × (cost (legsOf 3 missed-table) (2 ∷ 3 ∷ 1 ∷ []) ≡ 5)
-unfolding tableT missed-table three
+unfolding computed missed-table three
 not-the-cheapest = (refl, refl)
 
 -- one stop has no exchange
 one-stop : firstAnswer 1 (0 ∷ 3 ∷ 5 ∷ 0 ∷ []) ≡ three 8 1 0 0
-unfolding tableT three
+unfolding computed three
 one-stop = refl
 
 -- causes 1 to 3, the lowest that applies, and zeros
 refusals : map (λ n. firstAnswer n (0 ∷ 3 ∷ 5 ∷ 1 ∷ [])) (0 ∷ 17 ∷ 2 ∷ 1 ∷ []) ≡ map refused (1 ∷ 1 ∷ 2 ∷ 3 ∷ [])
-unfolding tableT refused
+unfolding computed refused
 refusals = refl
 
+-- a leg above the dearest
 dear-leg : firstAnswer 1 (0 ∷ 1_000_001 ∷ 5 ∷ 0 ∷ []) .number ≡ 3
-unfolding tableT
+unfolding computed
 dear-leg = refl
