@@ -5,7 +5,7 @@
 use std::hint::black_box;
 use std::time::{Duration, Instant};
 
-use gondamuy::{raw, ORDER_PLACES, PLACES};
+use gondamuy::{raw, ORDER_PLACES};
 
 use crate::peer::Rows;
 use crate::tables;
@@ -60,10 +60,7 @@ fn timed(call: impl Fn() -> u32) -> Duration {
 }
 
 fn first_order(n: usize, table: &[u32]) -> Found {
-    let mut rows: Rows = [[0; PLACES]; PLACES];
-    for (row, legs) in rows.iter_mut().zip(table.chunks(n + 1)) {
-        row[..=n].copy_from_slice(legs);
-    }
+    let rows = tables::rows(n, table);
     let mut order = [0; ORDER_PLACES];
     nearest(&rows, &mut order[..n]);
     let (cost, exchanges) = improve(&rows, &mut order[..n]);

@@ -11,8 +11,8 @@ mod tables;
 
 use std::time::{Duration, Instant};
 
-use gondamuy::{raw, PLACES, RECORD_WORDS};
-use peer::{Found, Record, Rows};
+use gondamuy::{raw, RECORD_WORDS};
+use peer::{Found, Record};
 
 struct Kind {
     letter: &'static str,
@@ -37,15 +37,6 @@ impl Task {
     fn of(kind: &Kind, n: usize, table: Vec<u32>) -> Task {
         let start = if kind.selection == 3 { samples::nearest(n, &table) } else { Vec::new() };
         Task { job: raw::Job { n: n as u32, selection: kind.selection, rules: kind.rules, bound: 1 }, table, start }
-    }
-
-    fn rows(&self) -> Rows {
-        let side = self.job.n as usize + 1;
-        let mut rows = [[0; PLACES]; PLACES];
-        for (row, legs) in rows.iter_mut().zip(self.table.chunks(side)) {
-            row[..side].copy_from_slice(legs);
-        }
-        rows
     }
 }
 
@@ -114,7 +105,7 @@ fn least_times(task: &Task, seconds: u64, pool: &mut [Record]) -> Option<(Found,
 }
 
 fn time_peer(task: &Task, seconds: u64, pool: &mut [Record]) -> Option<(Found, Duration)> {
-    let rows = task.rows();
+    let rows = tables::rows(task.job.n as usize, &task.table);
     let raw::Job { n, selection, rules, bound } = task.job;
     let job = peer::Job { n, rows: &rows, selection, rules, bound };
     let best = if task.start.is_empty() { u32::MAX } else { tables::cost(n as usize, &task.table, &task.start) };

@@ -1,7 +1,10 @@
 //! Tables to time on, by seed: uniform legs, and points in the plane with a
 //! wind that differs by place.
 
+use gondamuy::PLACES;
 use samples::Random;
+
+use crate::peer::Rows;
 
 pub fn table(kind: &str, n: usize, seed: u64) -> Vec<u32> {
     let mut random = Random(seed * 1000 + n as u64);
@@ -25,6 +28,15 @@ fn windy(from: &[f64; 4], to: &[f64; 4]) -> u32 {
     let far = (dx * dx + dy * dy).sqrt();
     let tail = if far > 0.0 { ((from[2] + to[2]) * dx + (from[3] + to[3]) * dy) / (2.0 * far) } else { 0.0 };
     (1000.0 * far / (1.0 + tail)) as u32
+}
+
+/// The legs in rows of one length.
+pub fn rows(n: usize, table: &[u32]) -> Rows {
+    let mut rows = [[0; PLACES]; PLACES];
+    for (row, legs) in rows.iter_mut().zip(table.chunks(n + 1)) {
+        row[..=n].copy_from_slice(legs);
+    }
+    rows
 }
 
 pub fn cost(n: usize, table: &[u32], order: &[u8]) -> u32 {
