@@ -7,7 +7,8 @@
  *   - pool and buffer, which are written to, overlap nothing else that the call is given;
  *   - with a length of 0 any pointer will do, a null one too.
  * A call uses nothing but its arguments and a few kilobytes of stack, keeps nothing between calls, and may run in
- * several threads at once over different pools and buffers. There is no bound on the time of gondamuy_plan.
+ * several threads at once over different pools and buffers. There is no bound on the time of gondamuy_plan. By a
+ * theorem gondamuy_first_order makes at most as many exchanges as its nearest-stop order costs; no time is claimed.
  */
 #ifndef GONDAMUY_H
 #define GONDAMUY_H
@@ -102,7 +103,7 @@ struct gondamuy_report {
 
 struct gondamuy_first {
     uint32_t number;    /* 0, or the number of the refusal: 1 to 3 */
-    uint32_t cost;
+    uint32_t cost;      /* of this order; another may be cheaper */
     uint8_t order[GONDAMUY_ORDER_PLACES]; /* the stops as they are flown, zeros past n */
 };
 
@@ -150,11 +151,11 @@ struct gondamuy_report gondamuy_plan(struct gondamuy_job job,
 
 /* Makes an order of the stops 1 to n to start from, where nobody has typed one (request A.1).
  *
- * n and table are as for gondamuy_plan. From each place on, home first, the nearest stop left is flown, the lowest number
- * of several. Then two stops change places as long as that lowers the cost: of all pairs the one that lowers it most,
- * of several the one that begins earliest in the order, then the one that ends earliest. The order costs no more than
- * that of the nearest stops, and no exchange of two of its stops makes it cheaper; but another order may be cheaper
- * still, and gondamuy_plan finds one that is cheapest.
+ * n and table are as for gondamuy_plan. From each place on, home first, the nearest stop left is flown: the one with
+ * the cheapest leg from there, the lowest number of several. Then two stops change places as long as that lowers the
+ * cost: of all pairs the one that lowers it most, of several the one that begins earliest in the order, then the one
+ * that ends earliest. The order costs no more than that of the nearest stops, and no exchange of two of its stops makes
+ * it cheaper; but another order may be cheaper still, and gondamuy_plan finds one that is cheapest.
  *
  * What comes back, by number; the lowest that applies is returned:
  *   0       The order and its cost.

@@ -1,33 +1,19 @@
-/* A pilot's day of sixteen stops, legs in minutes (the table of jobs/samples/pilot.txt): the order that the unit makes,
- * and the plan without it and from it, in a pool of few records. A refusal ends it with a status other than 0. */
+/* Reads a job file from standard input, prints the first order of its table, and plans it in a pool of few records:
+ * from no order, from the file's own, if it has one, and from the first order. A refusal ends it with a status other
+ * than 0. */
 #include <inttypes.h>
 #include <stdio.h>
 #include <stdlib.h>
 
 #include "gondamuy.h"
 
-#define STOPS 16
 #define RECORDS 150
 
-static const uint32_t table[] = {
-      0,  61,  79,  89, 108, 112,  98,  65,  86,  25,  99,  42,  93,  58,  92,  69,  30,
-    110,   0,  67,  77,  69,  85,  70,  24,  50,  81,  99,  35, 125,  20,  38,  51,  86,
-    105,  45,   0,  54,  32,  48,  10,  30,   8,  90,  79,  50, 112,  36,  15,  21,  72,
-     87, 103,  43,   0,  54,  30,  48,  86,  66,  76,  16,  78,  52,  97,  97,  53,  63,
-    106,  93,  29,  31,   0,  16,  27,  74,  37,  89,  34,  78,  77,  92,  55,  45,  78,
-     88,  81,  29,  21,  26,   0,  29,  65,  39,  78,  24,  68,  65,  75,  57,  39,  63,
-     84,  46,   7,  44,  30,  40,   0,  31,   6,  74,  63,  47,  83,  37,  17,  18,  58,
-    102,  25,  40,  60,  50,  62,  43,   0,  32,  78,  78,  38, 105,  10,  21,  31,  72,
-     97,  64,   7,  36,  23,  29,   6,  43,   0,  78,  46,  58,  79,  54,  23,  22,  66,
-     19,  94,  90,  83, 123, 116, 117,  94, 108,   0,  88,  66,  45,  83, 135,  83,  35,
-    102,  96,  41,  21,  42,  24,  43,  80,  57,  95,   0,  81,  69,  91,  78,  53,  73,
-     70,  28,  81,  89,  94, 112, 100,  39,  70,  59, 113,   0, 119,  32,  63,  60,  61,
-     38,  83,  68,  67, 106,  92,  84,  80,  90,  32,  68,  60,   0,  76, 108,  66,  35,
-    116,  25,  37,  57,  47,  58,  40,   7,  31,  82,  73,  40, 108,   0,  21,  29,  78,
-     79,  48,  17,  40,  33,  39,  19,  27,  15,  65,  52,  44,  71,  35,   0,  15,  54,
-     86,  44,  18,  42,  38,  43,  22,  28,  19,  71,  57,  42,  83,  32,  20,   0,  54,
-     35,  45,  56,  69,  83,  88,  70,  45,  62,  36,  84,  26,  88,  40,  64,  45,   0,
-};
+static int failed(const char *what)
+{
+    fprintf(stderr, "%s\n", what);
+    return EXIT_FAILURE;
+}
 
 static int refused(uint32_t number)
 {
@@ -35,28 +21,51 @@ static int refused(uint32_t number)
     return EXIT_FAILURE;
 }
 
-static uint32_t planned(const char *how, const uint8_t *start, size_t start_len)
+static void print_first(const struct gondamuy_first *first, uint32_t n)
 {
-    static const struct gondamuy_job pilot = {STOPS, GONDAMUY_SELECTION_LIFO, GONDAMUY_RULE_UPPER_COST,
-                                              GONDAMUY_BOUND_CLOSE};
+    printf("first cost %" PRIu32 "\nfirst order", first->cost);
+    for (uint32_t i = 0; i < n; i++)
+        printf(" %d", first->order[i]);
+    printf("\n");
+}
+
+/* Returns the report's number. */
+static uint32_t planned(const struct gondamuy_reading *reading, size_t legs, const char *from, const uint8_t *start,
+                        size_t stops)
+{
     static struct gondamuy_record pool[RECORDS];
 
-    struct gondamuy_report report = gondamuy_plan_records(pilot, table, sizeof table / sizeof table[0],
-                                                          start, start_len, pool, RECORDS);
+    struct gondamuy_report report = gondamuy_plan_records(reading->job, reading->table, legs, start, stops, pool,
+                                                          RECORDS);
     if (report.number == GONDAMUY_NOT_REFUSED)
-        printf("plan %s: cost %" PRIu32 ", branched %" PRIu64 ", most %" PRIu64 "\n", how, report.cost,
+        printf("plan from %s: cost %" PRIu32 ", branched %" PRIu64 ", most %" PRIu64 "\n", from, report.cost,
                report.branched, report.most);
     return report.number;
 }
 
 int main(void)
 {
-    struct gondamuy_first first = gondamuy_first_order(STOPS, table, sizeof table / sizeof table[0]);
+    static uint8_t file[GONDAMUY_LONGEST_FILE + 1]; /* a file that fills it is too long, and is refused */
+
+    /* With length 0 a null table will do; it is refused. */
+    if (gondamuy_first_order(3, NULL, 0).number != GONDAMUY_REFUSED_TABLE_LENGTH)
+        return failed("a table of no legs is not refused by 2");
+    size_t length = fread(file, 1, sizeof file, stdin);
+    if (ferror(stdin))
+        return failed("standard input cannot be read");
+    struct gondamuy_reading reading = gondamuy_read(file, length);
+    if (reading.number != GONDAMUY_NOT_REFUSED)
+        return refused(reading.number);
+    uint32_t n = reading.job.n;
+    size_t legs = (n + 1) * (n + 1);
+    struct gondamuy_first first = gondamuy_first_order(n, reading.table, legs);
     if (first.number != GONDAMUY_NOT_REFUSED)
         return refused(first.number);
-    printf("first order: cost %" PRIu32 "\n", first.cost);
-    uint32_t number = planned("without it", NULL, 0);
+    print_first(&first, n);
+    uint32_t number = planned(&reading, legs, "none", NULL, 0);
     if (number == GONDAMUY_NOT_REFUSED)
-        number = planned("from it", first.order, STOPS);
+        number = planned(&reading, legs, "the file's order", reading.start, reading.stops);
+    if (number == GONDAMUY_NOT_REFUSED)
+        number = planned(&reading, legs, "the first order", first.order, n);
     return number == GONDAMUY_NOT_REFUSED ? EXIT_SUCCESS : refused(number);
 }

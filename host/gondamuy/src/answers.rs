@@ -72,7 +72,7 @@ impl fmt::Display for Refused {
 
 impl Error for Refused {}
 
-/// An order of the stops to start from: cheap, but not always the cheapest.
+/// An order to start from. No exchange of two of its stops makes it cheaper; another order may be.
 #[derive(Clone, Copy, Debug, PartialEq, Eq)]
 pub struct FirstOrder {
     /// What it costs.

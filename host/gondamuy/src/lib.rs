@@ -66,11 +66,11 @@ pub fn plan_records(job: Job, table: &[u32], start: &[u8], pool: &mut [Record]) 
 
 /// Makes an order of the stops 1 to n to start from, where nobody has typed one (request A.1).
 ///
-/// From each place on, home first, the nearest stop left is flown, the lowest number of several. Then two stops change
-/// places as long as that lowers the cost: of all pairs the one that lowers it most, of several the one that begins
-/// earliest in the order, then the one that ends earliest. The order costs no more than that of the nearest stops, and
-/// no exchange of two of its stops makes it cheaper; but another order may be cheaper still, and [`plan`] finds one that
-/// is cheapest. Refused by the lowest of 1 to 3 that applies.
+/// From each place on, home first, the nearest stop left is flown: the one with the cheapest leg from there, the lowest
+/// number of several. Then two stops change places as long as that lowers the cost: of all pairs the one that lowers it
+/// most, of several the one that begins earliest in the order, then the one that ends earliest. The order costs no more
+/// than that of the nearest stops, and no exchange of two of its stops makes it cheaper; but another order may be
+/// cheaper still, and [`plan`] finds one that is cheapest. Refused by the lowest of 1 to 3 that applies.
 ///
 /// [`plan`] does not make one by itself. As a starting order it is never refused by 5:
 ///

@@ -1,7 +1,8 @@
 //! The first order (request A.1): every field against the second planner's, the worked calls of host/vectors, and what
 //! `plan` makes of it as a starting order:
 //!
-//! - 60,000 tables of 1 to 6 stops and 20,000 of 7 to 16, most of them with so few values that ties are common;
+//! - 60,000 tables of 1 to 6 stops and 20,000 of 7 to 16, most of them with so few values that ties are common, and the
+//!   dearest table;
 //! - 128,000 calls with causes 1 to 3, each in half of them and in every mixture, where the number is known beforehand;
 //! - 200 worked calls;
 //! - 20,000 plans of 1 to 6 stops under all choices and 100 of 7 to 16 in the pilot's way, each with and without it.
@@ -13,7 +14,7 @@ use std::ops::RangeInclusive;
 use common::{any_job, some_of, spoil_length, spoil_stops, spoil_table};
 use gondamuy::raw::{first_order, plan, FirstOrder, Job, Report};
 use gondamuy::RECORD_WORDS;
-use samples::{nearest, Random};
+use samples::{level, nearest, Random};
 
 /// Holds both to each other. Returns what the proved one answers.
 fn compare(n: u32, table: &[u32]) -> FirstOrder {
@@ -54,6 +55,12 @@ fn small_tables() {
 fn up_to_sixteen_stops() {
     let count = exchanged(&mut Random(82), 20_000, 7..=16);
     assert!(count > 10_000, "{count}");
+}
+
+#[test]
+fn dearest_legs() {
+    let first = compare(16, &level(16, 1_000_000));
+    assert_eq!((first.number, first.cost), (0, 17_000_000));
 }
 
 #[test]

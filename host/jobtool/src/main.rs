@@ -1,11 +1,13 @@
 //! Job files from plain text (see `jobtext`) and back, and a first order for a text. What is written, read and made goes
 //! through the proved writer and reader and the proved first order; this tool is not proved.
 //!
-//!     jobtool write < TEXT > FILE     the job file of a text
-//!     jobtool show < FILE             the text of a job file, or why it is refused
-//!     jobtool first < TEXT            what the first order of a text costs, and its stops
-//!     jobtool first start < TEXT      the text with that order as its starting order
-//!     jobtool refusal NUMBER          what a refusal's number says
+//! ```text
+//! jobtool write < TEXT > FILE     the job file of a text
+//! jobtool show < FILE             the text of a job file, or why it is refused
+//! jobtool first < TEXT            `first cost` and `first order`: what it costs, and its stops
+//! jobtool first start < TEXT      the job anew as text, with that order as its starting order
+//! jobtool refusal NUMBER          what a refusal's number says
+//! ```
 //!
 //! A starting order that stands in the text plays no part in `first`.
 
@@ -72,11 +74,11 @@ fn with_first(bytes: &[u8]) -> Result<(Job, FirstOrder), String> {
     Ok((parsed.job, first))
 }
 
-/// Two lines, as `plan` prints cost and order.
+/// Two lines. Each begins with `first`, so that nobody takes it for a line that `plan` prints.
 fn first_of(bytes: &[u8]) -> Result<Vec<u8>, String> {
     let (_, first) = with_first(bytes)?;
     let stops: String = first.order().iter().map(|stop| format!(" {stop}")).collect();
-    Ok(format!("cost {}\norder{stops}\n", first.cost).into_bytes())
+    Ok(format!("first cost {}\nfirst order{stops}\n", first.cost).into_bytes())
 }
 
 fn started(bytes: &[u8]) -> Result<Vec<u8>, String> {

@@ -2,26 +2,14 @@
 //! the second planner prints what is expected, and the proved one finds the
 //! same.
 
-use std::fs;
-use std::path::{Path, PathBuf};
+mod common;
 
+use std::fs;
+
+use common::{bytes, folder, string, NAMES};
 use gondamuy::raw::{self, plan, read, write};
 use gondamuy::{LONGEST_FILE, RECORD_WORDS};
 use jobtext::{parse, Job};
-
-const NAMES: [&str; 5] = ["case-a", "office", "office-full", "pilot", "pilot-first"];
-
-fn folder() -> PathBuf {
-    Path::new(env!("CARGO_MANIFEST_DIR")).join("../../jobs/samples")
-}
-
-fn bytes(name: &str, kind: &str) -> Vec<u8> {
-    fs::read(folder().join(format!("{name}.{kind}"))).unwrap()
-}
-
-fn string(name: &str, kind: &str) -> String {
-    String::from_utf8(bytes(name, kind)).unwrap()
-}
 
 /// The job of the text, its table and its starting order.
 fn job(name: &str) -> (raw::Job, Vec<u32>, Vec<u8>) {

@@ -1,10 +1,11 @@
 //! The tool run as a program: both ways, first orders, and what it says of faults.
 
-use std::fs;
+mod common;
+
 use std::io::Write;
-use std::path::Path;
 use std::process::{Command, Stdio};
 
+use common::{string, NAMES};
 use jobtext::{parse, Job};
 
 /// What it writes, or what it complains of with a status of failure.
@@ -68,13 +69,14 @@ fn first(more: &[&str], text: &str) -> Result<String, String> {
 
 #[test]
 fn first_order_of_a_text() {
-    assert_eq!(first(&[], TEXT).unwrap(), "cost 16\norder 1 2\n");
+    let told = "first cost 16\nfirst order 1 2\n";
+    assert_eq!(first(&[], TEXT).unwrap(), told);
     let started = first(&["start"], TEXT).unwrap();
     assert_eq!(write(&started), write(&TEXT.replace("start 2 1", "start 1 2")));
     // Neither the text's own starting order nor its choices are looked at.
     for (old, new) in [("start 2 1", "start 2 2"), ("start 2 1", ""), ("LIFO", "4")] {
         let other = TEXT.replace(old, new);
-        assert_eq!(first(&[], &other).unwrap(), "cost 16\norder 1 2\n");
+        assert_eq!(first(&[], &other).unwrap(), told);
         assert!(first(&["start"], &other).unwrap().ends_with("\nstart 1 2\n"));
     }
 }
@@ -93,22 +95,17 @@ fn refused_first_orders() {
     }
 }
 
-/// The text of a sample job.
-fn sample(name: &str) -> String {
-    let folder = Path::new(env!("CARGO_MANIFEST_DIR")).join("../../jobs/samples");
-    fs::read_to_string(folder.join(format!("{name}.txt"))).unwrap()
-}
-
 /// As the second planner has them.
 #[test]
 fn first_orders_of_the_samples() {
-    for name in ["case-a", "office", "office-full", "pilot", "pilot-first"] {
-        let job = parse(&sample(name)).unwrap().job;
+    for name in NAMES {
+        let text = string(name, "txt");
+        let job = parse(&text).unwrap().job;
         let told = witness::first_order(job.n.into(), &job.table);
         let stops = &told.order[..job.n as usize];
         let line: String = stops.iter().map(|stop| format!(" {stop}")).collect();
-        assert_eq!(first(&[], &sample(name)).unwrap(), format!("cost {}\norder{line}\n", told.cost), "{name}");
-        let started = first(&["start"], &sample(name)).unwrap();
+        assert_eq!(first(&[], &text).unwrap(), format!("first cost {}\nfirst order{line}\n", told.cost), "{name}");
+        let started = first(&["start"], &text).unwrap();
         let start = stops.iter().map(|&stop| stop as u8).collect();
         assert_eq!(parse(&started).unwrap().job, Job { start, ..job }, "{name}");
     }
@@ -117,10 +114,10 @@ fn first_orders_of_the_samples() {
 /// The sample that starts from the unit's order is what the tool makes of the pilot's, behind a comment.
 #[test]
 fn the_pilot_from_the_first_order() {
-    let sample_text = sample("pilot-first");
-    let (comment, text) = sample_text.split_once('\n').unwrap();
+    let sample = string("pilot-first", "txt");
+    let (comment, text) = sample.split_once('\n').unwrap();
     assert!(comment.starts_with('#'));
-    assert_eq!(first(&["start"], &sample("pilot")).unwrap(), text);
+    assert_eq!(first(&["start"], &string("pilot", "txt")).unwrap(), text);
 }
 
 #[test]

@@ -3,12 +3,11 @@
 
 mod common;
 
-use common::T;
+use common::{course, T};
 use samples::level;
 use witness::enumerate::least_cost;
-use witness::first_order::{best_exchange, exchanges, nearest_stop_order};
+use witness::first_order::{exchanges, first_order};
 use witness::legs::{Legs, Place};
-use witness::{first_order, FirstOrder};
 
 /// All legs the same but those named: from, to, cost.
 fn level_but(n: usize, leg: u32, others: &[(Place, Place, u32)]) -> Vec<u32> {
@@ -17,25 +16,6 @@ fn level_but(n: usize, leg: u32, others: &[(Place, Place, u32)]) -> Vec<u32> {
         table[from * (n + 1) + to] = cost;
     }
     table
-}
-
-/// Cost and stops of the nearest-stop order and after each exchange; the call
-/// must answer with the last of them.
-fn course(n: usize, table: &[u32]) -> Vec<(u32, Vec<Place>)> {
-    let legs = Legs::new(n, table);
-    let mut order = nearest_stop_order(&legs);
-    let mut course = vec![(legs.order_cost(&order), order.clone())];
-    while let Some(next) = best_exchange(&legs, &order) {
-        course.push((legs.order_cost(&next), next.clone()));
-        order = next;
-    }
-    let mut places = [0; 16];
-    for (place, stop) in places.iter_mut().zip(&order) {
-        *place = *stop as u32;
-    }
-    let cost = legs.order_cost(&order);
-    assert_eq!(first_order(n as u64, table), FirstOrder { number: 0, cost, order: places });
-    course
 }
 
 /// What each exchange would make of an order's cost, by first and then second

@@ -3,7 +3,7 @@
 
 mod common;
 
-use common::{ample, for_each_table, Job};
+use common::{ample, course, for_each_table, Job};
 use samples::{nearest, Random};
 use witness::enumerate::least_cost;
 use witness::first_order;
@@ -82,6 +82,28 @@ fn few_free_legs() {
             check_first_order(&over(n, &random.few_free(n)));
         }
     }
+}
+
+/// How many exchanges sixteen stops take: never more than the nearest-stop
+/// order costs, and in these 10,000 tables nine at most.
+#[test]
+fn exchanges_of_sixteen_stops() {
+    let mut random = Random(55);
+    let mut most = 0;
+    for round in 0..10_000 {
+        let table = match round % 4 {
+            0 => random.few_free(16),
+            1 => random.table(16, 1, 12),
+            2 => random.table(16, 1, 1_000),
+            _ => random.table(16, 0, 1_000_000),
+        };
+        let course = course(16, &table);
+        let exchanges = course.len() - 1;
+        assert!(exchanges <= course[0].0 as usize, "{table:?}");
+        most = most.max(exchanges);
+    }
+    println!("at most {most} exchanges");
+    assert_eq!(most, 9);
 }
 
 /// The slower working under other tie rules, or with the first gain in place

@@ -15,14 +15,13 @@ pub fn first_stops(n: usize, table: &[u32]) -> Vec<u8> {
     raw::first_order(n as u32, table).order[..n].to_vec()
 }
 
-/// A job of n stops that every check lets pass: in half of the cases without a starting order, else from any or from
-/// the first order.
+/// A job of n stops that every check lets pass: in half of the cases from the first order, else from none or from any.
 pub fn random_job(random: &mut Random, n: usize, most: u32) -> Job {
     let table = random.table(n, 0, most);
     let start = match random.below(4) {
-        0 => random.order(n),
-        1 => first_stops(n, &table),
-        _ => Vec::new(),
+        0 => Vec::new(),
+        1 => random.order(n),
+        _ => first_stops(n, &table),
     };
     Job {
         n: n as u32,

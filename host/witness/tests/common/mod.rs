@@ -3,8 +3,10 @@
 #![allow(dead_code)]
 
 use samples::{Random, KINDS};
-use witness::legs::Legs;
-use witness::{plan, plan_watched, Report, Request, State, WORDS};
+use witness::first_order::{best_exchange, nearest_stop_order};
+use witness::legs::{Legs, Place};
+use witness::words::in_places;
+use witness::{first_order, plan, plan_watched, FirstOrder, Report, Request, State, WORDS};
 
 pub const T: [u32; 16] = [0, 4, 7, 9, 5, 0, 2, 6, 3, 8, 0, 1, 6, 5, 4, 0];
 
@@ -101,6 +103,21 @@ impl Job {
         let home = left.iter().map(|&s| self.leg(s, 0)).min().unwrap();
         self.path(order) + left.iter().map(|&s| into(s)).sum::<u32>() + home
     }
+}
+
+/// Cost and stops of the nearest-stop order and after each exchange; the call
+/// for a first order must answer with the last of them.
+pub fn course(n: usize, table: &[u32]) -> Vec<(u32, Vec<Place>)> {
+    let legs = Legs::new(n, table);
+    let mut order = nearest_stop_order(&legs);
+    let mut course = vec![(legs.order_cost(&order), order.clone())];
+    while let Some(next) = best_exchange(&legs, &order) {
+        course.push((legs.order_cost(&next), next.clone()));
+        order = next;
+    }
+    let cost = legs.order_cost(&order);
+    assert_eq!(first_order(n as u64, table), FirstOrder { number: 0, cost, order: in_places(&order) });
+    course
 }
 
 /// As many records as a run over n stops can ever keep: all its nodes.
