@@ -71,11 +71,12 @@ fn up_to_sixteen_stops() {
             let mut job = random_job(&mut random, n, most);
             job.bound = 1;
             // Small pools: such jobs end soon, with an order or full. Depth first
-            // they need not, unless the branched nodes are kept too.
-            if job.selection == 3 && n > 8 {
+            // they need not, where the pool holds all that waits on the way down,
+            // unless the branched nodes are kept too.
+            let records = [1, 17, 40, 90, 200, 400][round];
+            if job.selection == 3 && n > 8 && 2 * records > n * (n - 1) {
                 job.rules |= 4;
             }
-            let records = [1, 17, 40, 90, 200, 400][round];
             compare(&job, &random.words(records * RECORD_WORDS));
             // All legs equal, the latest of ties: straight down to an order.
             job.table = level(n, 7);
