@@ -1,4 +1,6 @@
--- What request A.1 says of a first order (specs/Request), proved.
+-- What request A.1 says of a first order (specs/Request), proved, a theorem for each type. Besides, for the crates above:
+--   firstOf-order      the first order of a table is an order
+--   promised-places    an answer has as many places as there may be stops
 use mathlib.Core.Path.{_≡_, refl, ap, subst, _∙_}
 use mathlib.Core.Bool.{true, false, or-true}
 use mathlib.Core.List.{List}
@@ -17,10 +19,10 @@ use Rattle.stops.specs.Legs.{cost}
 use Rattle.stops.specs.Stops.{day, dayOn}
 use Rattle.answer.specs.Answer.{dayOf}
 use Rattle.answer.specs.Demands.{Planner, RunIsWritten}
+use Rattle.answer.specs.Checks.{cause₅, tableCause, jobCause}
 use Rattle.answer.proofs.Passes.{table-passed}
 use Rattle.answer.proofs.Ending.{tableCause-small}
 use Rattle.answer.proofs.Demand3.{cheapest-of-all}
-use Rattle.answer.specs.Checks.{cause₅, tableCause, jobCause}
 use Rattle.first_answer.specs.Nearest.{anyNode}
 use Rattle.first_answer.specs.Exchanges.{exchanged}
 use Rattle.first_answer.specs.First.{legsOf, nearestOf, firstOf, respond, firstAnswer, Promised}
@@ -28,6 +30,7 @@ use Rattle.first_answer.specs.declared.FirstOrder.{FirstOrder}
 use Rattle.first_answer.specs.Request.{
   CheapestIsFirst,
   ExchangesEnd,
+  FewExchanges,
   ExchangesImprove,
   shown,
   Given,
@@ -41,13 +44,16 @@ use Rattle.first_answer.specs.Request.{
 }
 use Rattle.first_answer.proofs.Cheapest.{cheapest-first}
 use Rattle.first_answer.proofs.NearestOrder.{nearest-free}
-use Rattle.first_answer.proofs.Settled.{improved-settles, improved-only, improved-cost, improved-least, improved-order}
+use Rattle.first_answer.proofs.Settled.{improved-settles, improved-only, settles-few, improved-cost, improved-least, improved-order}
 
 pub cheapest-is-first : CheapestIsFirst
 cheapest-is-first A f x xs = cheapest-first f x xs
 
 pub exchanges-end : ExchangesEnd
 exchanges-end L allowed x = (improved-settles L allowed x, improved-only L allowed x)
+
+pub few-exchanges : FewExchanges
+few-exchanges L allowed x y s = settles-few L allowed s
 
 pub exchanges-improve : ExchangesImprove
 exchanges-improve L allowed x = (improved-cost L allowed x, improved-least L allowed x)
@@ -128,7 +134,6 @@ refused-by-table n table r e = go (tableCause n table 0) (tableCause-small n tab
         let number : r .number ≡ suc k = ap (λ (a : FirstOrder). a .number) e in
         (number, omega arith, λ some. e ∙ rw number)
 
--- an answer has as many places as there may be stops
 pub promised-places : (n : ℕ) (table : List ℕ) (r : FirstOrder) → Promised n table r → length (r .order) ≡ orderPlaces
 unfolding firstAnswer respond padded
 promised-places n table r e = go (tableCause n table 0) refl e

@@ -1,12 +1,13 @@
 -- Exchanges end, and what they lead to.
 --   improved-settles, improved-only        every node settles, to `improved` and to nothing else
 --   improved-stays, improved-goes-on       so it is the node itself where no exchange lowers the cost, else what the best exchange settles to
+--   settles-few                            with each exchange the cost falls, by 1 or more
 --   improved-cost, improved-least          it is no dearer than the node, and no allowed exchange of two of its stops is cheaper
 --   improved-order                         it is an order, if the node is
 use mathlib.Core.Path.{_≡_, refl, sym, subst}
 use mathlib.Core.Bool.{Bool}
 use mathlib.Core.Logic.{_⊎_, inl, inr}
-use Prim.Native.Nat.{ℕ, zero, suc, _≤_, _<_}
+use Prim.Native.Nat.{ℕ, zero, suc, _+_, _≤_, _<_}
 use native.Mathlib.Omega.{arith}
 use lib.Dec.{T}
 use lib.ListN.{length}
@@ -15,6 +16,7 @@ use Rattle.lists.proofs.Tests.{ordered}
 use Rattle.orders.specs.Orders.{Node, Order}
 use Rattle.stops.specs.Legs.{Legs, cost}
 use Rattle.first_answer.specs.Exchanges.{exchanged, exchanges, bestExchange, Settles, settled, lowered, repeated, improved}
+use Rattle.first_answer.specs.Request.{exchangesMade}
 use Rattle.first_answer.proofs.Cheapest.{cheapest-stays}
 use Rattle.first_answer.proofs.Exchanges.{bestExchange-least, bestExchange-order}
 
@@ -61,12 +63,12 @@ module _ (L : Legs) (allowed : Node → Bool) where
   pub improved-goes-on : (x : Node) → cost L (next x) < cost L x → improved L allowed x ≡ improved L allowed (next x)
   improved-goes-on x h = sym (improved-only x (improved L allowed (next x)) (lowered h (improved-settles (next x))))
 
-  settles-cost : {x y : Node} → Settles L allowed x y → cost L y ≤ cost L x
-  settles-cost (settled h) = omega arith
-  settles-cost (lowered h s) = omega (arith, settles-cost s)
+  pub settles-few : {x y : Node} (s : Settles L allowed x y) → exchangesMade s + cost L y ≤ cost L x
+  settles-few (settled h) = omega arith
+  settles-few (lowered h s) = omega (arith, settles-few s)
 
   pub improved-cost : (x : Node) → cost L (improved L allowed x) ≤ cost L x
-  improved-cost x = settles-cost (improved-settles x)
+  improved-cost x = omega (arith, settles-few (improved-settles x))
 
   settles-least : {x y : Node} → Settles L allowed x y → cost L y ≤ cost L (next y)
   settles-least (settled h) = h

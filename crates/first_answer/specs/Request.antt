@@ -1,11 +1,11 @@
 -- What request A.1 says of a first order beside how it is made, which the definitions say (Nearest, Exchanges) and Examples shows: a type for
--- each sentence, proved in proofs/. The first is over any elements, the next two over any legs and any test of what is allowed. The others
+-- each sentence, proved in proofs/. The first is over any elements, the next three over any legs and any test of what is allowed. The others
 -- are over whatever a call returns that keeps its promise (`Promised`), so that they are of the definition and of the code at once.
 use mathlib.Core.Path.{_≡_}
 use mathlib.Core.Bool.{Bool, false}
 use mathlib.Core.List.{List, [], _∷_, _++_}
 use mathlib.Core.Logic.{_≢_}
-use Prim.Native.Nat.{ℕ, _≤_, _<_}
+use Prim.Native.Nat.{ℕ, suc, _+_, _≤_, _<_}
 use lib.Dec.{T}
 use lib.ListN.{length, take, replicate}
 use Rattle.sizes.specs.Sizes.{orderPlaces}
@@ -17,7 +17,7 @@ use Rattle.answer.specs.declared.Job.{Job}
 use Rattle.answer.specs.Checks.{cause₅, tableCause, jobCause}
 use Rattle.answer.specs.Demands.{Planner}
 use Rattle.first_answer.specs.Nearest.{cheapest}
-use Rattle.first_answer.specs.Exchanges.{exchanged, Settles, improved}
+use Rattle.first_answer.specs.Exchanges.{exchanged, Settles, settled, lowered, improved}
 use Rattle.first_answer.specs.First.{legsOf, nearestOf, Promised}
 use Rattle.first_answer.specs.declared.FirstOrder.{FirstOrder}
 
@@ -39,7 +39,15 @@ ExchangesEnd =
     (L : Legs) (allowed : Node → Bool) (x : Node)
     → Settles L allowed x (improved L allowed x) × ((y : Node) → Settles L allowed x y → y ≡ improved L allowed x)
 
--- which is no dearer than what they start from, and of which no allowed exchange of two stops is cheaper
+-- how many they are, and that each lowers the cost by 1 or more: so they are no more than what they start from costs
+abbrev pub exchangesMade : {L : Legs} {allowed : Node → Bool} {x y : Node} → Settles L allowed x y → ℕ
+exchangesMade (settled h) = 0
+exchangesMade (lowered h s) = suc (exchangesMade s)
+
+abbrev pub FewExchanges : Type 0
+FewExchanges = (L : Legs) (allowed : Node → Bool) (x y : Node) (s : Settles L allowed x y) → exchangesMade s + cost L y ≤ cost L x
+
+-- the order that they lead to is no dearer than what they start from, and no allowed exchange of two of its stops is cheaper
 abbrev pub ExchangesImprove : Type 0
 ExchangesImprove =
     (L : Legs) (allowed : Node → Bool) (x : Node) →

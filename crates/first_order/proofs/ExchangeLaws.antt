@@ -5,7 +5,8 @@
 --   pairs x p                                  what is made by the exchanges of each position from p on with the positions behind it
 --   pairs-start, pairs-tried, pairs-end        rest is what is made by these: of all positions, of one less, of none
 --   Improving rows x₀ x own e                  x settles to what x₀ does, own is its cost and e its best exchange
---   improving-starts, improving-asks, improving-again, improving-ends   so it is at first, with one more exchange made, and at last
+--   improving-starts, improving-again, improving-ends   so it is at first, with one more exchange made, and at last
+--   improving-asks                             what is asked to look for the best exchange of the order that e makes
 use mathlib.Core.Path.{_≡_, refl, sym, _∙_}
 use mathlib.Core.Bool.{Bool, true, false, cond}
 use mathlib.Core.List.{List, [], _∷_, _++_}
@@ -121,7 +122,6 @@ pub improving-starts :
 improving-starts f costs m = record { reckonable = f; long = refl; costs = costs; found = m; same = refl }
 
 module _ {rows : List (List ℕ)} {x₀ x : Node} {own : ℕ} {e : Exchange} (i : Improving rows x₀ x own e) where
-  -- what is asked where the best exchange of the order that e makes is looked for
   pub improving-asks : Reckonable rows (made x e) × ((0 < length (made x e)) × (e .cost ≡ cost (legs rows) (made x e)))
   improving-asks = (
     exchanged-reckonable (i .reckonable) (e .p) (e .q) (i .found .first) (i .found .second),

@@ -26,10 +26,11 @@ use Rattle.first_answer.proofs.NearestOrder.{nearest-free}
 use Rattle.first_answer.proofs.First.{firstOf-order}
 
 pub nearest-asks :
-    {t : List (List ℕ)} {n : ℕ} (x : List ℕ) → Cheap t → 1 ≤ n → n ≤ mostStops → x ≡ nearest n (legs t) anyNode → Reckonable t x × (0 < length x)
+    {t : List (List ℕ)} {n : ℕ} (x : List ℕ) → Cheap t → 1 ≤ n → n ≤ mostStops → x ≡ nearest n (legs t) anyNode
+    → Reckonable t x × (0 < length x)
 nearest-asks {t} {n} x cheap some few e =
-    let o : Order n (nearest n (legs t) anyNode) = nearest-free n (legs t) anyNode (λ y. tt) in
-    (rw e (partial-reckonable few cheap (order-partial n (nearest n (legs t) anyNode) o)), omega (arith, ap length e, order-length n (nearest n (legs t) anyNode) o))
+    let o : Order n x = rw e (nearest-free n (legs t) anyNode (λ y. tt)) in
+    (partial-reckonable few cheap (order-partial n x o), omega (arith, order-length n x o))
 
 -- as many zeros as an order has places
 unfoldable pub zeros : List ℕ
