@@ -1,32 +1,29 @@
 -- Part 2 of a step: what children do to U and its order (`src/best.rt`).
 --   Learnt, learn-keeps, learn-replaces    of one child
---   learn-none, learn-more                 of a list without a complete child, and of one record more of a list
-use mathlib.Core.Path.{_≡_, refl, sym}
+--   learn-none, learn-more                 of a list without a complete child, and of one child in front of a list
+--   Learning, learning-starts, learning-again, learning-ends    the invariant of the loop over the children in their slots
+use mathlib.Core.Path.{_≡_, refl, sym, _∙_}
 use mathlib.Core.Bool.{Bool, true, false, _&&_}
-use mathlib.Core.List.{List, [], _∷_, _++_, List·Memᴰ·tail}
-use mathlib.Core.Logic.{_⊎_, inl, inr, _≢_}
+use mathlib.Core.List.{List, [], _∷_, List·Memᴰ·tail}
+use mathlib.Core.Logic.{_≢_}
 use mathlib.Core.Option.{Option, none, some}
-use Prim.Native.Nat.{ℕ, _+_, _≤_, _<_}
-use native.Mathlib.Numerals.{add-one}
+use Prim.Native.Nat.{ℕ, _-_, _^_, _≤_, _<_}
+use native.Mathlib.Omega.{arith}
 use borrow.Author.Tests.{lt-ltb, le-ltb, eq-eqb, ne-eqb}
-use lib.Dec.{eqb, ltb}
-use lib.ListN.{length, getD, take}
-use lib.Seq.{take-suc}
+use lib.Dec.{eqb}
+use Rattle.sizes.specs.Sizes.{mostStops}
 use Rattle.lists.specs.Lists.{In}
 use Rattle.lists.proofs.Members.{in-head}
-use Rattle.search.specs.Problem.{Problem, upper}
+use Rattle.search.specs.Problem.{upper}
 use Rattle.search.specs.Step.{replace, learn}
+use Rattle.stops.specs.Code.{stopsIn}
 use Rattle.stops.specs.declared.node_record.Record.{Record}
+use Rattle.stops.proofs.SetLoops.{First}
+use Rattle.records.specs.Code.{inSlot, slots}
+use Rattle.records.proofs.SlotLaws.{slots-none, slots-first, slot-in}
 use Rattle.children.specs.Code.{Table, recProblem, IsBest}
 use Rattle.children.specs.declared.best.Best.{Best}
 use Rattle.children.specs.declared.setting.Setting.{Setting}
-
--- the fold over one child more
-learn-append :
-    {N : Type 0} (P : Problem N) (o : Option N) (xs : List N) (x : N)
-    → learn P o (xs ++ (x ∷ [])) ≡ learn P (learn P o xs) (x ∷ [])
-learn-append P o [] x = refl
-learn-append P o (c ∷ cs) x = learn-append P (replace (P .complete c && ltb (P .cost c) (upper P o)) c o) cs x
 
 -- U is a word of a, whatever order that stands for
 pub upper-best : (d : Setting) (t : Table) (a : Best) (o : Option Record) → IsBest a o → upper (recProblem d t) o ≡ a .upper
@@ -46,10 +43,9 @@ learn-none d a (x ∷ xs) h t o best =
     rw (ne-eqb (x .size) (d .n) (h x in-head)) (learn-none d a xs (λ y m. h y (List·Memᴰ·tail m)) t o best)
 
 module _ (d : Setting) (a : Best) (x : Record) where
-  pub learn-keeps : (x .size ≢ d .n) ⊎ (a .upper ≤ x .bound) → Learnt d a (x ∷ []) a
+  pub learn-keeps : a .upper ≤ x .bound → Learnt d a (x ∷ []) a
   unfolding recProblem
-  learn-keeps (inl e) t o h = rw (ne-eqb (x .size) (d .n) e) h
-  learn-keeps (inr e) t o h = rw (upper-best d t a o h, le-ltb (x .bound) (a .upper) e) (go (eqb (x .size) (d .n)))
+  learn-keeps e t o h = rw (upper-best d t a o h, le-ltb (x .bound) (a .upper) e) (go (eqb (x .size) (d .n)))
     where
       go : (b : Bool) → IsBest a (replace (b && false) x o)
       go true = h
@@ -61,8 +57,33 @@ module _ (d : Setting) (a : Best) (x : Record) where
   learn-replaces e l t o h = rw (eq-eqb (x .size) (d .n) e, upper-best d t a o h, lt-ltb (x .bound) (a .upper) l) (refl, refl, refl)
 
 pub learn-more :
-    (d : Setting) (a b c : Best) (xs : List Record) (i : ℕ) (x : Record) → i < length xs
-    → Learnt d a (take i xs) b → Learnt d b (getD xs i x ∷ []) c → Learnt d a (take (i + 1) xs) c
-learn-more d a b c xs i x h p q t o best =
-    rw (add-one i, take-suc xs i x h, learn-append (recProblem d t) o (take i xs) (getD xs i x))
-    (q t (learn (recProblem d t) o (take i xs)) (p t o best))
+    (d : Setting) (a b c : Best) (x : Record) (xs : List Record) → Learnt d a (x ∷ []) b → Learnt d b xs c → Learnt d a (x ∷ xs) c
+learn-more d a b c x xs p q t o best = q t (learn (recProblem d t) o (x ∷ [])) (p t o best)
+
+-- Children are learnt so: `left` has the stops to come, and what stands for U's order after `known` and their children stands for it after
+-- all children, if these are complete.
+pub record Learning (size : ℕ) (kids : List Record) (born : ℕ) (known₀ known : Best) (left : ℕ) : Type 0 where
+  pub small : left < 2 ^ mostStops
+  pub among : (s : ℕ) → In s (stopsIn left) → In s (stopsIn born)
+  pub same : (d : Setting) (b : Best) → size ≡ d .n → Learnt d known (slots left kids) b → Learnt d known₀ (slots born kids) b
+
+pub learning-starts :
+    {size : ℕ} {kids : List Record} {born : ℕ} {known : Best} → born < 2 ^ mostStops → Learning size kids born known known born
+learning-starts h = record { small = h; among = λ s i. i; same = λ d b n learnt. learnt }
+
+module _ {size : ℕ} {kids : List Record} {born : ℕ} {known₀ known : Best} {left : ℕ} (l : Learning size kids born known₀ known left) where
+  pub learning-again :
+      {known′ : Best} {left′ s : ℕ} → First left s → left′ ≡ left - 2 ^ (s - 1) → ((x : Record) → In x (slots born kids) → x .size ≡ size)
+      → ((d : Setting) → inSlot kids s .size ≡ d .n → Learnt d known (inSlot kids s ∷ []) known′)
+      → Learning size kids born known₀ known′ left′
+  learning-again {known′} {s = s} o e sizes better = rw e record {
+    small = omega (arith, l .small, o .less);
+    among = λ r m. l .among r (rw (o .others) (List·Memᴰ·tail m));
+    same = λ d b n learnt.
+        let x = inSlot kids s in
+        let one = better d (sizes x (slot-in kids born s (l .among s (o .member))) ∙ n) in
+        l .same d b n (rw (slots-first kids o) (learn-more d known known′ b x (slots (left - 2 ^ (s - 1)) kids) one learnt));
+  }
+
+  pub learning-ends : left ≡ 0 → (d : Setting) → size ≡ d .n → Learnt d known₀ (slots born kids) known
+  learning-ends e d n = l .same d known n (rw (e, slots-none) (λ t o best. best))

@@ -1,34 +1,33 @@
--- What the code of `family` needs of a node's record, and of the loop that writes the children's records one after the other.
+-- What the code of `family` needs of a node's record, and of the loop that writes each child's record to its slot.
 --   rest-sum, restOf-left           the stops that it leaves, as a set that fits
 --   family-few                      no more children than there may be stops
---   children-size, children-near    each child has one stop more, and its set holds its own
---   Written, written-starts, written-room, written-again, written-ends    the invariant of the loop
-use mathlib.Core.Path.{_≡_, refl, ap, sym, subst, _∙_}
-use mathlib.Core.List.{List, [], _++_, map, append-assoc, append-nil, List·Memᴰ·tail}
+--   born-slots, born-siblings, born-size    the children in their slots
+--   Placed, placed-starts, placed-again, placed-ends    the invariant of the loop
+use mathlib.Core.Path.{_≡_, ap, subst, _∙_}
+use mathlib.Core.List.{List, map, List·Memᴰ·tail, List·Memᴰ·cases-cons, List·Memᴰ·not-nil}
+use mathlib.Core.Logic.{_⊎_, inl, inr, _≢_}
 use Prim.Native.Nat.{ℕ, _+_, _-_, _^_, _≤_, _<_}
-use native.Mathlib.Numerals.{add-one}
 use native.Mathlib.Omega.{arith}
-use lib.Bits.{bitAnd}
 use lib.Count.{ones}
-use lib.Dec.{T, eqb, eqb-refl}
-use lib.ListN.{length, take, set, length-set, length-map}
+use lib.ListN.{length, set, length-set, length-map}
 use lib.Pow.{pow-pos, pow-mono}
-use lib.Seq.{take-suc-set}
+use lib.Seq.{getD-set-same, getD-set-other}
 use Rattle.sizes.specs.Sizes.{mostStops}
 use Rattle.lists.specs.Lists.{In}
-use Rattle.lists.proofs.Members.{in-map}
-use Rattle.lists.proofs.Tests.{and-both}
+use Rattle.lists.proofs.Map.{map-same}
+use Rattle.lists.proofs.Tests.{compared}
 use Rattle.orders.specs.Orders.{left, extend}
 use Rattle.orders.proofs.Sets.{size-extend}
-use Rattle.stops.specs.Code.{extended, stopsIn}
+use Rattle.stops.specs.Code.{emptyRecord, extended, stopsIn}
 use Rattle.stops.specs.declared.node_record.Record.{Record}
-use Rattle.stops.proofs.SetBits.{stopsIn-zero, stopsIn-few}
+use Rattle.stops.proofs.SetBits.{stopsIn-zero, stopsIn-range, stopsIn-few}
 use Rattle.stops.proofs.SetAnd.{stopsIn-added}
 use Rattle.stops.proofs.SetLoops.{First}
-use Rattle.records.specs.Code.{encode}
-use Rattle.rivals.specs.Code.{near, AllNear}
+use Rattle.records.specs.Code.{encode, inSlot, slots}
 use Rattle.records.proofs.Mask.{mask-stops, rest-small, rest-left, ones-set, mask-extend}
-use Rattle.children.specs.Code.{Table, Rows, Encoded, encodeOf, restOf, bounded, childOf, childrenOf}
+use Rattle.records.proofs.SlotLaws.{in-slots}
+use Rattle.rivals.specs.Code.{Siblings}
+use Rattle.children.specs.Code.{Table, Rows, Encoded, encodeOf, restOf, bounded, childOf, childrenOf, Born}
 use Rattle.children.specs.declared.setting.Setting.{Setting}
 
 module _ {d : Setting} {t : Table} {b : Record} (rows : Rows d t) (e : Encoded d t b) where
@@ -57,63 +56,86 @@ module _ {d : Setting} {t : Table} {b : Record} (rows : Rows d t) (e : Encoded d
       let there : In s (left (d .n) y) = subst (λ (xs : List ℕ). In s xs) restOf-left m in
       rw (e .same, ← mask-extend (d .n) y s there, ones-set (d .n) (rows .few) (extend y s)) (omega (arith, size-extend (d .n) y s there))
 
-  pub children-size : (x : Record) → In x (childrenOf d t b) → x .size ≡ b .size + 1
-  unfolding childrenOf childOf bounded extended
-  children-size x i =
-      let (s, m, same) = in-map (childOf d t b) (stopsIn (restOf d b)) x i in
-      ap (λ (y : Record). y .size) same ∙ one-more s m
+  module _ {born : ℕ} {kids : List Record} (k : Born d t b born kids) where
+    pub born-slots : slots born kids ≡ childrenOf d t b
+    unfolding slots childrenOf
+    born-slots =
+        map-same (inSlot kids) (childOf d t b) (stopsIn born) (k .each) ∙ ap (λ (m : ℕ). map (childOf d t b) (stopsIn m)) (k .stops)
 
-  child-near : (s : ℕ) → In s (stopsIn (restOf d b)) → T (near (b .size + 1) (b .set) (childOf d t b s))
-  unfolding childOf bounded extended near restOf
-  child-near s m =
-      let kept : bitAnd (b .set + 2 ^ (s - 1)) (b .set) ≡ b .set =
-      stopsIn-added (d .n) (b .set) (restOf d b) s (rest-sum .0) (rest-small (d .n) (rows .few) (b .set)) m in
-      rw (kept, one-more s m) (and-both (eqb (b .set) (b .set)) (eqb (b .size + 1) (b .size + 1)) (eqb-refl (b .set)) (eqb-refl (b .size + 1)))
+    -- each has one stop more than b, and its set holds b's
+    pub born-siblings : (limit : ℕ) → Siblings (record { size = b .size + 1; base = b .set; limit = limit }) born kids
+    unfolding childOf bounded extended restOf
+    born-siblings limit = record {
+      small = rw (k .stops) (rest-small (d .n) (rows .few) (b .set));
+      room = k .room;
+      sizes = λ s i. ap (λ (x : Record). x .size) (k .each s i) ∙ one-more s (left-by s i);
+      sets = λ s i. ap (λ (x : Record). x .set) (k .each s i);
+      lacks = λ s i.
+          stopsIn-added (d .n) (b .set) (restOf d b) s (rest-sum .0) (rest-small (d .n) (rows .few) (b .set)) (left-by s i);
+    }
+      where
+        left-by : (s : ℕ) → In s (stopsIn born) → In s (stopsIn (restOf d b))
+        left-by s i = subst (λ (m : ℕ). In s (stopsIn m)) (k .stops) i
 
-  pub children-near : AllNear (b .size + 1) (b .set) (childrenOf d t b)
-  unfolding childrenOf
-  children-near x i =
-      let (s, m, same) = in-map (childOf d t b) (stopsIn (restOf d b)) x i in
-      subst (λ (y : Record). T (near (b .size + 1) (b .set) y)) (sym same) (child-near s m)
+    pub born-size : (x : Record) → In x (slots born kids) → x .size ≡ b .size + 1
+    born-size x i =
+        let (s, m, e) = in-slots kids born x i in
+        ap (λ (y : Record). y .size) e ∙ born-siblings 0 .sizes s m
 
--- The children are written so: the first m records are those of the stops passed, `left` has the others, and there is room for all.
-pub record Written (f : ℕ → Record) (rest : ℕ) (kids : List Record) (m left : ℕ) : Type 0 where
+-- The children are written so: `left` has the stops to come, and the children by the others of `rest` stand in their slots.
+pub record Placed (f : ℕ → Record) (rest : ℕ) (kids : List Record) (left : ℕ) : Type 0 where
   pub small : left < 2 ^ mostStops
+  pub rest-fits : rest < 2 ^ mostStops
   pub among : (s : ℕ) → In s (stopsIn left) → In s (stopsIn rest)
-  pub count : m + length (stopsIn left) ≡ length (stopsIn rest)
-  pub few : length (stopsIn rest) ≤ mostStops
   pub room : mostStops ≤ length kids
-  pub same : take m kids ++ map f (stopsIn left) ≡ map f (stopsIn rest)
+  pub each : (s : ℕ) → In s (stopsIn rest) → In s (stopsIn left) ⊎ (inSlot kids s ≡ f s)
 
-pub written-starts :
+pub placed-starts :
     {f : ℕ → Record} {rest left : ℕ} {kids : List Record} → left ≡ rest → rest < 2 ^ mostStops → mostStops ≤ length kids
-    → Written f rest kids 0 left
-written-starts {rest = rest} e h k = rw e record {
-  small = h;
-  among = λ s i. i;
-  count = omega arith;
-  few = stopsIn-few rest h;
-  room = k;
-  same = refl;
-}
+    → Placed f rest kids left
+placed-starts e h k = rw e record { small = h; rest-fits = h; among = λ s i. i; room = k; each = λ s i. inl i }
 
-module _ {f : ℕ → Record} {rest : ℕ} {kids : List Record} {m left : ℕ} (l : Written f rest kids m left) where
-  pub written-room : {r : ℕ} → First left r → (m < mostStops) × (mostStops ≤ length kids)
-  written-room o = omega (arith, ap length (o .others))
+-- a record stored in its slot, and the others, which stay
+slot-stored : (l : List Record) (r : ℕ) (x : Record) → r - 1 < length l → inSlot (set l (r - 1) x) r ≡ x
+unfolding inSlot
+slot-stored l r x h = getD-set-same l (r - 1) x emptyRecord h
 
-  pub written-again :
-      {kids′ : List Record} {left′ : ℕ} {x : Record} {r : ℕ} → First left r → left′ ≡ left - 2 ^ (r - 1) → x ≡ f r → kids′ ≡ set kids m x
-      → Written f rest kids′ (m + 1) left′
-  written-again {r = r} o e i g = rw (e, g, i) record {
-    small = omega arith;
-    among = λ s i. l .among s (rw (o .others) (List·Memᴰ·tail i));
-    count = omega (arith, ap length (o .others));
-    few = l .few;
+slot-other : (l : List Record) (r s : ℕ) (x : Record) → 1 ≤ r → 1 ≤ s → s ≢ r → inSlot (set l (r - 1) x) s ≡ inSlot l s
+unfolding inSlot
+slot-other l r s x h i n = getD-set-other l (r - 1) (s - 1) x emptyRecord (λ q. n (omega arith))
+
+module _ {f : ℕ → Record} {rest : ℕ} {kids : List Record} {left : ℕ} (l : Placed f rest kids left) where
+  pub placed-again :
+      {kids′ : List Record} {left′ : ℕ} {x : Record} {r : ℕ} → First left r → left′ ≡ left - 2 ^ (r - 1) → x ≡ f r
+      → kids′ ≡ set kids (r - 1) x → Placed f rest kids′ left′
+  placed-again {x = x} {r} o e i g = rw (e, g) record {
+    small = omega (arith, l .small);
+    among = λ s m. l .among s (rw (o .others) (List·Memᴰ·tail m));
     room = rw length-set (l .room);
-    same = rw (add-one, take-suc-set kids m (f r) (omega (arith, written-room o)), append-assoc) (rw (o .others) at (l .same));
+    rest-fits = l .rest-fits;
+    each = λ s m. go s m (compared s r) (l .each s m);
   }
+    where
+      range : (s : ℕ) → In s (stopsIn rest) → (1 ≤ s) × (s ≤ mostStops)
+      range s m = stopsIn-range rest (l .rest-fits) s m
 
-  pub written-ends : left ≡ 0 → (take m kids ≡ map f (stopsIn rest)) × (m ≡ length (map f (stopsIn rest)))
-  written-ends e =
-      let none : stopsIn left ≡ [] = rw (e, stopsIn-zero) in
-      (rw (none, append-nil) at (l .same), omega (arith, ap length none, length-map (stopsIn rest) f))
+      range-r : (1 ≤ r) × (r ≤ mostStops)
+      range-r = range r (l .among r (o .member))
+
+      behind : (s : ℕ) → s ≢ r → (s ≡ r) ⊎ In s (stopsIn (left - 2 ^ (r - 1))) → In s (stopsIn (left - 2 ^ (r - 1)))
+      behind s n (inl q) = absurd (n q)
+      behind s n (inr j) = j
+
+      go :
+          (s : ℕ) → In s (stopsIn rest) → (s ≡ r) ⊎ (s ≢ r) → In s (stopsIn left) ⊎ (inSlot kids s ≡ f s)
+          → In s (stopsIn (left - 2 ^ (r - 1))) ⊎ (inSlot (set kids (r - 1) x) s ≡ f s)
+      go s m (inl q) was = inr (rw q (slot-stored kids r x (omega (arith, range-r, l .room)) ∙ i))
+      go s m (inr n) (inl there) = inl (behind s n (List·Memᴰ·cases-cons (rw (o .others) at there)))
+      go s m (inr n) (inr was) = inr (slot-other kids r s x (range-r .0) (range s m .0) n ∙ was)
+
+  pub placed-ends : left ≡ 0 → (s : ℕ) → In s (stopsIn rest) → inSlot kids s ≡ f s
+  placed-ends e s m = go (l .each s m)
+    where
+      go : In s (stopsIn left) ⊎ (inSlot kids s ≡ f s) → inSlot kids s ≡ f s
+      go (inl i) = absurd (List·Memᴰ·not-nil (rw (e, stopsIn-zero) at i))
+      go (inr q) = q

@@ -6,6 +6,7 @@
 --   childrenOf, rootOf                the children of a record, in ascending stop order, and the record of e
 --   recProblem, recChoices            the same problem and choices on records
 --   Encoded, Kid                      a record is that of a node; and a stop is one that it leaves
+--   Born                              the children of a record, each in the slot of its stop
 --   IsBest                            what stands for U and its order
 --   othersIn, farIn, Spotted          where the active records stand, the one that is branched and those branched before
 --   survivorsOf, Surviving            what rules 1, 2 and 4 leave of the children
@@ -25,9 +26,9 @@ use Rattle.days.specs.Days.{problem, choices}
 use Rattle.stops.specs.Stops.{dayOn}
 use Rattle.stops.specs.Code.{emptyRecord, extended, lastStop, recDominates, stopsIn, reckonOn, Cheap}
 use Rattle.stops.specs.declared.node_record.Record.{Record}
-use Rattle.records.specs.Code.{encode}
+use Rattle.records.specs.Code.{encode, inSlot, slots}
 use Rattle.passes.specs.Code.{isWithin}
-use Rattle.rivals.specs.Code.{isFree, AllNear}
+use Rattle.rivals.specs.Code.{isFree}
 use Rattle.answer.specs.declared.Job.{Job}
 use Rattle.children.specs.declared.best.Best.{Best}
 use Rattle.children.specs.declared.setting.Setting.{Setting}
@@ -105,6 +106,11 @@ pub record Kid (d : Setting) (t : Table) (b : Record) (place rest s : ℕ) : Typ
   pub leaves : rest ≡ restOf d b
   pub stop : In s (stopsIn rest)
 
+pub record Born (d : Setting) (t : Table) (b : Record) (born : ℕ) (kids : List Record) : Type 0 where
+  pub stops : born ≡ restOf d b
+  pub each : (s : ℕ) → In s (stopsIn born) → inSlot kids s ≡ childOf d t b s
+  pub room : mostStops ≤ length kids
+
 abbrev pub IsBest : Best → Option Record → Type 0
 IsBest b none = (b .upper ≡ aboveEveryCost) × (b .first ≡ 0) × (b .second ≡ 0)
 IsBest b (some x) = (b .upper ≡ x .bound) × (b .first ≡ x .first) × (b .second ≡ x .second)
@@ -116,14 +122,12 @@ othersIn recs active i = dropAt i (take active recs)
 abbrev pub farIn : List Record → ℕ → List Record
 farIn recs far = drop (length recs - far) recs
 
--- a spot in the pool's records; the first m kids are near its node's set
-pub record Spotted (recs : List Record) (p : Spot) (kids : List Record) (m : ℕ) : Type 0 where
+-- a spot in the pool's records
+pub record Spotted (recs : List Record) (p : Spot) : Type 0 where
   pub whole : p .capacity ≡ length recs
   pub inside : p .at < p .active
   pub front : p .active ≤ length recs
   pub back : p .far ≤ length recs
-  pub few : m ≤ length kids
-  pub near : AllNear (p .size) (p .base) (take m kids)
 
 -- a rule's pass, if the rule is on
 abbrev pub passing : Bool → (Record → Bool) → List Record → List Record
@@ -135,8 +139,8 @@ survivorsOf rules limit others far kids =
     passing (on 4 rules) (isFree noLimit far)
     (passing (on 2 rules) (isFree limit others) (passing (on 1 rules) (isWithin limit) kids))
 
--- the first r of kids are the survivors of m children
-pub record Surviving (rules limit : ℕ) (others far born : List Record) (m : ℕ) (kids : List Record) (r : ℕ) : Type 0 where
-  pub front : take r kids ≡ survivorsOf rules limit others far born
-  pub fewer : r ≤ m
-  pub count : r ≡ length (survivorsOf rules limit others far born)
+-- of the children by the stops of `born`, `alive` has the survivors
+pub record Surviving (rules limit : ℕ) (others far kids : List Record) (born alive : ℕ) : Type 0 where
+  pub small : alive < 2 ^ mostStops
+  pub among : (s : ℕ) → In s (stopsIn alive) → In s (stopsIn born)
+  pub same : slots alive kids ≡ survivorsOf rules limit others far (slots born kids)

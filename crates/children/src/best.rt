@@ -3,21 +3,28 @@ ghost use mathlib.Core.Path.{_≡_};
 ghost use mathlib.Core.List.{[], _∷_};
 ghost use mathlib.Core.Logic.{_⊎_};
 ghost use mathlib.Core.Option.{Option, Option·map};
-ghost use Prim.Native.Nat.{_≤_};
-ghost use lib.ListN.{length, take};
+ghost use Prim.Native.Nat.{_^_, _≤_, _<_};
+ghost use lib.ListN.{length, getD};
+ghost use Rattle.sizes.specs.Sizes.{mostStops};
 ghost use Rattle.lists.specs.Lists.{In};
 ghost use Rattle.search.specs.Step.{learn};
+ghost use Rattle.stops.specs.Code.{emptyRecord};
 ghost use Rattle.stops.specs.declared.node_record.Record.{Record};
 ghost use Rattle.orders.specs.Orders.{Order};
-ghost use Rattle.records.specs.Code.{records};
+ghost use Rattle.records.specs.Code.{records, slots};
 ghost use Rattle.answer.specs.Answer.{given};
 ghost use Rattle.children.specs.Code.{Table, IsBest, recProblem, encodeOf, Rows};
+ghost use Rattle.children.specs.declared.setting.Setting.{Setting};
 use crate::setting::Setting;
+use records::bound_at;
 use records::load;
 use sizes::ABOVE_EVERY_COST;
 use sizes::PLACES;
 use stops::cost::order_cost;
 use stops::node_record::Record;
+use stops::sets::later;
+use stops::sets::next;
+use stops::sets::slot;
 
 // The cost of the best order known, and its two words; `ABOVE_EVERY_COST` and zeros if none is known.
 pub struct Best {
@@ -26,16 +33,15 @@ pub struct Best {
     pub second: u32,
 }
 
-// The best order known after a child: the child's, if it is complete and costs less than U.
-fn better(setting: Setting, best: Best, x: Record) -> Best
-    ensures { λ r. ⌜ ((t : Table) (o : Option Record) → IsBest best o → IsBest r (learn (recProblem setting t) o (x ∷ []))) ⌝ }
+// The best order known after the complete child in a slot: the child's, if it costs less than U.
+fn better(best: Best, kids: &[u32], k: usize) -> Best
+    requires { ⌜ k < length (records (now kids)) ⌝ }
+    ensures { λ r. ⌜ ((d : Setting) (t : Table) (o : Option Record) → getD (records (now (kids .entry))) k emptyRecord .size ≡ d .n → IsBest best o → IsBest r (learn (recProblem d t) o (getD (records (now (kids .entry))) k emptyRecord ∷ []))) ⌝ }
 {
-    if x.size != setting.n {
+    if best.upper <= bound_at(kids, k) {
         return best;
     }
-    if best.upper <= x.bound {
-        return best;
-    }
+    let x = load(kids, k);
     Best {
         upper: x.bound,
         first: x.first,
@@ -43,20 +49,20 @@ fn better(setting: Setting, best: Best, x: Record) -> Best
     }
 }
 
-// Part 2 of a step, over the first m children, which are all of one size.
-pub fn learn(setting: Setting, kids: &[u32], m: usize, size: u32, best: Best) -> Best
-    requires { ⌜ (m ≤ length (records (now kids))) × ((x : Record) → In x (take m (records (now kids))) → x .size ≡ size) ⌝ }
-    ensures { λ r. ⌜ ((t : Table) (o : Option Record) → IsBest best o → IsBest r (learn (recProblem setting t) o (take m (records (now (kids .entry)))))) ⌝ }
+// Part 2 of a step, over the children by the stops of `born`, which are all of one size.
+pub fn learn(setting: Setting, kids: &[u32], born: u32, size: u32, best: Best) -> Best
+    requires { ⌜ ((born < 2 ^ mostStops) × (mostStops ≤ length (records (now kids)))) × ((x : Record) → In x (slots born (records (now kids))) → x .size ≡ size) ⌝ }
+    ensures { λ r. ⌜ ((t : Table) (o : Option Record) → IsBest best o → IsBest r (learn (recProblem setting t) o (slots born (records (now (kids .entry)))))) ⌝ }
 {
     if size != setting.n {
         return best;
     }
     let mut known = best;
-    let mut k = 0;
-    while k < m {
-        let x = load(kids, k);
-        known = better(setting, known, x);
-        k += 1;
+    let mut left = born;
+    while left != 0 {
+        let s = next(left);
+        left = later(left);
+        known = better(known, kids, slot(s));
     }
     known
 }

@@ -1,18 +1,19 @@
-// Part 1 of a step: the children of a node, with their bounds, in ascending stop order; and e, with which a run starts.
+// Part 1 of a step: the children of a node, with their bounds, each in the slot of its stop; and e, with which a run starts.
 ghost use mathlib.Core.Path.{_≡_};
 ghost use Prim.Native.Nat.{_≤_};
-ghost use lib.ListN.{length, take};
+ghost use lib.ListN.{length};
 ghost use Rattle.sizes.specs.Sizes.{mostStops};
 ghost use Rattle.records.specs.Code.{records};
-ghost use Rattle.children.specs.Code.{Rows, Encoded, Kid, childOf, childrenOf, rootOf};
+ghost use Rattle.children.specs.Code.{Rows, Encoded, Kid, childOf, rootOf, Born};
 use crate::setting::Setting;
 use records::store;
 use sizes::PLACES;
 use stops::bound::ahead;
-use stops::bound::later;
-use stops::bound::next;
-use stops::bound::without;
 use stops::node_record::Record;
+use stops::sets::later;
+use stops::sets::next;
+use stops::sets::slot;
+use stops::sets::without;
 use stops::table::further;
 
 // e, with its bound.
@@ -42,20 +43,18 @@ fn child(
     x
 }
 
-// Writes the children of b to the front of kids, and says how many they are.
-pub fn family(setting: Setting, t: [[u32; PLACES]; PLACES], b: Record, kids: &mut [u32]) -> usize
+// Writes each child of b to the slot of its stop in kids, and gives the set of these stops: all that b leaves.
+pub fn family(setting: Setting, t: [[u32; PLACES]; PLACES], b: Record, kids: &mut [u32]) -> u32
     requires { ⌜ Rows setting t × (Encoded setting t b × (mostStops ≤ length (records (now kids)))) ⌝ }
-    ensures { λ r. ⌜ (take r (records (now (kids .exit))) ≡ childrenOf setting t b) × (r ≡ length (childrenOf setting t b)) ⌝ }
+    ensures { λ r. ⌜ Born setting t b r (records (now (kids .exit))) ⌝ }
 {
     let place = b.last();
     let rest = (1u32 << setting.n) - 1 - b.set;
-    let mut m = 0;
     let mut left = rest;
     while left != 0 {
         let s = next(left);
         left = later(left);
-        store(kids, m, child(setting, &t, b, place, rest, s));
-        m += 1;
+        store(kids, slot(s), child(setting, &t, b, place, rest, s));
     }
-    m
+    rest
 }

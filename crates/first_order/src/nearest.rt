@@ -8,9 +8,9 @@ ghost use Rattle.stops.specs.Legs.{legs};
 ghost use Rattle.stops.specs.Code.{stopsIn};
 ghost use Rattle.first_answer.specs.Nearest.{anyNode, nearest};
 ghost use Rattle.first_order.specs.Code.{nearestIn};
-use stops::bound::later;
-use stops::bound::next;
-use stops::bound::without;
+use stops::sets::later;
+use stops::sets::next;
+use stops::sets::without;
 use stops::table::Rows;
 use stops::table::further;
 

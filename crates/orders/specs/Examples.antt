@@ -32,6 +32,11 @@ its-child : children 3 node ≡ (3 ∷ 1 ∷ 2 ∷ []) ∷ []
 unfolding node
 its-child = refl
 
+-- e's children, in ascending stop order
+children-ascend : children 3 [] ≡ (1 ∷ []) ∷ (2 ∷ []) ∷ (3 ∷ []) ∷ []
+unfolding node
+children-ascend = refl
+
 not-complete : complete 3 node ≡ false
 unfolding node
 not-complete = refl

@@ -1,82 +1,122 @@
--- Laws for the passes over active records, as `stays` and the loops of `staying`, `unbeaten` and `next_gone` need them. `isStaying`
--- is false above the limit (`stays-above`), and true up to it where none of the kids dominates (`stays-free`); where there is no suspect all stay
--- (`stay-on`). What holds at a partial index holds at the next: none of the first k passes a test (`free-more`), so many records pass
--- (`count-passes`, `count-fails`).
-use mathlib.Core.Path.{_≡_, refl, ap, _∙_}
-use mathlib.Core.Bool.{Bool, true, false, _||_}
-use mathlib.Core.List.{List, [], _∷_, append-nil}
-use Prim.Native.Nat.{ℕ, zero, suc, _+_, _≤_, _<_}
+-- Laws for the passes over active records. `isStaying` is false above the limit (`stays-above`), and true up to it where no child dominates
+-- (`stays-free`); where there is no suspect all stay (`stay-on`). Of the children in their slots only the one whose stop a record has and
+-- the base lacks can dominate it (`beaten-none`, `beaten-own`). And so many records pass a test (`count-none`, `count-within`,
+-- `count-passes`, `count-fails`).
+use mathlib.Core.Path.{_≡_, refl, ap, sym, subst, _∙_}
+use mathlib.Core.Bool.{Bool, true, false}
+use mathlib.Core.List.{List, [], _∷_, append-nil, List·Memᴰ·eq-of-singleton}
+use Prim.Native.Nat.{ℕ, suc, _+_, _-_, _^_, _≤_, _<_}
 use native.Mathlib.Omega.{arith}
-use lib.Dec.{ltb}
-use lib.ListN.{length, getD, take, length-append}
+use lib.Bits.{bitAnd, and-le-r}
+use lib.Count.{trailingZeros}
+use lib.Dec.{T, ltb, not-T}
+use lib.ListN.{length, getD, length-append}
+use lib.Pow.{pow-pos}
 use lib.Seq.{slice, slice-empty, length-slice}
 use borrow.Author.Tests.{le-leb, lt-leb, ltb-false}
-use Rattle.lists.specs.Lists.{put, keep, any}
-use Rattle.lists.proofs.Tests.{both-false}
+use Rattle.sizes.specs.Sizes.{mostStops}
+use Rattle.lists.specs.Lists.{In, put, keep, any}
+use Rattle.lists.proofs.Tests.{both-false, same-tests, to-false}
+use Rattle.lists.proofs.Members.{any-in, in-any}
 use Rattle.lists.proofs.Numbers.{keep-parts}
 use Rattle.lists.proofs.Keep.{keep-append}
-use Rattle.lists.proofs.Slices.{keep-slice-more, any-slice-more, slice-join, AllSo}
-use Rattle.stops.specs.Code.{emptyRecord, recDominates}
+use Rattle.lists.proofs.Slices.{keep-slice-more, slice-join, AllSo}
+use Rattle.stops.specs.Code.{emptyRecord, recDominates, stopsIn}
 use Rattle.stops.specs.declared.node_record.Record.{Record}
-use Rattle.rivals.specs.Code.{near, AllNear}
+use Rattle.stops.proofs.SetBits.{stopsIn-range}
+use Rattle.stops.proofs.SetJoin.{stopsIn-one, both-in, both-one}
+use Rattle.stops.proofs.SetLoops.{First, first-out}
+use Rattle.records.specs.Code.{inSlot, slots}
+use Rattle.records.proofs.SlotLaws.{slot-in, in-slots}
+use Rattle.rivals.specs.Code.{near, Siblings}
+use Rattle.rivals.specs.declared.Test.{Test}
+use Rattle.rivals.proofs.RivalLaws.{apart, dominates-same}
 use Rattle.passes.specs.Code.{isStaying, isSuspect}
-use Rattle.rivals.proofs.RivalLaws.{apart}
-
-or-right-true : (b c : Bool) → c ≡ true → (b || c) ≡ true
-or-right-true true c e = refl
-or-right-true false c e = e
-
--- an element before r passes: some of the first r does
-pub any-found :
-    {A : Type 0} (test : A → Bool) (d : A) (l : List A) (k r : ℕ) → k < r → r ≤ length l → test (getD l k d) ≡ true
-    → any test (take r l) ≡ true
-any-found test d [] k r h inside p = absurd (omega arith)
-any-found test d (x ∷ xs) k zero h inside p = absurd (omega arith)
-any-found test d (x ∷ xs) zero (suc r) h inside p = rw p
-any-found test d (x ∷ xs) (suc k) (suc r) h inside p =
-    or-right-true (test x) (any test (take r xs)) (any-found test d xs k r (omega arith) (omega arith) p)
 
 module _ (limit : ℕ) (kids : List Record) (x : Record) where
-  pub stays-above : (r : ℕ) → limit < x .bound → isStaying limit (take r kids) x ≡ false
+  pub stays-above : limit < x .bound → isStaying limit kids x ≡ false
   unfolding isStaying
-  stays-above r h = rw (lt-leb (x .bound) limit h)
+  stays-above h = rw (lt-leb (x .bound) limit h)
 
-  pub stays-free : (r : ℕ) → x .bound ≤ limit → any (λ y. recDominates y x) (take r kids) ≡ false → isStaying limit (take r kids) x ≡ true
+  pub stays-free : x .bound ≤ limit → any (λ y. recDominates y x) kids ≡ false → isStaying limit kids x ≡ true
   unfolding isStaying
-  stays-free r h e = rw (le-leb (x .bound) limit h, e)
+  stays-free h e = rw (le-leb (x .bound) limit h, e)
 
--- kids that are all near a set dominate no record that is not: without suspects all stay
-module _ (limit size base : ℕ) (kids : List Record) (r : ℕ) (family : AllNear size base (take r kids)) where
-  no-suspect : (x : Record) → isSuspect limit size base x ≡ false → isStaying limit (take r kids) x ≡ true
+module _ {t : Test} {alive : ℕ} {kids : List Record} (f : Siblings t alive kids) where
+  abbrev stays : Record → Bool
+  stays = isStaying (t .limit) (slots alive kids)
+
+  -- what x has beyond the base, and `alive` too
+  module _ (x : Record) (own : ℕ) (is : own ≡ bitAnd (x .set - t .base) alive) where
+    abbrev beats : Record → Bool
+    beats y = recDominates y x
+
+    own-small : own < 2 ^ mostStops
+    own-small = omega (arith, and-le-r (x .set - t .base) alive, f .small)
+
+    -- a child that dominates x has its set
+    only-own : (s : ℕ) → In s (stopsIn alive) → T (recDominates (inSlot kids s) x) → own ≡ 2 ^ (s - 1)
+    only-own s m d =
+        let same : inSlot kids s .set ≡ x .set = dominates-same (inSlot kids s) x d .1 in
+        let beyond : x .set - t .base ≡ 2 ^ (s - 1) = omega (arith, f .sets s m) in
+        is ∙ ap (λ (v : ℕ). bitAnd v alive) beyond ∙ both-one alive (f .small) s m
+
+    pub beaten-none : own ≡ 0 → any (λ y. recDominates y x) (slots alive kids) ≡ false
+    beaten-none e = to-false (any beats (slots alive kids)) (not-T (any beats (slots alive kids)) none)
+      where
+        none : T (any beats (slots alive kids)) → ⊥
+        none h =
+            let (y, m, d) = any-in beats (slots alive kids) h in
+            let (s, i, same) = in-slots kids alive y m in
+            omega (arith, only-own s i (subst (λ (z : Record). T (recDominates z x)) same d), pow-pos (s - 1))
+
+    pub beaten-own :
+        0 < own → (s : ℕ) → s ≡ trailingZeros 32 own + 1
+        → In s (stopsIn alive) × (any (λ y. recDominates y x) (slots alive kids) ≡ recDominates (inSlot kids s) x)
+    beaten-own some s e = (member, same-tests (any beats (slots alive kids)) (recDominates (inSlot kids s) x) there back)
+      where
+        first : First own s
+        first = first-out own s some own-small e
+
+        member : In s (stopsIn alive)
+        member = both-in alive (f .small) (x .set - t .base) s (subst (λ (m : ℕ). In s (stopsIn m)) is (first .member))
+
+        there : T (any beats (slots alive kids)) → T (recDominates (inSlot kids s) x)
+        there h =
+            let (y, m, d) = any-in beats (slots alive kids) h in
+            let (r, i, same) = in-slots kids alive y m in
+            let b : T (recDominates (inSlot kids r) x) = subst (λ (z : Record). T (recDominates z x)) same d in
+            let range = stopsIn-range alive (f .small) r i in
+            let one : stopsIn own ≡ r ∷ [] = ap stopsIn (only-own r i b) ∙ stopsIn-one r (range .0) (range .1) in
+            let found : s ≡ r = List·Memᴰ·eq-of-singleton (subst (λ (xs : List ℕ). In s xs) one (first .member)) in
+            subst (λ (q : ℕ). T (recDominates (inSlot kids q) x)) (sym found) b
+
+        back : T (recDominates (inSlot kids s) x) → T (any beats (slots alive kids))
+        back h = in-any beats (slots alive kids) (inSlot kids s) (slot-in kids alive s member) h
+
+  -- children dominate no record that is not near them: without suspects all stay
+  no-suspect : (x : Record) → isSuspect t x ≡ false → stays x ≡ true
   unfolding isSuspect
   no-suspect x e =
-      let none = both-false (ltb limit (x .bound)) (near size base x) e in
-      stays-free limit kids x r (ltb-false limit (x .bound) (none .0)) (apart size base (take r kids) x family (none .1))
+      let none = both-false (ltb (t .limit) (x .bound)) (near t x) e in
+      stays-free (t .limit) (slots alive kids) x (ltb-false (t .limit) (x .bound) (none .0)) (apart f x (none .1))
 
-  all-stay : (xs : List Record) → keep (isSuspect limit size base) xs ≡ [] → keep (isStaying limit (take r kids)) xs ≡ xs
+  all-stay : (xs : List Record) → keep (isSuspect t) xs ≡ [] → keep stays xs ≡ xs
   all-stay [] e = refl
-  all-stay (x ∷ xs) e = go (isSuspect limit size base x) (no-suspect x) (all-stay xs) e
+  all-stay (x ∷ xs) e = go (isSuspect t x) (no-suspect x) (all-stay xs) e
     where
       go :
-          (b : Bool) → (b ≡ false → isStaying limit (take r kids) x ≡ true)
-          → (keep (isSuspect limit size base) xs ≡ [] → keep (isStaying limit (take r kids)) xs ≡ xs)
-          → put b x (keep (isSuspect limit size base) xs) ≡ []
-          → put (isStaying limit (take r kids) x) x (keep (isStaying limit (take r kids)) xs) ≡ x ∷ xs
-      go true stays ih e′ = let long : suc (length (keep (isSuspect limit size base) xs)) ≡ 0 = ap length e′ in absurd (omega arith)
-      go false stays ih e′ = rw (stays refl, ih e′)
+          (b : Bool) → (b ≡ false → stays x ≡ true) → (keep (isSuspect t) xs ≡ [] → keep stays xs ≡ xs)
+          → put b x (keep (isSuspect t) xs) ≡ [] → put (stays x) x (keep stays xs) ≡ x ∷ xs
+      go true stay ih e′ = let long : suc (length (keep (isSuspect t) xs)) ≡ 0 = ap length e′ in absurd (omega arith)
+      go false stay ih e′ = rw (stay refl, ih e′)
 
   pub stay-on :
       (l : List Record) (from mid to : ℕ) → from ≤ mid → mid ≤ to → to ≤ length l
-      → AllSo (isStaying limit (take r kids)) emptyRecord l from true mid → keep (isSuspect limit size base) (slice mid to l) ≡ []
-      → AllSo (isStaying limit (take r kids)) emptyRecord l from true to
+      → AllSo (isStaying (t .limit) (slots alive kids)) emptyRecord l from true mid → keep (isSuspect t) (slice mid to l) ≡ []
+      → AllSo (isStaying (t .limit) (slots alive kids)) emptyRecord l from true to
   stay-on l from mid to h k inside so none =
       rw (← slice-join l from mid to h k inside, keep-append, so, all-stay (slice mid to l) none)
-
--- none of the first k passes, and the next does not
-pub free-more :
-    (test : Record → Bool) (l : List Record) (k : ℕ) → k < length l → any test (take k l) ≡ false → test (getD l k emptyRecord) ≡ false
-    → any test (take (k + 1) l) ≡ false
-free-more test l k inside e p = any-slice-more test emptyRecord 0 k l (omega arith) inside ∙ rw (e, p)
 
 -- how many of the records from `from` to `to` pass
 pub count-none : (test : Record → Bool) (from : ℕ) (l : List Record) → 0 ≡ length (keep test (slice from from l))

@@ -7,6 +7,7 @@ use Rattle.lists.specs.Lists.{any}
 use Rattle.stops.specs.Code.{recDominates}
 use Rattle.stops.specs.declared.node_record.Record.{Record}
 use Rattle.rivals.specs.Code.{near}
+use Rattle.rivals.specs.declared.Test.{Test}
 
 unfoldable pub isWithin : ℕ → Record → Bool
 isWithin limit x = leb (x .bound) limit
@@ -14,6 +15,6 @@ isWithin limit x = leb (x .bound) limit
 unfoldable pub isStaying : ℕ → List Record → Record → Bool
 isStaying limit kids x = leb (x .bound) limit && not (any (λ y. recDominates y x) kids)
 
--- Of kids that are all near a set, only one that x is near too can dominate x. So x can go only if it is near that set or above the limit.
-unfoldable pub isSuspect : ℕ → ℕ → ℕ → Record → Bool
-isSuspect limit size base x = ltb limit (x .bound) || near size base x
+-- Only a record that is near the children can be dominated by one. So x can go only if it is near them or above the limit.
+unfoldable pub isSuspect : Test → Record → Bool
+isSuspect t x = ltb (t .limit) (x .bound) || near t x

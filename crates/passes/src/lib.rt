@@ -1,87 +1,82 @@
-// The passes of rules 1 and 8: each keeps, of some records, those that pass a test, in their order. The functions are public for the
-// crates above and not for hosts; what they require, those crates meet.
+// The passes of rules 1 and 8: which children and which active records pass a test. A child's record is read where it stands, in the slot of
+// its stop. The functions are public for the crates above and not for hosts; what they require, those crates meet.
 ghost use mathlib.Core.Path.{_≡_};
 ghost use mathlib.Core.Bool.{true, false, not, cond};
-ghost use Prim.Native.Nat.{_+_, _≤_, _<_};
-ghost use lib.Dec.{ltb};
-ghost use lib.ListN.{length, take};
+ghost use Prim.Native.Nat.{_+_, _^_, _≤_, _<_};
+ghost use lib.Dec.{T, ltb};
+ghost use lib.ListN.{length, getD};
 ghost use lib.Seq.{slice};
+ghost use Rattle.sizes.specs.Sizes.{mostStops};
 ghost use Rattle.lists.specs.Lists.{keep, any};
-ghost use Rattle.stops.specs.Code.{recDominates};
-ghost use Rattle.records.specs.Code.{records, Sifted, RunsTo, always};
+ghost use Rattle.stops.specs.Code.{emptyRecord, recDominates};
+ghost use Rattle.records.specs.Code.{records, slots, Sifted, Thinned, RunsTo, always};
 ghost use Rattle.passes.specs.Code.{isWithin, isStaying, isSuspect};
-ghost use Rattle.rivals.specs.Code.{AllNear};
+ghost use Rattle.rivals.specs.Code.{near, Siblings};
+use records::bound_at;
 use records::load;
+use records::set_at;
 use records::store;
+use rivals::Test;
 use rivals::beats;
 use rivals::near;
-use stops::node_record::Record;
+use stops::sets::later;
+use stops::sets::next;
+use stops::sets::slot;
+use stops::sets::with;
 
-// Rule 1 on children: keeps those of the first m whose bound is at most limit.
-pub fn within(kids: &mut [u32], m: usize, limit: u32) -> usize
-    requires { ⌜ m ≤ length (records (now kids)) ⌝ }
-    ensures { λ r. ⌜ Sifted (isWithin limit) (records (now (kids .entry))) 0 m 0 (records (now (kids .exit))) r ⌝ }
+// Rule 1 on the children by the stops of `alive`: those whose bound is at most limit.
+pub fn within(kids: &[u32], alive: u32, limit: u32) -> u32
+    requires { ⌜ (alive < 2 ^ mostStops) × (mostStops ≤ length (records (now kids))) ⌝ }
+    ensures { λ r. ⌜ Thinned (isWithin limit) (records (now (kids .entry))) alive r ⌝ }
 {
-    let mut r = 0;
-    let mut k = 0;
-    while k < m {
-        let x = load(kids, k);
-        k += 1;
-        if x.bound <= limit {
-            store(kids, r, x);
-            r += 1;
+    let mut kept = 0;
+    let mut left = alive;
+    while left != 0 {
+        let s = next(left);
+        left = later(left);
+        if bound_at(kids, slot(s)) <= limit {
+            kept = with(kept, s);
         }
     }
-    r
+    kept
 }
 
-// Whether none of the first r kids dominates x.
-fn unbeaten(x: Record, kids: &[u32], r: usize) -> bool
-    requires { ⌜ r ≤ length (records (now kids)) ⌝ }
-    ensures { λ b. ⌜ b ≡ not (any (λ y. recDominates y x) (take r (records (now (kids .entry))))) ⌝ }
+// Whether no child by a stop of `alive` dominates record i, which is near them. One that does has its set, the base and one stop more: so the
+// record is held against that stop's slot alone.
+fn unbeaten(w: &[u32], i: usize, test: Test, kids: &[u32], alive: u32) -> bool
+    requires { ⌜ ((i < length (records (now w))) × T (near test (getD (records (now w)) i emptyRecord))) × Siblings test alive (records (now kids)) ⌝ }
+    ensures { λ b. ⌜ b ≡ not (any (λ y. recDominates y (getD (records (now (w .entry))) i emptyRecord)) (slots alive (records (now (kids .entry))))) ⌝ }
 {
-    let mut k = 0;
-    while k < r {
-        if beats(kids, k, x) {
-            return false;
-        }
-        k += 1;
-    }
-    true
-}
-
-// Whether x stays active: its bound is at most limit, and none of the first r kids, which are all near base, dominates it.
-fn stays(x: Record, limit: u32, size: u32, base: u32, kids: &[u32], r: usize) -> bool
-    requires { ⌜ (r ≤ length (records (now kids))) × AllNear size base (take r (records (now kids))) ⌝ }
-    ensures { λ b. ⌜ b ≡ isStaying limit (take r (records (now (kids .entry)))) x ⌝ }
-{
-    if limit < x.bound {
-        return false;
-    }
-    if !near(x, size, base) {
+    let own = (set_at(w, i) - test.base) & alive;
+    if own == 0 {
         return true;
     }
-    unbeaten(x, kids, r)
+    !beats(kids, slot(next(own)), w, i)
+}
+
+// Whether record i stays active: its bound is at most the limit, and no child by a stop of `alive` dominates it.
+fn stays(w: &[u32], i: usize, test: Test, kids: &[u32], alive: u32) -> bool
+    requires { ⌜ (i < length (records (now w))) × Siblings test alive (records (now kids)) ⌝ }
+    ensures { λ b. ⌜ b ≡ isStaying (test .limit) (slots alive (records (now (kids .entry)))) (getD (records (now (w .entry))) i emptyRecord) ⌝ }
+{
+    if test.limit < bound_at(w, i) {
+        return false;
+    }
+    if !near(w, i, test) {
+        return true;
+    }
+    unbeaten(w, i, test, kids, alive)
 }
 
 // How many records from `from` to `to` stay active.
-pub fn staying(
-    w: &[u32],
-    from: usize,
-    to: usize,
-    limit: u32,
-    size: u32,
-    base: u32,
-    kids: &[u32],
-    r: usize,
-) -> usize
-    requires { ⌜ (from ≤ to) × ((to ≤ length (records (now w))) × ((r ≤ length (records (now kids))) × AllNear size base (take r (records (now kids))))) ⌝ }
-    ensures { λ k. ⌜ k ≡ length (keep (isStaying limit (take r (records (now (kids .entry))))) (slice from to (records (now (w .entry))))) ⌝ }
+pub fn staying(w: &[u32], from: usize, to: usize, test: Test, kids: &[u32], alive: u32) -> usize
+    requires { ⌜ ((from ≤ to) × (to ≤ length (records (now w)))) × Siblings test alive (records (now kids)) ⌝ }
+    ensures { λ k. ⌜ k ≡ length (keep (isStaying (test .limit) (slots alive (records (now (kids .entry))))) (slice from to (records (now (w .entry))))) ⌝ }
 {
     let mut count = 0;
     let mut i = from;
     while i < to {
-        if stays(load(w, i), limit, size, base, kids, r) {
+        if stays(w, i, test, kids, alive) {
             count += 1;
         }
         i += 1;
@@ -89,44 +84,45 @@ pub fn staying(
     count
 }
 
-// Whether x can be one that goes: its bound is above limit, or it is near base.
-fn suspect(x: Record, limit: u32, size: u32, base: u32) -> bool
-    ensures { λ b. ⌜ b ≡ isSuspect limit size base x ⌝ }
+// Whether record i can be one that goes: its bound is above the limit, or it is near the children.
+fn suspect(w: &[u32], i: usize, test: Test) -> bool
+    requires { ⌜ i < length (records (now w)) ⌝ }
+    ensures { λ b. ⌜ b ≡ isSuspect test (getD (records (now (w .entry))) i emptyRecord) ⌝ }
 {
-    if x.bound > limit {
+    if bound_at(w, i) > test.limit {
         return true;
     }
-    near(x, size, base)
+    near(w, i, test)
 }
 
 // Whether one of the four records from i on is a suspect.
-fn four_suspect(w: &[u32], i: usize, limit: u32, size: u32, base: u32) -> bool
+fn four_suspect(w: &[u32], i: usize, test: Test) -> bool
     requires { ⌜ i + 4 ≤ length (records (now w)) ⌝ }
-    ensures { λ b. ⌜ b ≡ any (isSuspect limit size base) (slice i (i + 4) (records (now (w .entry)))) ⌝ }
+    ensures { λ b. ⌜ b ≡ any (isSuspect test) (slice i (i + 4) (records (now (w .entry)))) ⌝ }
 {
-    if suspect(load(w, i), limit, size, base) {
+    if suspect(w, i, test) {
         return true;
     }
-    if suspect(load(w, i + 1), limit, size, base) {
+    if suspect(w, i + 1, test) {
         return true;
     }
-    if suspect(load(w, i + 2), limit, size, base) {
+    if suspect(w, i + 2, test) {
         return true;
     }
-    suspect(load(w, i + 3), limit, size, base)
+    suspect(w, i + 3, test)
 }
 
 // The first of the records from `from` to `to` that is a suspect, or `to`. Four records a turn, up to four of which one is.
-fn next_suspect(w: &[u32], from: usize, to: usize, limit: u32, size: u32, base: u32) -> usize
+fn next_suspect(w: &[u32], from: usize, to: usize, test: Test) -> usize
     requires { ⌜ (from ≤ to) × (to ≤ length (records (now w))) ⌝ }
-    ensures { λ e. ⌜ RunsTo (isSuspect limit size base) false (records (now (w .entry))) from to e ⌝ }
+    ensures { λ e. ⌜ RunsTo (isSuspect test) false (records (now (w .entry))) from to e ⌝ }
 {
     let mut i = from;
-    while 4 <= to - i && !four_suspect(w, i, limit, size, base) {
+    while 4 <= to - i && !four_suspect(w, i, test) {
         i += 4;
     }
     while i < to {
-        if suspect(load(w, i), limit, size, base) {
+        if suspect(w, i, test) {
             return i;
         }
         i += 1;
@@ -135,25 +131,16 @@ fn next_suspect(w: &[u32], from: usize, to: usize, limit: u32, size: u32, base: 
 }
 
 // The first of the records from `from` to `to` that does not stay active, or `to`. Only a suspect can be it.
-fn next_gone(
-    w: &[u32],
-    from: usize,
-    to: usize,
-    limit: u32,
-    size: u32,
-    base: u32,
-    kids: &[u32],
-    r: usize,
-) -> usize
-    requires { ⌜ (from ≤ to) × ((to ≤ length (records (now w))) × ((r ≤ length (records (now kids))) × AllNear size base (take r (records (now kids))))) ⌝ }
-    ensures { λ e. ⌜ RunsTo (isStaying limit (take r (records (now (kids .entry))))) true (records (now (w .entry))) from to e ⌝ }
+fn next_gone(w: &[u32], from: usize, to: usize, test: Test, kids: &[u32], alive: u32) -> usize
+    requires { ⌜ ((from ≤ to) × (to ≤ length (records (now w)))) × Siblings test alive (records (now kids)) ⌝ }
+    ensures { λ e. ⌜ RunsTo (isStaying (test .limit) (slots alive (records (now (kids .entry))))) true (records (now (w .entry))) from to e ⌝ }
 {
-    let mut i = next_suspect(w, from, to, limit, size, base);
+    let mut i = next_suspect(w, from, to, test);
     while i < to {
-        if !stays(load(w, i), limit, size, base, kids, r) {
+        if !stays(w, i, test, kids, alive) {
             return i;
         }
-        i = next_suspect(w, i + 1, to, limit, size, base);
+        i = next_suspect(w, i + 1, to, test);
     }
     to
 }
@@ -193,19 +180,17 @@ pub fn sift(
     from: usize,
     to: usize,
     at: usize,
-    limit: u32,
-    size: u32,
-    base: u32,
+    test: Test,
     kids: &[u32],
-    r: usize,
+    alive: u32,
 ) -> usize
-    requires { ⌜ (at ≤ from) × ((from ≤ to) × ((to ≤ length (records (now w))) × ((r ≤ length (records (now kids))) × AllNear size base (take r (records (now kids)))))) ⌝ }
-    ensures { λ e. ⌜ Sifted (isStaying limit (take r (records (now (kids .entry))))) (records (now (w .entry))) from to at (records (now (w .exit))) e ⌝ }
+    requires { ⌜ (at ≤ from) × (((from ≤ to) × (to ≤ length (records (now w)))) × Siblings test alive (records (now kids))) ⌝ }
+    ensures { λ e. ⌜ Sifted (isStaying (test .limit) (slots alive (records (now (kids .entry))))) (records (now (w .entry))) from to at (records (now (w .exit))) e ⌝ }
 {
     let mut next = at;
     let mut i = from;
     while i < to {
-        let end = next_gone(w, i, to, limit, size, base, kids, r);
+        let end = next_gone(w, i, to, test, kids, alive);
         next = slide(w, i, end, next);
         i = past(end, to);
     }

@@ -6,6 +6,7 @@ ghost use mathlib.Core.Logic.{_⊎_};
 ghost use Prim.Native.Nat.{ℕ, _≤_};
 ghost use lib.Dec.{leb, eqb};
 ghost use lib.ListN.{length, take};
+ghost use Rattle.sizes.specs.Sizes.{mostStops};
 ghost use Rattle.search.specs.Problem.{State, start};
 ghost use Rattle.orders.specs.Orders.{Node, Order};
 ghost use Rattle.records.specs.Code.{records};
@@ -30,6 +31,7 @@ use sizes::ORDER_PLACES;
 use sizes::PLACES;
 use sizes::RECORD_WORDS;
 use step::After;
+use step::FAMILY_WORDS;
 use step::Run;
 use step::step;
 use stops::node_record::Record;
@@ -61,8 +63,15 @@ fn finishes(setting: Setting, b: Record, upper: u32, active: usize) -> bool
 }
 
 // The turn of the node at i, which the selection picked: the finish test, the step.
-fn turn_at(setting: Setting, t: [[u32; PLACES]; PLACES], w: &mut [u32], i: usize, r: Run) -> Turn
-    requires { ⌜ Chosen (setting .n) (take (r .active) (records (now w))) (setting .selection) i × ((first : List ℕ) × (s : State Node) × Running setting t first (now w) r s) ⌝ }
+fn turn_at(
+    setting: Setting,
+    t: [[u32; PLACES]; PLACES],
+    w: &mut [u32],
+    i: usize,
+    r: Run,
+    kids: &mut [u32],
+) -> Turn
+    requires { ⌜ (Chosen (setting .n) (take (r .active) (records (now w))) (setting .selection) i × ((first : List ℕ) × (s : State Node) × Running setting t first (now w) r s)) × (mostStops ≤ length (records (now kids))) ⌝ }
     ensures { λ q. ⌜ ((first : List ℕ) (s : State Node) → Running setting t first (now (w .entry)) r s → Turned setting t (now (w .entry)) (now (w .exit)) s q) ⌝ }
 {
     let b = load(w, i);
@@ -70,7 +79,7 @@ fn turn_at(setting: Setting, t: [[u32; PLACES]; PLACES], w: &mut [u32], i: usize
     if finishes(setting, b, best.upper, r.active) {
         return Turn::Finish;
     }
-    let after = step(setting, t, w, i, b, r);
+    let after = step(setting, t, w, i, b, r, kids);
     let After::Go(next) = after else {
         return Turn::Full;
     };
@@ -78,13 +87,19 @@ fn turn_at(setting: Setting, t: [[u32; PLACES]; PLACES], w: &mut [u32], i: usize
 }
 
 // One turn: the selection, then the turn of the node that it picks. The refusal of a selection that there is not is handed on.
-fn take_turn(setting: Setting, t: [[u32; PLACES]; PLACES], w: &mut [u32], r: Run) -> Turn
-    requires { ⌜ ((first : List ℕ) × (s : State Node) × Running setting t first (now w) r s) ⌝ }
+fn take_turn(
+    setting: Setting,
+    t: [[u32; PLACES]; PLACES],
+    w: &mut [u32],
+    r: Run,
+    kids: &mut [u32],
+) -> Turn
+    requires { ⌜ ((first : List ℕ) × (s : State Node) × Running setting t first (now w) r s) × (mostStops ≤ length (records (now kids))) ⌝ }
     ensures { λ q. ⌜ ((first : List ℕ) (s : State Node) → Running setting t first (now (w .entry)) r s → Turned setting t (now (w .entry)) (now (w .exit)) s q) ⌝ }
 {
     let place = choose(w, r.active, setting.n, setting.selection);
     match place {
-        Place::At(i) => turn_at(setting, t, w, i, r),
+        Place::At(i) => turn_at(setting, t, w, i, r, kids),
         Place::Refused(number) => Turn::Refused(number),
     }
 }
@@ -147,8 +162,9 @@ pub fn search(setting: Setting, table: &[u32], start: &[u8], w: &mut [u32]) -> R
     let t = rows(setting.n as usize, table);
     let capacity = w.len() / RECORD_WORDS;
     let mut r = begun(setting, t, start, w);
+    let mut kids = [0u32; FAMILY_WORDS];
     loop {
-        let next = take_turn(setting, t, w, r);
+        let next = take_turn(setting, t, w, r, &mut kids);
         match next {
             Turn::Go(q) => {
                 r = q;

@@ -1,19 +1,63 @@
--- Laws for what is written into a part of the pool, as the loops of `write` and `move_up` need them: the first k records are written
--- (`write-more`), words move up by six (`up-next`, `up-length`, `up-records`). And what a part of the pool's words that is lent on is as
--- records (`lent-records`, `lent-back`, `lent-out`).
-use mathlib.Core.Path.{_≡_, ap, sym, _∙_}
-use mathlib.Core.List.{List, _++_, append-nil}
-use Prim.Native.Nat.{ℕ, _+_, _*_, _-_, _≤_, _<_}
+-- Laws for what is written into a part of the pool, as the loops of `write` and `move_up` need them: the children of a set are written, one
+-- after the other (`Writing`), one more element is (`write-more`), words move up by six (`up-next`, `up-length`, `up-records`). And what a
+-- part of the pool's words that is lent on is as records (`lent-records`, `lent-back`, `lent-out`).
+use mathlib.Core.Path.{_≡_, refl, ap, sym, _∙_}
+use mathlib.Core.List.{List, [], _++_, append-assoc, append-nil, List·Memᴰ·tail}
+use Prim.Native.Nat.{ℕ, _+_, _*_, _-_, _^_, _≤_, _<_}
 use native.Mathlib.Numerals.{add-one}
 use native.Mathlib.Nat.{zero-add}
 use native.Mathlib.Omega.{arith}
-use lib.ListN.{length, getD, take, drop, set, length-drop}
-use lib.Seq.{take-all, drop-length, drop-drop, getD-drop, paste, paste-suc, length-paste, drop-paste}
+use lib.ListN.{length, getD, take, drop, set, length-set, length-drop, take-append-drop}
+use lib.Seq.{take-all, take-suc-set, drop-set-lt, drop-length, drop-drop, getD-drop, paste, paste-suc, length-paste, drop-paste}
 use borrow.Rule.Slice.PartMut.{midOf, putMid, post-is}
+use Rattle.sizes.specs.Sizes.{mostStops}
+use Rattle.lists.specs.Lists.{In}
+use Rattle.lists.proofs.Slices.{drop-further}
+use Rattle.stops.specs.Code.{stopsIn}
 use Rattle.stops.specs.declared.node_record.Record.{Record}
-use Rattle.records.specs.Code.{records, Sifted, always}
+use Rattle.stops.proofs.SetLoops.{First}
+use Rattle.records.specs.Code.{records, inSlot, slots, Sifted, always}
 use Rattle.records.proofs.ViewLaws.{length-records, records-drop, records-join}
 use Rattle.records.proofs.SiftLaws.{taken-out}
+use Rattle.records.proofs.SlotLaws.{slots-none, slots-first}
+
+-- The children by the stops of a set are written so: the first k records are those of the stops passed, `left` has the others, and what is
+-- behind is as it was.
+pub record Writing (part₀ kids : List Record) (alive : ℕ) (part : List Record) (k left : ℕ) : Type 0 where
+  pub small : left < 2 ^ mostStops
+  pub among : (s : ℕ) → In s (stopsIn left) → In s (stopsIn alive)
+  pub same : take k part ++ slots left kids ≡ slots alive kids
+  pub count : k + length (slots left kids) ≡ length (slots alive kids)
+  pub behind : drop k part ≡ drop k part₀
+  pub long : length part ≡ length part₀
+
+pub writing-starts : (part kids : List Record) (alive : ℕ) → alive < 2 ^ mostStops → Writing part kids alive part 0 alive
+writing-starts part kids alive h = record { small = h; among = λ s i. i; same = refl; count = omega arith; behind = refl; long = refl }
+
+module _ {part₀ kids : List Record} {alive : ℕ} {part : List Record} {k left : ℕ} (l : Writing part₀ kids alive part k left) where
+  pub writing-room : {s : ℕ} → First left s → length (slots alive kids) ≤ length part₀ → k < length part
+  writing-room o h = omega (arith, ap length (slots-first kids o), l .count, l .long)
+
+  pub writing-again :
+      {part′ : List Record} {left′ s : ℕ} {x : Record} → First left s → length (slots alive kids) ≤ length part₀
+      → left′ ≡ left - 2 ^ (s - 1) → x ≡ inSlot kids s → part′ ≡ set part k x → Writing part₀ kids alive part′ (k + 1) left′
+  writing-again {s = s} {x} o h e i g =
+      let room : k < length part = writing-room o h in
+      rw (e, g) record {
+        small = omega (arith, l .small, o .less);
+        among = λ r m. l .among r (rw (o .others) (List·Memᴰ·tail m));
+        same = rw (add-one, take-suc-set part k x room, append-assoc, i) (rw (slots-first kids o) at (l .same));
+        count = omega (arith, ap length (slots-first kids o), l .count);
+        behind = drop-set-lt (k + 1) part k x (omega arith) ∙ drop-further k part part₀ (l .behind) (k + 1) (omega arith);
+        long = length-set part k x ∙ l .long;
+      }
+
+  pub writing-ends : left ≡ 0 → (k ≡ length (slots alive kids)) × (part ≡ slots alive kids ++ drop k part₀)
+  writing-ends e =
+      let none : slots left kids ≡ [] = rw (e, slots-none) in (
+        omega (arith, ap length none, l .count),
+        sym (take-append-drop k part) ∙ rw (l .behind) (rw (none, append-nil) at (ap (λ (xs : List Record). xs ++ drop k part₀) (l .same))),
+      )
 
 -- the first k of s stand at the front of d; then one more
 pub write-more :
@@ -54,10 +98,10 @@ module _ (w : List ℕ) (at : ℕ) where
       ap records whole ∙ records-drop at w
 
   pub lent-back :
-      (kids : List Record) (r : ℕ) (v : List ℕ) → at ≤ length (records w)
-      → records v ≡ take r kids ++ drop r (records (midOf (6 * at) (length w - 6 * at) w))
-      → records (putMid (6 * at) (length w - 6 * at) w v) ≡ take at (records w) ++ (take r kids ++ drop (at + r) (records w))
-  lent-back kids r v inside e =
+      (front : List Record) (r : ℕ) (v : List ℕ) → at ≤ length (records w)
+      → records v ≡ front ++ drop r (records (midOf (6 * at) (length w - 6 * at) w))
+      → records (putMid (6 * at) (length w - 6 * at) w v) ≡ take at (records w) ++ (front ++ drop (at + r) (records w))
+  lent-back front r v inside e =
       let within : 6 * at ≤ length w = omega (arith, length-records w) in
       rw (post-is (6 * at) (length w) w within, drop-length w, append-nil)
       (rw (records-join at w v inside, e, lent-records, drop-drop r at (records w)))
@@ -72,4 +116,5 @@ module _ (w : List ℕ) (at : ℕ) where
   lent-out a v inside fits e =
       let behind : drop 1 (records (midOf (6 * at) (length w - 6 * at) w)) ≡ drop (at + 1) (records w) =
       ap (drop 1) lent-records ∙ drop-drop 1 at (records w) in
-      taken-out (records w) a at inside fits _ (lent-back (drop (at + 1) (records w)) (a - 1 - at) v (omega arith) (rw (← behind) e))
+      let front = take (a - 1 - at) (drop (at + 1) (records w)) in
+      taken-out (records w) a at inside fits _ (lent-back front (a - 1 - at) v (omega arith) (rw (← behind) e))

@@ -1,12 +1,16 @@
 // What is done in a part of the pool that is lent on.
 ghost use mathlib.Core.Path.{_≡_};
 ghost use mathlib.Core.List.{_++_};
-ghost use Prim.Native.Nat.{_+_, _-_, _≤_, _<_};
+ghost use Prim.Native.Nat.{_+_, _-_, _^_, _≤_, _<_};
 ghost use lib.ListN.{length, take, drop};
-ghost use Rattle.records.specs.Code.{records, Sifted, always};
+ghost use Rattle.sizes.specs.Sizes.{mostStops};
+ghost use Rattle.records.specs.Code.{records, slots, Sifted, always};
 use records::load;
 use records::store;
 use sizes::RECORD_WORDS;
+use stops::sets::later;
+use stops::sets::next;
+use stops::sets::slot;
 
 // Moves the records behind the first of a part up by one, as many as count.
 fn move_up(part: &mut [u32], count: usize)
@@ -31,24 +35,28 @@ pub fn take_out(w: &mut [u32], a: usize, i: usize) -> usize
     a - 1
 }
 
-// Writes the first r kids to the front of a part of the pool.
-fn write(part: &mut [u32], kids: &[u32], r: usize)
-    requires { ⌜ (r ≤ length (records (now part))) × (r ≤ length (records (now kids))) ⌝ }
-    ensures { λ u. ⌜ records (now (part .exit)) ≡ take r (records (now (kids .entry))) ++ drop r (records (now (part .entry))) ⌝ }
+// Writes the children by the stops of `alive`, each from its slot, to the front of a part of the pool in ascending stop order, and says how
+// many they are.
+fn write(part: &mut [u32], kids: &[u32], alive: u32) -> usize
+    requires { ⌜ ((alive < 2 ^ mostStops) × (mostStops ≤ length (records (now kids)))) × (length (slots alive (records (now kids))) ≤ length (records (now part))) ⌝ }
+    ensures { λ r. ⌜ (r ≡ length (slots alive (records (now (kids .entry))))) × (records (now (part .exit)) ≡ slots alive (records (now (kids .entry))) ++ drop r (records (now (part .entry)))) ⌝ }
 {
+    let mut left = alive;
     let mut k = 0;
-    while k < r {
-        let x = load(kids, k);
-        store(part, k, x);
+    while left != 0 {
+        let s = next(left);
+        left = later(left);
+        store(part, k, load(kids, slot(s)));
         k += 1;
     }
+    k
 }
 
-// Writes the first r kids behind the first `at` records: the part of the pool that starts there is lent on.
-pub fn write_at(w: &mut [u32], at: usize, kids: &[u32], r: usize)
-    requires { ⌜ (at + r ≤ length (records (now w))) × (r ≤ length (records (now kids))) ⌝ }
-    ensures { λ u. ⌜ records (now (w .exit)) ≡ take at (records (now (w .entry))) ++ (take r (records (now (kids .entry))) ++ drop (at + r) (records (now (w .entry)))) ⌝ }
+// Writes the children by the stops of `alive` behind the first `at` records: the part of the pool that starts there is lent on.
+pub fn write_at(w: &mut [u32], at: usize, kids: &[u32], alive: u32) -> usize
+    requires { ⌜ ((alive < 2 ^ mostStops) × (mostStops ≤ length (records (now kids)))) × (at + length (slots alive (records (now kids))) ≤ length (records (now w))) ⌝ }
+    ensures { λ r. ⌜ (r ≡ length (slots alive (records (now (kids .entry))))) × (records (now (w .exit)) ≡ take at (records (now (w .entry))) ++ (slots alive (records (now (kids .entry))) ++ drop (at + r) (records (now (w .entry))))) ⌝ }
 {
     let from = RECORD_WORDS * at;
-    write(&mut w[from..], kids, r);
+    write(&mut w[from..], kids, alive)
 }

@@ -1,5 +1,6 @@
 pub mod ViewLaws
 pub mod SiftLaws
+pub mod SlotLaws
 pub mod OrderWords
 pub mod Mask
 pub mod Encode

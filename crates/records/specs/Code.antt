@@ -3,17 +3,19 @@
 --   records, words      words as records, and back; fewer than six words at the end are no record
 --   encode              the record of a node
 --   Sifted, RunsTo      what a pass keeps, and how far a walk goes
+--   inSlot, slots       records that stand one for each stop: that of one stop, and those of a set of stops
+--   Thinned             what a pass keeps of these: those of a smaller set
 use mathlib.Core.Path.{_≡_}
 use mathlib.Core.Bool.{Bool, true, not, cond}
-use mathlib.Core.List.{List, [], _∷_, _++_}
-use Prim.Native.Nat.{ℕ, _+_, _≤_, _<_}
+use mathlib.Core.List.{List, [], _∷_, _++_, map}
+use Prim.Native.Nat.{ℕ, _+_, _-_, _^_, _≤_, _<_}
 use lib.ListN.{length, getD, take, drop}
 use lib.Seq.{slice}
-use Rattle.sizes.specs.Sizes.{wordStops}
-use Rattle.lists.specs.Lists.{keep, each}
+use Rattle.sizes.specs.Sizes.{mostStops, wordStops}
+use Rattle.lists.specs.Lists.{In, keep, each}
 use Rattle.orders.specs.Orders.{Node, setOf, mask, size}
 use Rattle.days.specs.Days.{Day}
-use Rattle.stops.specs.Code.{emptyRecord}
+use Rattle.stops.specs.Code.{emptyRecord, stopsIn}
 use Rattle.stops.specs.declared.node_record.Record.{Record}
 use Rattle.records.specs.Records.{orderWord}
 
@@ -61,3 +63,17 @@ pub record RunsTo (test : Record → Bool) (should : Bool) (l : List Record) (fr
   pub up-to : r ≤ to
   pub all-so : keep test (slice from r l) ≡ cond should (slice from r l) []
   pub met : r < to → test (getD l r emptyRecord) ≡ not should
+
+-- the record of stop s has slot s-1
+unfoldable pub inSlot : List Record → ℕ → Record
+inSlot l s = getD l (s - 1) emptyRecord
+
+-- the records of the stops of a set, ascending
+unfoldable pub slots : ℕ → List Record → List Record
+slots set l = map (inSlot l) (stopsIn set)
+
+-- of the stops of a set, `left` has those whose records pass the test
+pub record Thinned (test : Record → Bool) (l : List Record) (set left : ℕ) : Type 0 where
+  pub small : left < 2 ^ mostStops
+  pub among : (s : ℕ) → In s (stopsIn left) → In s (stopsIn set)
+  pub same : slots left l ≡ keep test (slots set l)

@@ -27,6 +27,28 @@ pub fn load(w: &[u32], i: usize) -> Record
     }
 }
 
+// The size, the set and the bound of record i, each read where it stands.
+pub fn size_at(w: &[u32], i: usize) -> u32
+    requires { ⌜ i < length (records (now w)) ⌝ }
+    ensures { λ r. ⌜ r ≡ getD (records (now (w .entry))) i emptyRecord .size ⌝ }
+{
+    w[RECORD_WORDS * i]
+}
+
+pub fn set_at(w: &[u32], i: usize) -> u32
+    requires { ⌜ i < length (records (now w)) ⌝ }
+    ensures { λ r. ⌜ r ≡ getD (records (now (w .entry))) i emptyRecord .set ⌝ }
+{
+    w[RECORD_WORDS * i + 1]
+}
+
+pub fn bound_at(w: &[u32], i: usize) -> u32
+    requires { ⌜ i < length (records (now w)) ⌝ }
+    ensures { λ r. ⌜ r ≡ getD (records (now (w .entry))) i emptyRecord .bound ⌝ }
+{
+    w[RECORD_WORDS * i + 3]
+}
+
 pub fn store(w: &mut [u32], i: usize, x: Record)
     requires { ⌜ i < length (records (now w)) ⌝ }
     ensures { λ r. ⌜ records (now (w .exit)) ≡ set (records (now (w .entry))) i x ⌝ }

@@ -9,18 +9,18 @@ use Prim.Native.Nat.{ℕ, _+_, _-_, _≤_}
 use native.Mathlib.Numerals.{add-one}
 use native.Mathlib.Omega.{arith}
 use lib.ListN.{length, take, drop, length-append}
-use lib.Seq.{slice, length-slice, length-take-le, take-take, paste, take-paste, drop-paste}
+use lib.Seq.{slice, length-slice, length-take-le, take-all, take-take, paste, take-paste, drop-paste}
 use Rattle.lists.proofs.Parts.{dropped-length}
 use Rattle.lists.specs.Lists.{keep, dropAt}
 use Rattle.lists.proofs.Keep.{keep-all, keep-append}
 use Rattle.lists.proofs.Numbers.{keep-parts}
 use Rattle.lists.proofs.Slices.{drop-further, slice-further}
 use Rattle.stops.specs.declared.node_record.Record.{Record}
-use Rattle.records.specs.Code.{Sifted, always}
+use Rattle.records.specs.Code.{slots, Sifted, always}
 use Rattle.passes.specs.Code.{isStaying}
 use Rattle.children.specs.Code.{othersIn, Spotted}
 use Rattle.children.specs.declared.spot.Spot.{Spot}
-use Rattle.replacement.specs.Code.{stayingOf, Changing, Replaced}
+use Rattle.replacement.specs.Code.{stayingOf, Replaced}
 use Rattle.replacement.specs.declared.Change.{Change}
 
 -- those to keep, in place of the first a of recs, stand at the front of recs′, up to e; the records from a on are as before
@@ -30,7 +30,7 @@ pub record Gathered (kept recs : List Record) (a : ℕ) (recs′ : List Record) 
   pub count : e ≡ length kept
   pub behind : drop a recs′ ≡ drop a recs
 
-module _ (recs : List Record) (p : Spot) (c : Change) (kids : List Record) (s : Spotted recs p kids (c .taking)) where
+module _ (recs : List Record) (p : Spot) (c : Change) (kids : List Record) (s : Spotted recs p) where
   abbrev a : ℕ
   a = p .active
 
@@ -41,7 +41,7 @@ module _ (recs : List Record) (p : Spot) (c : Change) (kids : List Record) (s : 
   kept = stayingOf recs p c kids
 
   abbrev stays : Record → Bool
-  stays = isStaying (c .limit) (take (c .taking) kids)
+  stays = isStaying (c .test .limit) (slots (c .taking) kids)
 
   -- the active records but the one that is branched
   others : othersIn recs a i ≡ take i recs ++ slice (i + 1) a recs
@@ -58,8 +58,8 @@ module _ (recs : List Record) (p : Spot) (c : Change) (kids : List Record) (s : 
   staying-parts = ap (keep stays) others ∙ keep-append stays (take i recs) (slice (i + 1) a recs)
 
   pub staying-count :
-      length (keep (isStaying (c .limit) (take (c .taking) kids)) (slice 0 (p .at) recs))
-      + length (keep (isStaying (c .limit) (take (c .taking) kids)) (slice (p .at + 1) (p .active) recs))
+      length (keep (isStaying (c .test .limit) (slots (c .taking) kids)) (slice 0 (p .at) recs))
+      + length (keep (isStaying (c .test .limit) (slots (c .taking) kids)) (slice (p .at + 1) (p .active) recs))
       ≡ length (stayingOf recs p c kids)
   staying-count = rw (staying-parts, length-append)
 
@@ -87,8 +87,8 @@ module _ (recs : List Record) (p : Spot) (c : Change) (kids : List Record) (s : 
 
   -- two sifts: the records before i, then those behind it. The second starts from records that are as before from i on.
   pub sifts-gather :
-      (recs′ recs″ : List Record) (e f : ℕ) → Sifted (isStaying (c .limit) (take (c .taking) kids)) recs 0 (p .at) 0 recs′ e
-      → Sifted (isStaying (c .limit) (take (c .taking) kids)) recs′ (p .at + 1) (p .active) e recs″ f
+      (recs′ recs″ : List Record) (e f : ℕ) → Sifted (isStaying (c .test .limit) (slots (c .taking) kids)) recs 0 (p .at) 0 recs′ e
+      → Sifted (isStaying (c .test .limit) (slots (c .taking) kids)) recs′ (p .at + 1) (p .active) e recs″ f
       → Gathered (stayingOf recs p c kids) recs (p .active) recs″ f
   sifts-gather recs′ recs″ e f first second =
       let same : slice (i + 1) a recs′ ≡ slice (i + 1) a recs = slice-further i recs′ recs (first .behind) (i + 1) a (omega arith) in
@@ -100,19 +100,22 @@ module _ (recs : List Record) (p : Spot) (c : Change) (kids : List Record) (s : 
       }
 
 pub gathered-written :
-    {recs : List Record} {p : Spot} {c : Change} {kids : List Record} → Changing recs p c kids
-    → (recs′ recs″ : List Record) (e : ℕ) → Gathered (stayingOf recs p c kids) recs (p .active) recs′ e
-    → length (stayingOf recs p c kids) + c .left ≤ length recs
-    → recs″ ≡ take e recs′ ++ (take (c .left) kids ++ drop (e + c .left) recs′)
-    → Replaced recs p c kids recs″ (e + c .left)
-gathered-written {recs} {p} {c} {kids} q recs′ recs″ e gathered room written =
-    let left : ℕ = c .left in
+    {recs : List Record} {p : Spot} {c : Change} {kids : List Record}
+    → (recs′ recs″ : List Record) (e r : ℕ) → Gathered (stayingOf recs p c kids) recs (p .active) recs′ e
+    → length (stayingOf recs p c kids) + length (slots (c .alive) kids) ≤ length recs
+    → r ≡ length (slots (c .alive) kids)
+    → recs″ ≡ take e recs′ ++ (slots (c .alive) kids ++ drop (e + r) recs′)
+    → Replaced recs p c kids recs″ (e + r)
+gathered-written {recs} {p} {c} {kids} recs′ recs″ e r gathered room count written =
+    let new : List Record = slots (c .alive) kids in
     let h : e ≤ length recs′ = omega (arith, gathered .same-length, gathered .count) in
-    let pasted : recs″ ≡ paste recs′ e kids left = written ∙ sym (append-assoc (take e recs′) (take left kids) (drop (e + left) recs′)) in
-    let seam : drop (e + left) recs″ ≡ drop (e + left) recs′ = ap (drop (e + left)) pasted ∙ drop-paste recs′ e kids left h (q .some) in
+    let all : take r new ≡ new = take-all r new (omega arith) in
+    let pasted : recs″ ≡ paste recs′ e new r =
+    written ∙ sym (append-assoc (take e recs′) new (drop (e + r) recs′)) ∙ ap (λ (xs : List Record). take e recs′ ++ xs ++ drop (e + r) recs′) (sym all) in
+    let seam : drop (e + r) recs″ ≡ drop (e + r) recs′ = ap (drop (e + r)) pasted ∙ drop-paste recs′ e new r h (omega arith) in
     record {
-      front = rw (pasted, take-paste recs′ e kids left h (q .some), gathered .front);
+      front = rw (pasted, take-paste recs′ e new r h (omega arith), gathered .front, all);
       count = omega (arith, gathered .count);
       behind = λ j from behind.
-          drop-further (e + left) recs″ recs′ seam j behind ∙ drop-further (p .active) recs′ recs (gathered .behind) j from;
+          drop-further (e + r) recs″ recs′ seam j behind ∙ drop-further (p .active) recs′ recs (gathered .behind) j from;
     }

@@ -6,29 +6,33 @@
 use mathlib.Core.Path.{_≡_}
 use mathlib.Core.Bool.{cond}
 use mathlib.Core.List.{List, _++_}
-use Prim.Native.Nat.{ℕ, _+_, _-_, _≤_}
+use Prim.Native.Nat.{ℕ, _+_, _-_, _^_, _≤_, _<_}
 use lib.Dec.{T, eqb}
 use lib.ListN.{length, take, drop, set}
+use Rattle.sizes.specs.Sizes.{mostStops}
 use Rattle.lists.specs.Lists.{keep}
 use Rattle.stops.specs.declared.node_record.Record.{Record}
+use Rattle.records.specs.Code.{slots}
+use Rattle.rivals.specs.Code.{Siblings}
 use Rattle.passes.specs.Code.{isStaying}
 use Rattle.children.specs.Code.{othersIn, Spotted}
 use Rattle.children.specs.declared.spot.Spot.{Spot}
 use Rattle.replacement.specs.declared.Change.{Change}
 
 unfoldable pub stayingOf : List Record → Spot → Change → List Record → List Record
-stayingOf recs p c kids = keep (isStaying (c .limit) (take (c .taking) kids)) (othersIn recs (p .active) (p .at))
+stayingOf recs p c kids = keep (isStaying (c .test .limit) (slots (c .taking) kids)) (othersIn recs (p .active) (p .at))
 
--- the kids that take part in rule 8 are near the set of the node that is branched; where `all` says so, every active record stays but it
+-- the children that take part in rule 8 stand in their slots; where `all` says so, every active record stays but the one that is branched
 pub record Changing (recs : List Record) (p : Spot) (c : Change) (kids : List Record) : Type 0 where
-  pub spotted : Spotted recs p kids (c .taking)
+  pub spotted : Spotted recs p
+  pub takes : Siblings (c .test) (c .taking) kids
   pub right : T (c .all) → stayingOf recs p c kids ≡ othersIn recs (p .active) (p .at)
-  pub some : c .left ≤ length kids
+  pub small : c .alive < 2 ^ mostStops
 
--- those that stay, then the kids that survive, r in all; behind these, and behind what was active, the records are as before
+-- those that stay, then the children that survive, r in all; behind these, and behind what was active, the records are as before
 pub record Replaced (recs : List Record) (p : Spot) (c : Change) (kids recs′ : List Record) (r : ℕ) : Type 0 where
-  pub front : take r recs′ ≡ stayingOf recs p c kids ++ take (c .left) kids
-  pub count : r ≡ length (stayingOf recs p c kids) + c .left
+  pub front : take r recs′ ≡ stayingOf recs p c kids ++ slots (c .alive) kids
+  pub count : r ≡ length (stayingOf recs p c kids) + length (slots (c .alive) kids)
   pub behind : (j : ℕ) → p .active ≤ j → r ≤ j → drop j recs′ ≡ drop j recs
 
 -- b in front of the records at the far end, if these are held

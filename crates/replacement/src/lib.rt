@@ -5,9 +5,9 @@ ghost use mathlib.Core.Bool.{not, cond, _&&_};
 ghost use Prim.Native.Nat.{_+_, _^_, _≤_, _<_};
 ghost use lib.Dec.{leb, ltb, eqb};
 ghost use lib.ListN.{length};
-ghost use Rattle.sizes.specs.Sizes.{mostStops};
 ghost use Rattle.search.specs.Step.{on};
-ghost use Rattle.records.specs.Code.{records};
+ghost use Rattle.records.specs.Code.{records, slots};
+ghost use Rattle.rivals.specs.Code.{Siblings};
 ghost use Rattle.children.specs.Code.{Spotted};
 ghost use Rattle.replacement.specs.Code.{Changing, Replaced, stayingOf, farWith};
 use children::rules::on;
@@ -17,23 +17,25 @@ use passes::staying;
 use pool::part::take_out;
 use pool::part::write_at;
 use records::store;
+use rivals::Test;
 use stops::node_record::Record;
+use stops::sets::count;
 
-// What parts 6 and 7 go by: the limit of rule 1, how many children survive, how many of these take part in rule 8, and whether every
-// active record stays.
+// What parts 6 and 7 go by: what the active records are held against, the stops of the children that survive and of those that take part in
+// rule 8, and whether every active record stays.
 pub struct Change {
-    pub limit: u32,
-    pub left: usize,
-    pub taking: usize,
+    pub test: Test,
+    pub alive: u32,
+    pub taking: u32,
     pub all: bool,
 }
 
-// How many children take part in rule 8.
-pub fn taking_of(rules: u32, left: usize) -> usize
-    ensures { λ r. ⌜ r ≡ cond (on 8 rules) left 0 ⌝ }
+// The stops of the children that take part in rule 8: those of all that survive, or none.
+pub fn taking_of(rules: u32, alive: u32) -> u32
+    ensures { λ r. ⌜ r ≡ cond (on 8 rules) alive 0 ⌝ }
 {
     if on(8, rules) {
-        return left;
+        return alive;
     }
     0
 }
@@ -50,7 +52,7 @@ pub fn holding(rules: u32, far: usize) -> usize
 }
 
 // Whether every active record stays: no child takes part in rule 8, and U did not fall under rule 1.
-pub fn all_stay(rules: u32, known: u32, upper: u32, taking: usize) -> bool
+pub fn all_stay(rules: u32, known: u32, upper: u32, taking: u32) -> bool
     ensures { λ r. ⌜ r ≡ (eqb taking 0 && not (on 1 rules && ltb upper known)) ⌝ }
 {
     if taking != 0 {
@@ -64,39 +66,23 @@ pub fn all_stay(rules: u32, known: u32, upper: u32, taking: usize) -> bool
 
 // How many of the active records stay, but the one that is branched.
 fn remaining(w: &[u32], spot: Spot, change: Change, kids: &[u32]) -> usize
-    requires { ⌜ Spotted (records (now w)) spot (records (now kids)) (change .taking) ⌝ }
+    requires { ⌜ Spotted (records (now w)) spot × Siblings (change .test) (change .taking) (records (now kids)) ⌝ }
     ensures { λ r. ⌜ r ≡ length (stayingOf (records (now (w .entry))) spot change (records (now (kids .entry)))) ⌝ }
 {
-    let before = staying(
-        w,
-        0,
-        spot.at,
-        change.limit,
-        spot.size,
-        spot.base,
-        kids,
-        change.taking,
-    );
-    let behind = staying(
-        w,
-        spot.at + 1,
-        spot.active,
-        change.limit,
-        spot.size,
-        spot.base,
-        kids,
-        change.taking,
-    );
+    let test = change.test;
+    let before = staying(w, 0, spot.at, test, kids, change.taking);
+    let behind = staying(w, spot.at + 1, spot.active, test, kids, change.taking);
     before + behind
 }
 
 // Whether the nodes to keep are at most the pool's capacity; far is how many of them are branched ones. They are counted only where some
 // may go and it matters.
 pub fn fits(w: &[u32], spot: Spot, change: Change, far: usize, kids: &[u32]) -> bool
-    requires { ⌜ Changing (records (now w)) spot change (records (now kids)) × ((change .left ≤ mostStops) × (far ≤ spot .active + length (records (now w)))) ⌝ }
-    ensures { λ r. ⌜ r ≡ leb (length (stayingOf (records (now (w .entry))) spot change (records (now (kids .entry)))) + change .left + far) (spot .capacity) ⌝ }
+    requires { ⌜ Changing (records (now w)) spot change (records (now kids)) × (far ≤ spot .active + length (records (now w))) ⌝ }
+    ensures { λ r. ⌜ r ≡ leb (length (stayingOf (records (now (w .entry))) spot change (records (now (kids .entry)))) + length (slots (change .alive) (records (now (kids .entry)))) + far) (spot .capacity) ⌝ }
 {
-    let most = spot.active - 1 + change.left + far;
+    let left = count(change.alive);
+    let most = spot.active - 1 + left + far;
     if most <= spot.capacity {
         return true;
     }
@@ -104,50 +90,39 @@ pub fn fits(w: &[u32], spot: Spot, change: Change, far: usize, kids: &[u32]) -> 
         return false;
     }
     let stay = remaining(w, spot, change, kids);
-    stay + change.left + far <= spot.capacity
+    stay + left + far <= spot.capacity
 }
 
 // Parts 6 and 7 where some active records may go: what stays of them, then the children that survive.
 fn sifted(w: &mut [u32], spot: Spot, change: Change, kids: &[u32]) -> usize
-    requires { ⌜ Changing (records (now w)) spot change (records (now kids)) × (length (stayingOf (records (now w)) spot change (records (now kids))) + change .left ≤ length (records (now w))) ⌝ }
+    requires { ⌜ Changing (records (now w)) spot change (records (now kids)) × (length (stayingOf (records (now w)) spot change (records (now kids))) + length (slots (change .alive) (records (now kids))) ≤ length (records (now w))) ⌝ }
     ensures { λ r. ⌜ Replaced (records (now (w .entry))) spot change (records (now (kids .entry))) (records (now (w .exit))) r ⌝ }
 {
-    let before = sift(
-        w,
-        0,
-        spot.at,
-        0,
-        change.limit,
-        spot.size,
-        spot.base,
-        kids,
-        change.taking,
-    );
+    let test = change.test;
+    let before = sift(w, 0, spot.at, 0, test, kids, change.taking);
     let end = sift(
         w,
         spot.at + 1,
         spot.active,
         before,
-        change.limit,
-        spot.size,
-        spot.base,
+        test,
         kids,
         change.taking,
     );
-    write_at(w, end, kids, change.left);
-    end + change.left
+    let written = write_at(w, end, kids, change.alive);
+    end + written
 }
 
 // Parts 6 and 7: the active records afterwards stand at the front, and the result says how many they are. Where all stay but the one that
 // is branched, it is taken out.
 pub fn replace(w: &mut [u32], spot: Spot, change: Change, kids: &[u32]) -> usize
-    requires { ⌜ Changing (records (now w)) spot change (records (now kids)) × (length (stayingOf (records (now w)) spot change (records (now kids))) + change .left ≤ length (records (now w))) ⌝ }
+    requires { ⌜ Changing (records (now w)) spot change (records (now kids)) × (length (stayingOf (records (now w)) spot change (records (now kids))) + length (slots (change .alive) (records (now kids))) ≤ length (records (now w))) ⌝ }
     ensures { λ r. ⌜ Replaced (records (now (w .entry))) spot change (records (now (kids .entry))) (records (now (w .exit))) r ⌝ }
 {
     if change.all {
         let end = take_out(w, spot.active, spot.at);
-        write_at(w, end, kids, change.left);
-        return end + change.left;
+        let written = write_at(w, end, kids, change.alive);
+        return end + written;
     }
     sifted(w, spot, change, kids)
 }

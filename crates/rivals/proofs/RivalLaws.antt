@@ -1,8 +1,12 @@
--- Records that can dominate a child. Of records that are all near a set, each is dominated only by records that are near it (`apart`), so it
--- is free of some records if it is free of those of them that are near (`free-near`). Gathering these goes from one near record to the
--- next (`gathered-none`, `gathered-run`, `gathered-passes`), and passes over children by what was gathered of one slice after another are
--- one pass by the whole slice (`sifted-near`).
-use mathlib.Core.Path.{_≡_, refl, ap, subst, _∙_}
+-- Records that can dominate a child.
+--   side-by-side                     two words tested as one value
+--   dominates-same, sets-apart       what dominates has the size and the set of what it dominates
+--   near-holds                       the set of a record that is near holds the base
+--   sibling-near, siblings-less, siblings-limit    children in their slots are near, and so are some of them, whatever the limit
+--   free-append, apart               a record is free of two joined lists if it is of each, and of children that it is not near
+--   gathered-none, gathered-run, gathered-passes    gathering goes from one near record to the next
+--   thinned-unsearched, thinned-near, thinned-out   passes by what was gathered of one slice after another are one pass by the whole slice
+use mathlib.Core.Path.{_≡_, refl, ap, sym, subst, _∙_}
 use mathlib.Core.Bool.{Bool, true, false, not, _&&_, _||_, and-false}
 use mathlib.Core.List.{List, [], _++_, append-nil}
 use mathlib.Core.Logic.{_⊎_, inl, inr, _≢_}
@@ -10,20 +14,22 @@ use Prim.Native.Nat.{ℕ, _+_, _-_, _*_, _%_, _^_, _≤_, _<_}
 use native.Mathlib.Numerals.{add-one}
 use native.Mathlib.Omega.{arith}
 use borrow.Author.Tests.{ne-eqb}
-use lib.Bits.{bitAnd, and-block, and-mask}
+use lib.Bits.{bitAnd, and-block, and-mask, and-le-l}
 use lib.Dec.{T, leb, eqb, eqb→eq, eqb-refl, not-T}
 use lib.ListN.{length, getD, take, set, length-set}
 use lib.Seq.{slice, slice-empty, take-suc-set}
+use Rattle.sizes.specs.Sizes.{mostStops}
 use Rattle.lists.specs.Lists.{In, put, keep, any}
 use Rattle.lists.proofs.Keep.{any-append, keep-append}
 use Rattle.lists.proofs.Tests.{same-tests, to-false, and-left, and-right, and-both, compared}
 use Rattle.lists.proofs.Members.{in-keep, keep-in, any-in, in-any}
 use Rattle.lists.proofs.Slices.{keep-slice-more, slice-join, AllSo}
-use Rattle.stops.specs.Code.{emptyRecord, recDominates}
+use Rattle.stops.specs.Code.{emptyRecord, recDominates, stopsIn}
 use Rattle.stops.specs.declared.node_record.Record.{Record}
-use Rattle.records.specs.Code.{Sifted}
-use Rattle.rivals.specs.Code.{isFree, near, AllNear, Gathering}
-use Rattle.records.proofs.SiftLaws.{sifted-all, sifted-none, sifted-twice, sifted-same}
+use Rattle.records.specs.Code.{slots, Thinned}
+use Rattle.records.proofs.SlotLaws.{in-slots, thinned-all, thinned-none, thinned-twice, thinned-same}
+use Rattle.rivals.specs.Code.{isFree, near, Siblings, Gathering}
+use Rattle.rivals.specs.declared.Test.{Test}
 
 -- two numbers of 32 digits side by side, of which one may lack digits, are the same if and only if each is
 pub side-by-side :
@@ -60,7 +66,7 @@ pub sets-apart : (y z : Record) → (y .set ≡ z .set → ⊥) → false ≡ re
 unfolding recDominates
 sets-apart y z h = simp (ne-eqb (y .set) (z .set) h, and-false)
 
-dominates-same : (y z : Record) → T (recDominates y z) → (y .size ≡ z .size) × (y .set ≡ z .set)
+pub dominates-same : (y z : Record) → T (recDominates y z) → (y .size ≡ z .size) × (y .set ≡ z .set)
 dominates-same y z h = (go (sizes-apart y z) (compared (y .size) (z .size)), go (sets-apart y z) (compared (y .set) (z .set)))
   where
     go : {a b : ℕ} → ((a ≡ b → ⊥) → false ≡ recDominates y z) → (a ≡ b) ⊎ (a ≢ b) → a ≡ b
@@ -68,9 +74,46 @@ dominates-same y z h = (go (sizes-apart y z) (compared (y .size) (z .size)), go 
     go apart (inr n) = absurd (rw (← apart n) at h)
 
 -- what dominates is near where what it dominates is
-same-near : (size base : ℕ) (y x : Record) → T (recDominates y x) → near size base y ≡ near size base x
+same-near : (t : Test) (y x : Record) → T (recDominates y x) → near t y ≡ near t x
 unfolding near
-same-near size base y x d = let same = dominates-same y x d in rw (same .0, same .1)
+same-near t y x d = let same = dominates-same y x d in rw (same .0, same .1)
+
+pub near-holds : (t : Test) (x : Record) → T (near t x) → t .base ≤ x .set
+unfolding near
+near-holds t x h =
+    let held : bitAnd (x .set) (t .base) ≡ t .base =
+    eqb→eq (bitAnd (x .set) (t .base)) (t .base) (and-left (eqb (bitAnd (x .set) (t .base)) (t .base)) (eqb (x .size) (t .size)) h) in
+    omega (arith, and-le-l (x .set) (t .base))
+
+module _ {t : Test} {alive : ℕ} {kids : List Record} (f : Siblings t alive kids) where
+  pub sibling-near : (x : Record) → In x (slots alive kids) → T (near t x)
+  unfolding near
+  sibling-near x i =
+      let (s, m, e) = in-slots kids alive x i in
+      rw (e, f .sets s m, f .sizes s m, f .lacks s m)
+      (and-both (eqb (t .base) (t .base)) (eqb (t .size) (t .size)) (eqb-refl (t .base)) (eqb-refl (t .size)))
+
+  pub siblings-less : {left : ℕ} → left < 2 ^ mostStops → ((s : ℕ) → In s (stopsIn left) → In s (stopsIn alive)) → Siblings t left kids
+  siblings-less h among = record {
+    small = h;
+    room = f .room;
+    sizes = λ s i. f .sizes s (among s i);
+    sets = λ s i. f .sets s (among s i);
+    lacks = λ s i. f .lacks s (among s i);
+  }
+
+  -- whatever the limit is
+  pub siblings-limit : (limit : ℕ) → Siblings (record { size = t .size; base = t .base; limit = limit }) alive kids
+  siblings-limit limit = record { small = f .small; room = f .room; sizes = f .sizes; sets = f .sets; lacks = f .lacks }
+
+  -- a record that is not near is dominated by none of them
+  pub apart : (x : Record) → near t x ≡ false → any (λ y. recDominates y x) (slots alive kids) ≡ false
+  apart x h = to-false (any (λ y. recDominates y x) (slots alive kids)) (not-T (any (λ y. recDominates y x) (slots alive kids)) none)
+    where
+      none : T (any (λ y. recDominates y x) (slots alive kids)) → ⊥
+      none d =
+          let (y, m, b) = any-in (λ y. recDominates y x) (slots alive kids) d in
+          rw (same-near t y x b, h) at (sibling-near y m)
 
 -- a record is free of two joined lists if it is free of each
 pub free-append : (limit : ℕ) (ys zs : List Record) (x : Record) → (isFree limit ys x && isFree limit zs x) ≡ isFree limit (ys ++ zs) x
@@ -94,29 +137,16 @@ any-near f g ys both = same-tests (any f (keep g ys)) (any f ys) less more
     more : T (any f ys) → T (any f (keep g ys))
     more h = let (y, m, t) = any-in f ys h in in-any f (keep g ys) y (keep-in g ys y m (both y t)) t
 
-free-near :
-    (limit size base : ℕ) (ys : List Record) (x : Record) → T (near size base x)
-    → isFree limit (keep (near size base) ys) x ≡ isFree limit ys x
+free-near : (limit : ℕ) (t : Test) (ys : List Record) (x : Record) → T (near t x) → isFree limit (keep (near t) ys) x ≡ isFree limit ys x
 unfolding isFree
-free-near limit size base ys x h =
+free-near limit t ys x h =
     ap not
-    (any-near (λ y. leb (y .bound) limit && recDominates y x) (near size base) ys
-    (λ y t. rw (same-near size base y x (and-right (leb (y .bound) limit) (recDominates y x) t)) h))
+    (any-near (λ y. leb (y .bound) limit && recDominates y x) (near t) ys
+    (λ y b. rw (same-near t y x (and-right (leb (y .bound) limit) (recDominates y x) b)) h))
 
 free-none : (limit from : ℕ) (l : List Record) (x : Record) → T (isFree limit (slice from from l) x)
 unfolding isFree
 free-none limit from l x = rw (slice-empty from l) tt
-
--- a record that is not near is dominated by none that is
-pub apart :
-    (size base : ℕ) (kids : List Record) (x : Record) → AllNear size base kids → near size base x ≡ false
-    → any (λ y. recDominates y x) kids ≡ false
-apart size base kids x all h = to-false (any (λ y. recDominates y x) kids) (not-T (any (λ y. recDominates y x) kids) none)
-  where
-    none : T (any (λ y. recDominates y x) kids) → ⊥
-    none t =
-        let (y, m, d) = any-in (λ y. recDominates y x) kids t in
-        rw (same-near size base y x d, h) at (all y m)
 
 -- gathering, one record at a time; a run of records that fail leaves what was gathered
 module _ (test : Record → Bool) (l : List Record) (from : ℕ) where
@@ -142,43 +172,31 @@ module _ (test : Record → Bool) (l : List Record) (from : ℕ) where
         room = rw (stored, length-set) (omega arith);
       }
 
--- no record yet: nothing is sifted out
-pub sifted-unsearched :
-    (limit from : ℕ) (l k : List Record) (m : ℕ) → m ≤ length k → Sifted (isFree limit (slice from from l)) k 0 m 0 k m
-sifted-unsearched limit from l k m inside = sifted-all (isFree limit (slice from from l)) k m (free-none limit from l) inside
+-- no record yet: every child is left
+pub thinned-unsearched :
+    (limit from : ℕ) (l kids : List Record) (m : ℕ) → m < 2 ^ mostStops → Thinned (isFree limit (slice from from l)) kids m m
+thinned-unsearched limit from l kids m small = thinned-all (isFree limit (slice from from l)) kids m small (λ x i. free-none limit from l x)
 
 -- a pass by the records from `from` to `mid`, and one by those gathered from there to `to`
-module _ (limit size base : ℕ) (l : List Record) (from mid to : ℕ) (before : from ≤ mid) (behind : mid ≤ to) (inside : to ≤ length l) where
-  pub sifted-near :
-      (buffer : List Record) (count : ℕ) → Gathering (near size base) l mid to buffer count → {k k′ k″ : List Record} {m e r : ℕ}
-      → AllNear size base (take m k) → Sifted (isFree limit (slice from mid l)) k 0 m 0 k′ e
-      → Sifted (isFree limit (slice 0 count buffer)) k′ 0 e 0 k″ r → Sifted (isFree limit (slice from to l)) k 0 m 0 k″ r
-  sifted-near buffer count gathered all first second =
-      sifted-same
-      (λ x. isFree limit (slice from mid l) x && isFree limit (slice 0 count buffer) x)
-      (isFree limit (slice from to l))
+module _ (limit : ℕ) (l : List Record) (from mid to : ℕ) (before : from ≤ mid) (behind : mid ≤ to) (inside : to ≤ length l) where
+  joined : (x : Record) → (isFree limit (slice from mid l) x && isFree limit (slice mid to l) x) ≡ isFree limit (slice from to l) x
+  joined x =
+      free-append limit (slice from mid l) (slice mid to l) x
+      ∙ ap (λ (ys : List Record). isFree limit ys x) (slice-join l from mid to before behind inside)
+
+  pub thinned-near :
+      {t : Test} {buffer : List Record} {count : ℕ} → Gathering (near t) l mid to buffer count → {kids : List Record} {m e r : ℕ}
+      → Siblings t m kids → Thinned (isFree limit (slice from mid l)) kids m e → Thinned (isFree limit (take count buffer)) kids e r
+      → Thinned (isFree limit (slice from to l)) kids m r
+  thinned-near {t} gathered f first second =
+      thinned-same (thinned-twice first second)
       (λ x i.
       ap (λ (b : Bool). isFree limit (slice from mid l) x && b)
-      (ap (λ (ys : List Record). isFree limit ys x) (gathered .front) ∙ free-near limit size base (slice mid to l) x (all x i))
-      ∙ free-append limit (slice from mid l) (slice mid to l) x
-      ∙ ap (λ (ys : List Record). isFree limit ys x) (slice-join l from mid to before behind inside))
-      (sifted-twice first second)
+      (ap (λ (ys : List Record). isFree limit ys x) (gathered .front) ∙ free-near limit t (slice mid to l) x (sibling-near f x i))
+      ∙ joined x)
 
   -- where no child is left, the records behind take none away
-  pub sifted-out :
-      {k k′ : List Record} {m e : ℕ} → e ≡ 0 → Sifted (isFree limit (slice from mid l)) k 0 m 0 k′ e
-      → Sifted (isFree limit (slice from to l)) k 0 m 0 k′ 0
-  sifted-out {k′ = k′} none first =
-      sifted-same
-      (λ x. isFree limit (slice from mid l) x && isFree limit (slice mid to l) x)
-      (isFree limit (slice from to l))
-      (λ x i.
-      free-append limit (slice from mid l) (slice mid to l) x
-      ∙ ap (λ (ys : List Record). isFree limit ys x) (slice-join l from mid to before behind inside))
-      (sifted-twice (rw none at first) (sifted-none (isFree limit (slice mid to l)) k′ 0 0))
-
--- what a pass keeps is near still
-pub sifted-near-still :
-    {test : Record → Bool} {l l′ : List Record} {m r : ℕ} (size base : ℕ) → Sifted test l 0 m 0 l′ r → AllNear size base (take m l)
-    → AllNear size base (take r l′)
-sifted-near-still {test} {l} {m = m} size base sifted all x i = all x (in-keep test (take m l) x (subst (λ (xs : List Record). In x xs) (sifted .front) i) .0)
+  pub thinned-out :
+      {kids : List Record} {m e : ℕ} → e ≡ 0 → Thinned (isFree limit (slice from mid l)) kids m e → Thinned (isFree limit (slice from to l)) kids m 0
+  thinned-out {kids} none first =
+      thinned-same (thinned-twice first (thinned-none (isFree limit (slice mid to l)) kids none)) (λ x i. joined x)

@@ -1,27 +1,39 @@
 -- Which records dominate a child, and which can.
+--   isFree               rules 2 and 4: no record with a bound up to a limit dominates x
+--   near                 a record can dominate a child, or be dominated by one
+--   Siblings             children in their slots
+--   Gathering            records that are near, at the front of a buffer
 use mathlib.Core.Path.{_≡_}
 use mathlib.Core.Bool.{Bool, not, _&&_}
 use mathlib.Core.List.{List}
-use Prim.Native.Nat.{ℕ, _≤_}
+use Prim.Native.Nat.{ℕ, _+_, _-_, _^_, _≤_, _<_}
 use lib.Bits.{bitAnd}
-use lib.Dec.{T, leb, eqb}
+use lib.Dec.{leb, eqb}
 use lib.ListN.{length, take}
 use lib.Seq.{slice}
+use Rattle.sizes.specs.Sizes.{mostStops}
 use Rattle.lists.specs.Lists.{In, keep, any}
-use Rattle.stops.specs.Code.{recDominates}
+use Rattle.stops.specs.Code.{recDominates, stopsIn}
 use Rattle.stops.specs.declared.node_record.Record.{Record}
+use Rattle.records.specs.Code.{inSlot}
+use Rattle.rivals.specs.declared.Test.{Test}
 
--- rules 2 and 4: no record with a bound up to limit dominates x
 unfoldable pub isFree : ℕ → List Record → Record → Bool
 isFree limit ys x = not (any (λ y. leb (y .bound) limit && recDominates y x) ys)
 
--- A record is near a set of stops if its set holds them and it has some size. A record that dominates another has its size and its set,
--- so of records that are all near one set only those that are near it too are to be looked at.
-unfoldable pub near : ℕ → ℕ → Record → Bool
-near size base x = eqb (bitAnd (x .set) base) base && eqb (x .size) size
+-- A record is near the children of a node if it has their size and its set holds the node's. A record that dominates another has its size
+-- and its set, so only those that are near are to be looked at.
+unfoldable pub near : Test → Record → Bool
+near t x = eqb (bitAnd (x .set) (t .base)) (t .base) && eqb (x .size) (t .size)
 
-abbrev pub AllNear : ℕ → ℕ → List Record → Type 0
-AllNear size base xs = (x : Record) → In x xs → T (near size base x)
+-- The children by the stops of `alive` stand in their slots: each has the size, and in its set those of the base and its own stop, which
+-- the base lacks.
+pub record Siblings (t : Test) (alive : ℕ) (kids : List Record) : Type 0 where
+  pub small : alive < 2 ^ mostStops
+  pub room : mostStops ≤ length kids
+  pub sizes : (s : ℕ) → In s (stopsIn alive) → inSlot kids s .size ≡ t .size
+  pub sets : (s : ℕ) → In s (stopsIn alive) → inSlot kids s .set ≡ t .base + 2 ^ (s - 1)
+  pub lacks : (s : ℕ) → In s (stopsIn alive) → bitAnd (t .base + 2 ^ (s - 1)) (t .base) ≡ t .base
 
 -- those of the elements of l from `from` to `to` that pass the test stand at the front of `near`, and are `count`
 pub record Gathering (test : Record → Bool) (l : List Record) (from to : ℕ) (near : List Record) (count : ℕ) : Type 0 where

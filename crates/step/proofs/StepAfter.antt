@@ -16,14 +16,14 @@ use Rattle.search.specs.Step.{on, children₁, best₂, active₇, step}
 use Rattle.stops.specs.Code.{emptyRecord}
 use Rattle.stops.specs.declared.node_record.Record.{Record}
 use Rattle.records.specs.Code.{records}
-use Rattle.children.specs.Code.{Table, recProblem, farIn}
+use Rattle.children.specs.Code.{Table, childrenOf, recProblem, farIn}
 use Rattle.children.specs.declared.setting.Setting.{Setting}
 use Rattle.replacement.specs.Code.{Replaced, farWith}
 use Rattle.step.specs.Code.{farOf, Ready, Shown, Expansion, spotOf, changeOf, farAfter, stepOf, runAfter}
 use Rattle.step.specs.declared.Expanded.{Expanded}
 use Rattle.step.specs.declared.Run.{Run}
 use Rattle.step.proofs.StepLaws.{Bounded, eliminated-are}
-use Rattle.step.proofs.StepShown.{stayingAfter, stage-active, active-count}
+use Rattle.step.proofs.StepShown.{stayingAfter, leftOf, stage-active, active-count}
 
 -- the front is not where b is put
 far-front : (recs : List Record) (capacity far j : ℕ) (b : Record) → j ≤ capacity - far → take j (farWith recs capacity far b) ≡ take j recs
@@ -58,10 +58,11 @@ module _
     {d : Setting} {t : Table} {w : List ℕ} {i : ℕ} {b : Record} {r : Run} {e : Expanded} {kids : List Record}
     (made : Expansion d t w i b r e kids) (small : Bounded (records w)) (ready : Ready d t w i b r)
     (s : State Record) (shown : Shown d w r s) (w′ : List ℕ) (recs : List Record) (active : ℕ)
-    (fits : length (stayingAfter d w i b r e kids) + e .left + farAfter d r ≤ length (records w))
-    (put : Replaced (records w) (spotOf w i b r) (changeOf d r e) kids recs active)
+    (fits : length (stayingAfter d w i r e kids) + leftOf e kids + farAfter d r ≤ length (records w))
+    (put : Replaced (records w) (spotOf w i r) (changeOf d r e) kids recs active)
     (same : length recs ≡ length (records w))
     (holds : records w′ ≡ farWith recs (length (records w)) (farAfter d r) b)
+    (generated : ℕ) (all : generated ≡ length (childrenOf d t b))
   where
     abbrev capacity : ℕ
     capacity = length (records w)
@@ -99,7 +100,7 @@ module _
             ∙ sym (reverse-append (s .branched) (b ∷ []))
         go false q h f = drop-of-length-le (records w′) {i = length (records w′) - far} (omega (arith, whole))
 
-    pub stage-shown : Shown d w′ (runAfter r (e .best) (e .generated) active (farAfter d r)) (stepOf d t i b s)
+    pub stage-shown : Shown d w′ (runAfter r (e .best) generated active (farAfter d r)) (stepOf d t i b s)
     unfolding runAfter stepOf step best₂ children₁ recProblem active₇
     stage-shown = record {
       active = shown-active;
@@ -109,7 +110,7 @@ module _
       fits = omega (arith, whole, put .count);
       best = made .learnt (s .best) (shown .best);
       branched = omega (arith, shown .branched, length-append (s .branched) (b ∷ []));
-      generated = omega (arith, shown .generated, made .generated);
+      generated = omega (arith, shown .generated, all);
       eliminated = count-eliminated;
       most = ap₂ max (shown .most) count-active;
     }
@@ -123,7 +124,7 @@ module _
             omega (arith, length-append (s .branched) (b ∷ []))
         count-far false q h = q
 
-        count-eliminated : r .eliminated + (r .active - 1 + e .generated - active) ≡ stepOf d t i b s .eliminated
+        count-eliminated : r .eliminated + (r .active - 1 + generated - active) ≡ stepOf d t i b s .eliminated
         count-eliminated =
             omega (
               arith,
@@ -132,5 +133,5 @@ module _
               shown .eliminated,
               dropped-length i (s .active) (let q : i < length (s .active) = omega (arith, ready .inside, shown .active-count) in q),
               shown .active-count,
-              made .generated,
+              all,
             )

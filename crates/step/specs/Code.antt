@@ -11,7 +11,7 @@ use mathlib.Core.Option.{Option}
 use Prim.Native.Nat.{ℕ, _+_, _-_, _^_, _≤_, _<_, max}
 use lib.Dec.{T, eqb, ltb}
 use lib.ListN.{length, getD, take}
-use Rattle.sizes.specs.Sizes.{mostStops, noLimit}
+use Rattle.sizes.specs.Sizes.{noLimit}
 use Rattle.lists.specs.Lists.{In, dropAt}
 use Rattle.search.specs.Problem.{State}
 use Rattle.search.specs.Step.{on, learn, step}
@@ -19,7 +19,7 @@ use Rattle.search.specs.Run.{held}
 use Rattle.stops.specs.Code.{emptyRecord}
 use Rattle.stops.specs.declared.node_record.Record.{Record}
 use Rattle.records.specs.Code.{records}
-use Rattle.children.specs.Code.{Table, Rows, Encoded, childrenOf, recProblem, recChoices, IsBest, othersIn, farIn, Surviving}
+use Rattle.children.specs.Code.{Table, Rows, Encoded, Born, childrenOf, recProblem, recChoices, IsBest, othersIn, farIn, Surviving}
 use Rattle.children.specs.declared.best.Best.{Best}
 use Rattle.children.specs.declared.setting.Setting.{Setting}
 use Rattle.children.specs.declared.spot.Spot.{Spot}
@@ -59,34 +59,24 @@ pub record Ready (d : Setting) (t : Table) (w : List ℕ) (i : ℕ) (b : Record)
   pub room : r .generated + r .eliminated + r .branched < 2 ^ 62
 
 -- where b stands
-abbrev pub spotOf : List ℕ → ℕ → Record → Run → Spot
-spotOf w i b r = record {
-  capacity = length (records w);
-  active = r .active;
-  at = i;
-  far = r .far;
-  size = b .size + 1;
-  base = b .set;
-}
+abbrev pub spotOf : List ℕ → ℕ → Run → Spot
+spotOf w i r = record { capacity = length (records w); active = r .active; at = i; far = r .far }
 
--- what parts 1 to 5 give: how many children, U and the limit of rule 1 after part 2, and the survivors at the front of kids
+-- what parts 1 to 5 give: the children in their slots, U and the limit of rule 1 after part 2, and the survivors
 pub record Expansion (d : Setting) (t : Table) (w : List ℕ) (i : ℕ) (b : Record) (r : Run) (e : Expanded) (kids : List Record) : Type 0 where
-  pub generated : e .generated ≡ length (childrenOf d t b)
-  pub few : e .generated ≤ mostStops
+  pub children : Born d t b (e .born) kids
   pub learnt : (o : Option Record) → IsBest (r .best) o → IsBest (e .best) (learn (recProblem d t) o (childrenOf d t b))
-  pub limited : e .limit ≡ cond (on 1 (d .rules)) (e .best .upper) noLimit
-  pub surviving :
-      Surviving (d .rules) (e .limit) (othersIn (records w) (r .active) i) (farIn (records w) (r .far)) (childrenOf d t b) (e .generated)
-      kids (e .left)
-  pub room : mostStops ≤ length kids
+  pub tests :
+      e .test ≡ record { size = b .size + 1; base = b .set; limit = cond (on 1 (d .rules)) (e .best .upper) noLimit }
+  pub surviving : Surviving (d .rules) (e .test .limit) (othersIn (records w) (r .active) i) (farIn (records w) (r .far)) kids (e .born) (e .alive)
 
 -- what parts 6 and 7 then go by, and how many branched records stand at the far end afterwards
 abbrev pub changeOf : Setting → Run → Expanded → Change
 changeOf d r e = record {
-  limit = e .limit;
-  left = e .left;
-  taking = cond (on 8 (d .rules)) (e .left) 0;
-  all = eqb (cond (on 8 (d .rules)) (e .left) 0) 0 && not (on 1 (d .rules) && ltb (e .best .upper) (r .best .upper));
+  test = e .test;
+  alive = e .alive;
+  taking = cond (on 8 (d .rules)) (e .alive) 0;
+  all = eqb (cond (on 8 (d .rules)) (e .alive) 0) 0 && not (on 1 (d .rules) && ltb (e .best .upper) (r .best .upper));
 }
 
 abbrev pub farAfter : Setting → Run → ℕ

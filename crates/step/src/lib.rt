@@ -23,13 +23,15 @@ use replacement::hold;
 use replacement::holding;
 use replacement::replace;
 use replacement::taking_of;
+use rivals::Test;
 use sizes::ORDER_PLACES;
 use sizes::PLACES;
 use sizes::RECORD_WORDS;
 use stops::node_record::Record;
+use stops::sets::count;
 
-// Words for the records of one node's children.
-const FAMILY_WORDS: usize = ORDER_PLACES * RECORD_WORDS;
+// Words for a record for each stop.
+pub const FAMILY_WORDS: usize = ORDER_PLACES * RECORD_WORDS;
 
 // Where a run stands beside the pool: how many active records stand at its front and how many branched ones at its far end, U with
 // its order, and the counts.
@@ -71,29 +73,26 @@ fn counted(r: Run, best: Best, generated: usize, active: usize, far: usize) -> R
 }
 
 // Where b stands, which is record i.
-fn spot_of(w: &[u32], i: usize, b: Record, r: Run) -> Spot
-    requires { ⌜ b .size < mostStops ⌝ }
-    ensures { λ p. ⌜ p ≡ spotOf (now (w .entry)) i b r ⌝ }
+fn spot_of(w: &[u32], i: usize, r: Run) -> Spot
+    ensures { λ p. ⌜ p ≡ spotOf (now (w .entry)) i r ⌝ }
 {
     Spot {
         capacity: w.len() / RECORD_WORDS,
         active: r.active,
         at: i,
         far: r.far,
-        size: b.size + 1,
-        base: b.set,
     }
 }
 
-// What parts 1 to 5 of a step give: how many children there are and how many of them survive, the limit of rule 1, and U.
+// What parts 1 to 5 of a step give: the stops of the children and of those that survive, what the pool's records are held against, and U.
 struct Expanded {
-    generated: usize,
-    left: usize,
-    limit: u32,
+    born: u32,
+    alive: u32,
+    test: Test,
     best: Best,
 }
 
-// Parts 1 to 5 of the step of b, which stands at i: the survivors stand at the front of kids.
+// Parts 1 to 5 of the step of b, which stands at i: each child stands in the slot of its stop in kids.
 fn expand(
     setting: Setting,
     t: [[u32; PLACES]; PLACES],
@@ -106,21 +105,27 @@ fn expand(
     requires { ⌜ Ready setting t (now w) i b r × (mostStops ≤ length (records (now kids))) ⌝ }
     ensures { λ e. ⌜ Expansion setting t (now (w .entry)) i b r e (records (now (kids .exit))) ⌝ }
 {
-    let spot = spot_of(w, i, b, r);
+    let spot = spot_of(w, i, r);
     let known = r.best;
-    let m = family(setting, t, b, kids);
-    let best = learn(setting, kids, m, spot.size, known);
-    let limit = limit_of(setting.rules, best.upper);
-    let left = survivors(setting, kids, m, w, spot, limit);
+    let size = b.size + 1;
+    let born = family(setting, t, b, kids);
+    let best = learn(setting, kids, born, size, known);
+    let test = Test {
+        size: size,
+        base: b.set,
+        limit: limit_of(setting.rules, best.upper),
+    };
+    let alive = survivors(setting, kids, born, w, spot, test);
     Expanded {
-        generated: m,
-        left: left,
-        limit: limit,
+        born: born,
+        alive: alive,
+        test: test,
         best: best,
     }
 }
 
-// The step of b, which stands at i. Nothing is written to the pool before it is known that the step fits.
+// The step of b, which stands at i; kids has a slot for each stop's child, whatever stands there. Nothing is written to the pool before it
+// is known that the step fits.
 pub fn step(
     setting: Setting,
     t: [[u32; PLACES]; PLACES],
@@ -128,28 +133,29 @@ pub fn step(
     i: usize,
     b: Record,
     r: Run,
+    kids: &mut [u32],
 ) -> After
-    requires { ⌜ Ready setting t (now w) i b r ⌝ }
+    requires { ⌜ Ready setting t (now w) i b r × (mostStops ≤ length (records (now kids))) ⌝ }
     ensures { λ q. ⌜ ((s : State Record) → Shown setting (now (w .entry)) r s → Stepping setting t i b (now (w .entry)) (now (w .exit)) s q) ⌝ }
 {
     let known = r.best;
-    let mut kids = [0u32; FAMILY_WORDS];
-    let e = expand(setting, t, w, i, b, r, &mut kids);
+    let e = expand(setting, t, w, i, b, r, kids);
     let best = e.best;
-    let taking = taking_of(setting.rules, e.left);
+    let test = e.test;
+    let taking = taking_of(setting.rules, e.alive);
     let far = holding(setting.rules, r.far);
     let all = all_stay(setting.rules, known.upper, best.upper, taking);
-    let spot = spot_of(w, i, b, r);
+    let spot = spot_of(w, i, r);
     let change = Change {
-        limit: e.limit,
-        left: e.left,
+        test: test,
+        alive: e.alive,
         taking: taking,
         all: all,
     };
-    if !fits(w, spot, change, far, &kids) {
+    if !fits(w, spot, change, far, kids) {
         return After::Full;
     }
-    let active = replace(w, spot, change, &kids);
+    let active = replace(w, spot, change, kids);
     hold(w, spot.capacity, far, b);
-    After::Go(counted(r, best, e.generated, active, far))
+    After::Go(counted(r, best, count(e.born), active, far))
 }

@@ -4,6 +4,7 @@ pub mod Paths
 pub mod Ahead
 pub mod SetBits
 pub mod SetAnd
+pub mod SetJoin
 pub mod SetLoops
 pub mod LegTable
 pub mod RowLaws

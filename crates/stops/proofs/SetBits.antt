@@ -46,7 +46,7 @@ digits (suc k) s m b = go (compared (m % 2) 0) (digits k (suc s) (m / 2) (omega 
     go (inl e) d = rw e (is-clear {m = m} (m / 2) (omega arith) d)
     go (inr e) d = let o : m % 2 ≡ 1 = omega arith in rw o (is-set {m = m} (m / 2) (omega arith) d)
 
-digits-bits : {k s m : ℕ} {xs : List ℕ} → Digits k s m xs → bits k s m ≡ xs
+pub digits-bits : {k s m : ℕ} {xs : List ℕ} → Digits k s m xs → bits k s m ≡ xs
 unfolding bits
 digits-bits (no-digit e) = refl
 digits-bits {m = m} (is-clear h e d) =
@@ -139,7 +139,7 @@ digits-without (is-set {s = s} {m} {xs} h e d) (suc j) r q i =
     go (inl p) = absurd (omega arith)
     go (inr p) = p
 
-digits-small : {k s m : ℕ} {xs : List ℕ} → Digits k s m xs → m < 2 ^ k
+pub digits-small : {k s m : ℕ} {xs : List ℕ} → Digits k s m xs → m < 2 ^ k
 digits-small (no-digit e) = omega arith
 digits-small (is-clear {k} h e d) = omega (arith, digits-small d, pow-suc 2 k)
 digits-small (is-set {k} h e d) = omega (arith, digits-small d, pow-suc 2 k)

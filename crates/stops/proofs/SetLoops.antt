@@ -26,11 +26,13 @@ use Rattle.stops.specs.Bounds.{cheapestInto, remainder}
 use Rattle.stops.specs.Code.{stopsIn, ahead, Within}
 use Rattle.stops.specs.Examples
 use Rattle.stops.proofs.SetBits.{stopsIn-zero, stopsIn-next, stopsIn-without}
+use Rattle.stops.proofs.SetJoin.{stopsIn-ascends}
 
--- r is the first stop of the set m, and the others are those of the set without it, which is smaller
+-- r is the first stop of the set m, and the others, which are behind it, are those of the set without it, which is smaller
 pub record First (m r : ℕ) : Type 0 where
   pub member : In r (stopsIn m)
   pub others : stopsIn m ≡ r ∷ stopsIn (m - 2 ^ (r - 1))
+  pub behind : (s : ℕ) → In s (stopsIn (m - 2 ^ (r - 1))) → r < s
   pub less : m - 2 ^ (r - 1) < m
 
 pub first-out : (m r : ℕ) → 0 < m → m < 2 ^ mostStops → r ≡ trailingZeros 32 m + 1 → First m r
@@ -41,6 +43,7 @@ first-out m r some small e =
     record {
       member = rw split in-head;
       others = split;
+      behind = λ s i. stopsIn-ascends m small r (stopsIn (m - 2 ^ (r - 1))) split s i;
       less = omega (arith, pow-pos (r - 1));
     }
 

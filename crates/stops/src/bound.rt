@@ -1,44 +1,22 @@
-// What a bound adds to the path cost. A set of stops is a word: bit s-1 is stop s's.
+// What a bound adds to the path cost.
 ghost use mathlib.Core.Path.{_≡_};
 ghost use mathlib.Core.List.{_∷_};
-ghost use Prim.Native.Nat.{_+_, _-_, _^_, _≤_, _<_, min};
-ghost use lib.Count.{trailingZeros};
+ghost use Prim.Native.Nat.{_+_, _^_, _≤_, _<_, min};
 ghost use Rattle.sizes.specs.Sizes.{mostStops};
-ghost use Rattle.lists.specs.Lists.{In, least};
+ghost use Rattle.lists.specs.Lists.{least};
 ghost use Rattle.stops.specs.Legs.{rowLeg, legs};
 ghost use Rattle.stops.specs.Bounds.{remainder};
 ghost use Rattle.stops.specs.Code.{stopsIn, reckonOn, Cheap};
 use crate::legs::leg;
+use crate::sets::later;
+use crate::sets::next;
+use crate::sets::without;
 use crate::table::Rows;
 
 fn lesser(a: u32, b: u32) -> u32
     ensures { λ r. ⌜ r ≡ min a b ⌝ }
 {
     if b < a { b } else { a }
-}
-
-// The next stop of a set: its lowest.
-pub fn next(set: u32) -> u32
-    requires { ⌜ (0 < set) × (set < 2 ^ mostStops) ⌝ }
-    ensures { λ r. ⌜ (r ≡ trailingZeros 32 set + 1) × (r ≤ mostStops) ⌝ }
-{
-    u32::trailing_zeros(set) + 1
-}
-
-// The stops of a set behind its next one.
-pub fn later(set: u32) -> u32
-    requires { ⌜ (0 < set) × (set < 2 ^ mostStops) ⌝ }
-    ensures { λ r. ⌜ r ≡ set - 2 ^ trailingZeros 32 set ⌝ }
-{
-    set & (set - 1)
-}
-
-// The set without a stop of it.
-pub fn without(set: u32, stop: u32) -> u32
-    requires { ⌜ (set < 2 ^ mostStops) × In stop (stopsIn set) ⌝ }
-    ensures { λ r. ⌜ r ≡ set - 2 ^ (stop - 1) ⌝ }
-{
-    set - (1u32 << (stop - 1))
 }
 
 // The cheapest leg into s from a place or one of some other stops.

@@ -4,4 +4,5 @@ pub mod bound;
 pub mod cost;
 mod legs;
 pub mod node_record;
+pub mod sets;
 pub mod table;

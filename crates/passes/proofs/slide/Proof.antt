@@ -43,7 +43,8 @@ unfolding always
 loop-again c =
     let before = c .before .before .before .before .before .before .before .loop .inv .1 .1 in
     let x = c .before .before .before .before .load .result in
-    (omega arith, (cc, sifted-passes _ _ _ _ _ _ _ before (omega arith) (omega arith) (omega arith) x (cc) refl _ (cc)))
+    let stored = c .before .before .store .ensures in
+    (omega arith, (cc, sifted-passes _ _ _ _ _ _ _ before (omega arith) (omega arith) (omega arith) x (cc) refl _ stored))
 
 same-length : tie.Need-same-length Inv-loop μ-loop
 same-length c = c .before .loop .inv .1 .0

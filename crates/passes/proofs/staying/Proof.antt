@@ -1,67 +1,70 @@
 -- `staying` meets its contract. The loop's invariant: `count` is how many of the records from `from` to i stay active.
-use mathlib.Core.Path.{_≡_}
+use mathlib.Core.Path.{_≡_, sym, _∙_}
+use mathlib.Core.Bool.{Bool}
 use mathlib.Core.Logic.{⊎-elim}
 use Prim.Native.Nat.{_-_, _≤_}
 use native.Mathlib.Omega.{arith}
-use lib.ListN.{length, take}
+use lib.ListN.{length, getD}
 use lib.Seq.{slice}
 use Rattle.lists.specs.Lists.{keep}
-use Rattle.records.specs.Code.{records}
+use Rattle.stops.specs.Code.{emptyRecord}
+use Rattle.stops.specs.declared.node_record.Record.{Record}
+use Rattle.records.specs.Code.{records, slots}
 use Rattle.passes.specs.Code.{isStaying}
 use Rattle.passes.proofs.StayLaws.{count-none, count-within, count-passes, count-fails}
 use Rattle.passes.proofs.staying.Statement.{statement}
 use Rattle.passes.proofs.staying.Tie as tie
 
 abbrev Inv-loop : tie.InvT-loop
-Inv-loop w from to limit size base kids r count₀ i₀ count i =
-    (from ≤ i) × ((i ≤ to) × (count ≡ length (keep (isStaying limit (take r (records kids))) (slice from i (records w)))))
+Inv-loop w from to test kids alive count₀ i₀ count i =
+    ((from ≤ i) × (i ≤ to)) × (count ≡ length (keep (isStaying (test .limit) (slots alive (records kids))) (slice from i (records w))))
 
 abbrev μ-loop : tie.MeasureT-loop
-μ-loop w from to limit size base kids r count₀ i₀ count i = to - i
+μ-loop w from to test kids alive count₀ i₀ count i = to - i
+
+-- the places before: the entry, seen from the loop's head; and the head, seen from behind `stays`
+abbrev entry : tie.At-loop Inv-loop μ-loop → tie.Start Inv-loop μ-loop
+entry c = c .before .before .before
+
+abbrev head : tie.After-stays Inv-loop μ-loop → tie.At-loop Inv-loop μ-loop
+head c = c .before .before
+
+-- whether a record stays active
+abbrev stay : tie.Start Inv-loop μ-loop → Record → Bool
+stay c = let a = c .args in isStaying (a .test .limit) (slots (a .alive) (records (a .kids .now)))
 
 loop-holds : tie.Need-loop-holds Inv-loop μ-loop
-loop-holds c =
-    let a = c .before .before .args in
-    (omega arith, (omega arith, count-none (isStaying (a .limit) (take (a .r) (records (a .kids .now)))) (a .from) (records (a .w .now))))
-
-load-requires : tie.Need-load-requires Inv-loop μ-loop
-load-requires c κs = omega arith
+loop-holds c = let start = c .before .before in (omega arith, count-none (stay start) (start .args .from) (records (start .args .w .now)))
 
 stays-requires : tie.Need-stays-requires Inv-loop μ-loop
-stays-requires c κs = c .before .before .before .before .before .pre .1 .1
+stays-requires c κs = (omega arith, entry (c .before) .pre .1)
 
 add-count : tie.Need-add-count Inv-loop μ-loop
 add-count c =
-    let a = c .before .before .before .before .before .before .before .args in
-    let i = c .before .before .before .before .loop .i in
-    let test = isStaying (a .limit) (take (a .r) (records (a .kids .now))) in
-    omega (arith, count-within test (a .from) i (records (a .w .now)) (omega arith))
-
-add-i : tie.Need-add-i Inv-loop μ-loop
-add-i c = omega arith
-
-loop-less : tie.Need-loop-less Inv-loop μ-loop
-loop-less c = omega arith
+    let loop = head (c .before) in
+    let start = entry loop in
+    omega (arith, count-within (stay start) (start .args .from) (loop .loop .i) (records (start .args .w .now)) (omega arith))
 
 loop-again : tie.Need-loop-again Inv-loop μ-loop
 loop-again c =
-    let a = c .before .before .before .before .before .before .before .args in
-    let i = c .before .before .before .before .loop .i in
-    let test = isStaying (a .limit) (take (a .r) (records (a .kids .now))) in (
+    let loop = head (c .before) in
+    let start = entry loop in
+    let a = start .args in
+    let i = loop .loop .i in
+    let l = records (a .w .now) in
+    let found : stay start (getD l i emptyRecord) ≡ c .before .stays .result = sym (c .before .stays .ensures) in (
       omega arith,
-      (
-        omega arith,
-        ⊎-elim
-            (λ w. cc (count-passes test (a .from) i (records (a .w .now)) (omega arith) (omega arith) (cc)))
-            (λ w. cc (count-fails test (a .from) i (records (a .w .now)) (omega arith) (omega arith) (cc)))
-            (c .if1 .came),
-      ),
+      ⊎-elim
+          (λ w. omega (arith, w .1, count-passes (stay start) (a .from) i l (omega arith) (omega arith) (found ∙ w .0 .taken)))
+          (λ w. omega (arith, w .1, count-fails (stay start) (a .from) i l (omega arith) (omega arith) (found ∙ w .0 .left)))
+          (c .if1 .came),
     )
 
 returns : tie.Need-returns Inv-loop μ-loop
 returns c =
-    let all : c .before .loop .i ≡ c .before .before .before .before .args .to = omega arith in
-    rw all at (c .before .loop .inv .1 .1)
+    let loop = c .before in
+    let all : loop .loop .i ≡ entry loop .args .to = omega arith in
+    rw all at (loop .loop .inv .1)
 
 pub staying-spec : {M : Type 1} → statement M
 staying-spec =
@@ -70,10 +73,9 @@ staying-spec =
     Inv-loop
     μ-loop
     loop-holds
-    load-requires
     stays-requires
     add-count
-    add-i
-    loop-less
+    (λ c. omega arith)
+    (λ c. omega arith)
     loop-again
     returns)

@@ -1,4 +1,4 @@
--- `suspect` meets its contract.
+-- `suspect` meets its contract: a record whose bound is above the limit is one, and of the others those that are near.
 use native.Mathlib.Omega.{arith}
 use borrow.Author.Needs.{needs}
 use borrow.Author.Tests.{lt-ltb, le-ltb}
@@ -6,13 +6,21 @@ use Rattle.passes.specs.Code.{isSuspect}
 use Rattle.passes.proofs.suspect.Statement.{statement}
 use Rattle.passes.proofs.suspect.Tie as tie
 
+-- the place before: the entry, seen from where the bound is read
+abbrev entry : tie.After-bound-at → tie.Start
+entry c = c .before .before
+
 returns : tie.Need-returns
 unfolding isSuspect
-returns c = let a = c .before .before .args in rw (lt-ltb (a .limit) (a .x .bound) (omega arith))
+returns c =
+    let read = c .before .before in
+    rw (← read .bound-at .ensures, lt-ltb (entry read .args .test .limit) (read .bound-at .result) (omega arith))
 
 returns-2 : tie.Need-returns-2
 unfolding isSuspect
-returns-2 c = let a = c .before .before .before .args in rw (le-ltb (a .limit) (a .x .bound) (omega arith)) (c .near .ensures)
+returns-2 c =
+    let read = c .before .before .before in
+    rw (← read .bound-at .ensures, le-ltb (entry read .args .test .limit) (read .bound-at .result) (omega arith)) (c .near .ensures)
 
 pub suspect-spec : {M : Type 1} → statement M
-suspect-spec = tie.close (tie.spec returns (λ c κs. search needs) returns-2)
+suspect-spec = tie.close (tie.spec (λ c κs. search needs) returns (λ c κs. search needs) returns-2)

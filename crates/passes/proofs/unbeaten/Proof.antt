@@ -1,50 +1,65 @@
--- `unbeaten` meets its contract. The loop's invariant: none of the first k kids dominates x.
-use mathlib.Core.Path.{_≡_, refl}
-use mathlib.Core.Bool.{false}
-use Prim.Native.Nat.{_-_, _≤_}
+-- `unbeaten` meets its contract: of the children only the one whose stop a record has and the base lacks can dominate it. Where the record
+-- has no such stop of `alive` none does; else that child decides.
+use mathlib.Core.Path.{_≡_}
+use Prim.Native.Nat.{ℕ, _-_}
 use native.Mathlib.Omega.{arith}
-use lib.ListN.{take}
-use Rattle.lists.specs.Lists.{any}
-use Rattle.stops.specs.Code.{emptyRecord, recDominates}
-use Rattle.records.specs.Code.{records}
-use Rattle.passes.proofs.StayLaws.{any-found, free-more}
+use borrow.Author.Needs.{needs}
+use lib.Bits.{bitAnd, and-le-r}
+use lib.ListN.{getD}
+use Rattle.stops.specs.Code.{emptyRecord}
+use Rattle.stops.specs.declared.node_record.Record.{Record}
+use Rattle.records.specs.Code.{records, inSlot}
+use Rattle.rivals.proofs.RivalLaws.{near-holds}
+use Rattle.passes.proofs.StayLaws.{beaten-none, beaten-own}
 use Rattle.passes.proofs.unbeaten.Statement.{statement}
 use Rattle.passes.proofs.unbeaten.Tie as tie
 
-abbrev Inv-loop : tie.InvT-loop
-Inv-loop x kids r k₀ k = (k ≤ r) × (any (λ y. recDominates y x) (take k (records kids)) ≡ false)
+-- the places before: the entry, seen from where the record's set is read; and that place, seen from behind `next`
+abbrev entry : tie.After-set-at → tie.Start
+entry c = c .before .before .before
 
-abbrev μ-loop : tie.MeasureT-loop
-μ-loop x kids r k₀ k = r - k
+abbrev read : tie.After-next → tie.After-set-at
+read c = c .before .before .before
 
-loop-holds : tie.Need-loop-holds Inv-loop μ-loop
-loop-holds c = (omega arith, refl)
+-- the record, and the stops of `alive` that it has and the base lacks
+abbrev x : tie.After-set-at → Record
+x c = let a = entry c .args in getD (records (a .w .now)) (a .i) emptyRecord
 
-beats-requires : tie.Need-beats-requires Inv-loop μ-loop
-beats-requires c κs = omega arith
+abbrev own : tie.After-set-at → ℕ
+own c = let a = entry c .args in bitAnd (c .set-at .result - a .test .base) (a .alive)
 
-returns : tie.Need-returns Inv-loop μ-loop
+own-is : (c : tie.After-set-at) → let a = entry c .args in own c ≡ bitAnd (x c .set - a .test .base) (a .alive)
+own-is c = cc
+
+sub-own : tie.Need-sub-own
+sub-own c =
+    let start = entry (c .before) in
+    omega (arith, near-holds (start .args .test) (x (c .before)) (start .pre .0 .1), c .before .set-at .ensures)
+
+returns : tie.Need-returns
 returns c =
-    let a = c .before .before .before .before .before .args in
-    let k = c .before .before .before .loop .k in
-    rw (any-found (λ y. recDominates y (a .x)) emptyRecord (records (a .kids .now)) k (a .r) (omega arith) (omega arith) (cc))
+    let r = c .before .before in
+    rw (beaten-none (entry r .pre .1) (x r) (own r) (own-is r) (omega arith))
 
-add-k : tie.Need-add-k Inv-loop μ-loop
-add-k c = omega arith
+next-requires : tie.Need-next-requires
+next-requires c κs =
+    let r = c .before .before in
+    let start = entry r in
+    let a = start .args in
+    omega (arith, and-le-r (r .set-at .result - a .test .base) (a .alive), start .pre .1 .small)
 
-loop-less : tie.Need-loop-less Inv-loop μ-loop
-loop-less c = omega arith
+beats-requires : tie.Need-beats-requires
+beats-requires c κs = omega (arith, entry (read (c .before)) .pre .1 .room)
 
-loop-again : tie.Need-loop-again Inv-loop μ-loop
-loop-again c =
-    let a = c .before .before .before .before .before .args in
-    let s = c .before .before .before .loop in
-    (omega arith, free-more (λ y. recDominates y (a .x)) (records (a .kids .now)) (s .k) (omega arith) (s .inv .1) (cc))
-
-returns-2 : tie.Need-returns-2 Inv-loop μ-loop
+returns-2 : tie.Need-returns-2
+unfolding inSlot
 returns-2 c =
-    let all : c .before .loop .k ≡ c .before .before .before .args .r = omega arith in
-    rw (← all, c .before .loop .inv .1)
+    let n = c .before .before in
+    let r = read n in
+    let only = beaten-own (entry r .pre .1) (x r) (own r) (own-is r) (omega arith) (n .next .result) (n .next .ensures .0) .1 in
+    cc
 
 pub unbeaten-spec : {M : Type 1} → statement M
-unbeaten-spec = tie.close (tie.spec Inv-loop μ-loop loop-holds beats-requires returns add-k loop-less loop-again returns-2)
+unbeaten-spec =
+    tie.close
+    (tie.spec (λ c κs. search needs) sub-own returns next-requires (λ c κs. omega arith) beats-requires returns-2)

@@ -1,66 +1,76 @@
--- `within` meets its contract. The loop's invariant: the first k records are sifted, and the slice keeps its length.
-use mathlib.Core.Path.{_≡_, refl}
-use Prim.Native.Nat.{_-_, _≤_}
+-- `within` meets its contract. The loop's invariant: `kept` has those of the stops passed whose children have a bound up to the limit
+-- (`Thinning`). The measure is the set of the stops left, as a number.
+use mathlib.Core.Path.{_≡_}
+use mathlib.Core.List.{List}
+use Prim.Native.Nat.{_-_, _^_, _≤_, _<_}
 use native.Mathlib.Omega.{arith}
-use lib.ListN.{length}
 use borrow.Author.Tests.{le-leb, lt-leb}
-use Rattle.records.specs.Code.{records, Sifted}
+use lib.ListN.{length}
+use Rattle.stops.specs.declared.node_record.Record.{Record}
+use Rattle.stops.proofs.SetLoops.{First, first-out, first-later}
+use Rattle.records.specs.Code.{records, inSlot}
+use Rattle.records.proofs.SlotLaws.{slot-inside, Thinning, thinning-starts, thinning-keeps, thinning-drops, thinning-ends}
 use Rattle.passes.specs.Code.{isWithin}
-use Rattle.records.proofs.SiftLaws.{sifted-none, sifted-passes, sifted-fails}
 use Rattle.passes.proofs.within.Statement.{statement}
 use Rattle.passes.proofs.within.Tie as tie
 
 abbrev Inv-loop : tie.InvT-loop
-Inv-loop kids₀ m limit r₀ k₀ kids r k =
-    ((k ≤ m) × (r ≤ k)) × ((length kids ≡ length kids₀) × Sifted (isWithin limit) (records kids₀) 0 k 0 (records kids) r)
+Inv-loop kids alive limit kept₀ left₀ kept left = Thinning (isWithin limit) (records kids) alive kept left
 
 abbrev μ-loop : tie.MeasureT-loop
-μ-loop kids₀ m limit r₀ k₀ kids r k = m - k
+μ-loop kids alive limit kept₀ left₀ kept left = left
 
-loop-holds : tie.Need-loop-holds Inv-loop μ-loop
-loop-holds c = (omega arith, (refl, sifted-none _ _ _ _))
+-- the places before: the entry, seen from the loop's head; the head, seen from behind `next`; that, seen from where the bound is read
+abbrev entry : tie.At-loop Inv-loop μ-loop → tie.Start Inv-loop μ-loop
+entry c = c .before .before
 
-load-requires : tie.Need-load-requires Inv-loop μ-loop
-load-requires c κs = omega arith
+abbrev head : tie.After-next Inv-loop μ-loop → tie.At-loop Inv-loop μ-loop
+head c = c .before .before
 
-add-k : tie.Need-add-k Inv-loop μ-loop
-add-k c = omega arith
+abbrev stepped : tie.After-bound-at Inv-loop μ-loop → tie.After-next Inv-loop μ-loop
+stepped c = c .before .before .before
 
-store-requires : tie.Need-store-requires Inv-loop μ-loop
-store-requires c κs = omega arith
+-- what `next` gives is the first of the stops left
+first : (c : tie.After-next Inv-loop μ-loop) → First (head c .loop .left) (c .next .result)
+first c =
+    let loop = head c .loop in
+    first-out (loop .left) (c .next .result) (omega arith) (loop .inv .small) (c .next .ensures .0)
 
-add-r : tie.Need-add-r Inv-loop μ-loop
-add-r c = omega arith
+-- what `later` gives is the others
+rest-left : (c : tie.After-later Inv-loop μ-loop) → c .later .result ≡ head (c .before) .loop .left - 2 ^ (c .before .next .result - 1)
+rest-left c = first-later _ _ _ (c .before .next .ensures .0) (c .later .ensures)
 
-loop-less : tie.Need-loop-less Inv-loop μ-loop
-loop-less c = omega arith
+-- the children's records
+abbrev kids : tie.After-next Inv-loop μ-loop → List Record
+kids c = records (entry (head c) .args .kids .now)
+
+-- the slot of the stop is inside, and the bound of its child is read
+inside : (c : tie.After-next Inv-loop μ-loop) → (1 ≤ c .next .result) × (c .next .result - 1 < length (kids c))
+inside c =
+    let loop = head c in
+    slot-inside (kids c) (loop .loop .left) (c .next .result) (loop .loop .inv .small) (entry loop .pre .1) (first c .member)
+
+bound-read :
+    (c : tie.After-bound-at Inv-loop μ-loop)
+    → let n = stepped c in c .bound-at .result ≡ inSlot (kids n) (n .next .result) .bound
+unfolding inSlot
+bound-read c = cc
 
 loop-again : tie.Need-loop-again Inv-loop μ-loop
 unfolding isWithin
 loop-again c =
-    let sifted = c .before .before .before .before .before .before .before .before .before .loop .inv .1 .1 in
-    let x = c .before .before .before .before .before .before .load .result in
-    let passes = le-leb _ _ (c .before .before .before .before .if1 .taken) in
-    (omega arith, (cc, sifted-passes _ _ _ _ _ _ _ sifted (omega arith) (omega arith) (omega arith) x (cc) passes _ (cc)))
-
-loop-less-2 : tie.Need-loop-less-2 Inv-loop μ-loop
-loop-less-2 c = omega arith
+    let read = c .before .before in
+    let n = stepped read in
+    let passes = le-leb (read .bound-at .result) (entry (head n) .args .limit) (omega arith) in
+    thinning-keeps (head n .loop .inv) (first n) (rest-left (read .before .before)) (c .with .ensures) (rw (← bound-read read) passes)
 
 loop-again-2 : tie.Need-loop-again-2 Inv-loop μ-loop
 unfolding isWithin
 loop-again-2 c =
-    let sifted = c .before .before .before .before .before .loop .inv .1 .1 in
-    let x = c .before .before .load .result in
-    let fails = lt-leb _ _ (c .if1 .left) in
-    (omega arith, (cc, sifted-fails _ _ _ _ _ _ _ sifted (omega arith) (omega arith) (omega arith) x (cc) fails))
-
-same-length : tie.Need-same-length Inv-loop μ-loop
-same-length c = c .before .loop .inv .1 .0
-
-returns : tie.Need-returns Inv-loop μ-loop
-returns c =
-    let all : c .before .loop .k ≡ c .before .before .before .args .m = omega arith in
-    rw all at (c .before .loop .inv .1 .1)
+    let read = c .before in
+    let n = stepped read in
+    let fails = lt-leb (read .bound-at .result) (entry (head n) .args .limit) (omega arith) in
+    thinning-drops (head n .loop .inv) (first n) (rest-left (read .before .before)) (rw (← bound-read read) fails)
 
 pub within-spec : {M : Type 1} → statement M
 within-spec =
@@ -68,14 +78,14 @@ within-spec =
     (tie.spec
     Inv-loop
     μ-loop
-    loop-holds
-    load-requires
-    add-k
-    store-requires
-    add-r
-    loop-less
+    (λ c. thinning-starts _ _ _ (c .before .pre .0))
+    (λ c κs. let h = c .before .loop .inv .small in omega arith)
+    (λ c κs. let h = head c .loop .inv .small in omega arith)
+    (λ c κs. omega arith)
+    (λ c κs. omega (arith, inside (c .before .before)))
+    (λ c κs. let h = head (stepped (c .before)) .loop .inv .kept-small in omega arith)
+    (λ c. let read = c .before .before in omega (arith, first (stepped read) .less, rest-left (read .before .before)))
     loop-again
-    loop-less-2
+    (λ c. let read = c .before in omega (arith, first (stepped read) .less, rest-left (read .before .before)))
     loop-again-2
-    same-length
-    returns)
+    (λ c. thinning-ends (c .before .loop .inv) (c .loop-test .left)))

@@ -34,20 +34,20 @@ write-at-requires c κs =
     let out = c .before .before .before in
     let g = gathered out in
     let p = entry (chosen out) .pre in
-    (omega (arith, g .count, g .same-length, p .1), p .0 .some)
+    ((p .0 .small, p .0 .takes .room), omega (arith, g .count, g .same-length, p .1))
 
 add-result : tie.Need-add-result
 add-result c =
-    let out = taken (c .before .before .before) in
+    let out = taken (c .before .before) in
     let start = entry (chosen out) in
-    omega (arith, gathered out .count, start .pre .1, length-records (start .args .w .now))
+    omega (arith, gathered out .count, start .pre .1, c .before .before .write-at .ensures .0, length-records (start .args .w .now))
 
 returns : tie.Need-returns
 returns c =
-    let written = c .before .before .before in
+    let written = c .before .before in
     let out = taken written in
     let start = entry (chosen out) in
-    gathered-written (start .pre .0) _ _ _ (gathered out) (start .pre .1) (written .write-at .ensures)
+    gathered-written _ _ _ _ (gathered out) (start .pre .1) (written .write-at .ensures .0) (written .write-at .ensures .1)
 
 pub replace-spec : {M : Type 1} → statement M
 replace-spec =

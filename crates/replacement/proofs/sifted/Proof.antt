@@ -1,8 +1,7 @@
 -- `sifted` meets its contract: two sifts gather the records that stay, and the kids are written behind them.
 use native.Mathlib.Omega.{arith}
-use lib.ListN.{take}
 use borrow.Author.Needs.{needs}
-use Rattle.records.specs.Code.{records}
+use Rattle.records.specs.Code.{records, slots}
 use Rattle.passes.specs.Code.{isStaying}
 use Rattle.records.proofs.ViewLaws.{length-records}
 use Rattle.passes.proofs.StayLaws.{count-within}
@@ -13,7 +12,7 @@ use Rattle.replacement.proofs.sifted.Tie as tie
 
 -- the places before: the entry, seen from behind the first sift; that sift, seen from the second; and both, seen from behind the writing
 abbrev entry : tie.After-sift → tie.Start
-entry c = c .before .before .before .before
+entry c = c .before .before .before .before .before
 
 abbrev first : tie.After-struct-known → tie.After-sift
 first c = c .before .before .before .before
@@ -32,19 +31,19 @@ gathered c =
 
 sift-requires : tie.Need-sift-requires
 sift-requires c κs =
-    let s = c .before .before .before .pre .0 .spotted in
-    (omega arith, (omega arith, (omega (arith, s .inside, s .front), (s .few, s .near))))
+    let p = c .before .before .before .before .pre .0 in
+    (omega arith, ((omega arith, omega (arith, p .spotted .inside, p .spotted .front)), p .takes))
 
 sift-requires-2 : tie.Need-sift-requires-2
 sift-requires-2 c κs =
     let start = entry (first c) in
     let a = start .args in
     let s = start .pre .0 .spotted in
-    let stays = isStaying (a .change .limit) (take (a .change .taking) (records (a .kids .now))) in
+    let stays = isStaying (a .change .test .limit) (slots (a .change .taking) (records (a .kids .now))) in
     let few = count-within stays 0 (a .spot .at) (records (a .w .now)) (omega (arith, s .inside, s .front)) in
     let sifted = first c .sift .ensures in (
       omega (arith, sifted .count, few),
-      (omega (arith, s .inside), (omega (arith, sifted .same-length, s .front), (s .few, s .near))),
+      ((omega (arith, s .inside), omega (arith, sifted .same-length, s .front)), start .pre .0 .takes),
     )
 
 write-at-requires : tie.Need-write-at-requires
@@ -52,20 +51,20 @@ write-at-requires c κs =
     let sift = c .before .before .before in
     let g = gathered sift in
     let p = entry (first (sift .before)) .pre in
-    (omega (arith, g .count, g .same-length, p .1), p .0 .some)
+    ((p .0 .small, p .0 .takes .room), omega (arith, g .count, g .same-length, p .1))
 
 add-result : tie.Need-add-result
 add-result c =
-    let sift = second (c .before .before .before) in
+    let sift = second (c .before .before) in
     let start = entry (first (sift .before)) in
-    omega (arith, gathered sift .count, start .pre .1, length-records (start .args .w .now))
+    omega (arith, gathered sift .count, start .pre .1, c .before .before .write-at .ensures .0, length-records (start .args .w .now))
 
 returns : tie.Need-returns
 returns c =
-    let written = c .before .before .before in
+    let written = c .before .before in
     let sift = second written in
     let start = entry (first (sift .before)) in
-    gathered-written (start .pre .0) _ _ _ (gathered sift) (start .pre .1) (written .write-at .ensures)
+    gathered-written _ _ _ _ (gathered sift) (start .pre .1) (written .write-at .ensures .0) (written .write-at .ensures .1)
 
 pub sifted-spec : {M : Type 1} → statement M
 sifted-spec =

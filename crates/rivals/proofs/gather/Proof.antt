@@ -1,5 +1,4 @@
--- `gather` meets its contract. The loop's invariant is `Gathering` up to i, with room for one more, and the record at i is near. Assumes
--- nothing.
+-- `gather` meets its contract. The loop's invariant is `Gathering` up to i, with room for one more, and the record at i is near.
 use mathlib.Core.Path.{_≡_, refl}
 use mathlib.Core.Bool.{true}
 use Prim.Native.Nat.{_+_, _-_, _≤_, _<_}
@@ -15,14 +14,14 @@ use Rattle.rivals.proofs.gather.Statement.{statement}
 use Rattle.rivals.proofs.gather.Tie as tie
 
 abbrev Inv-loop : tie.InvT-loop
-Inv-loop w from to size base buffer₀ room count₀ i₀ buffer count i =
+Inv-loop w from to test buffer₀ room count₀ i₀ buffer count i =
     ((from ≤ i) × ((i ≤ to) × (count < room)))
     × ((length buffer ≡ length buffer₀)
-    × (Gathering (near size base) (records w) from i (records buffer) count
-    × (i < to → near size base (getD (records w) i emptyRecord) ≡ true)))
+    × (Gathering (near test) (records w) from i (records buffer) count
+    × (i < to → near test (getD (records w) i emptyRecord) ≡ true)))
 
 abbrev μ-loop : tie.MeasureT-loop
-μ-loop w from to size base buffer₀ room count₀ i₀ buffer count i = to - i
+μ-loop w from to test buffer₀ room count₀ i₀ buffer count i = to - i
 
 next-near-requires : tie.Need-next-near-requires Inv-loop μ-loop
 next-near-requires c κs = search needs
@@ -31,7 +30,7 @@ loop-holds : tie.Need-loop-holds Inv-loop μ-loop
 loop-holds c =
     let a = c .before .before .before .args in
     let run = c .next-near .ensures in
-    let none = gathered-none (near (a .size) (a .base)) (records (a .w .now)) (a .from) (records (a .buffer .now)) in (
+    let none = gathered-none (near (a .test)) (records (a .w .now)) (a .from) (records (a .buffer .now)) in (
       omega (arith, run .from-there, run .up-to),
       (
         refl,
@@ -50,20 +49,17 @@ store-requires c κs =
 add-count : tie.Need-add-count Inv-loop μ-loop
 add-count c = omega arith
 
-add-t15 : tie.Need-add-t15 Inv-loop μ-loop
-add-t15 c = omega arith
-
 -- one record more, which was stored
 more :
     (c : tie.After-store Inv-loop μ-loop) →
     let a = c .before .before .before .before .before .before .before .before .args in
     let loop = c .before .before .before .before .loop in
-    Gathering (near (a .size) (a .base)) (records (a .w .now)) (a .from) (loop .i + 1) (records (c .store .last .0)) (loop .count + 1)
+    Gathering (near (a .test)) (records (a .w .now)) (a .from) (loop .i + 1) (records (c .store .last .0)) (loop .count + 1)
 more c =
     let a = c .before .before .before .before .before .before .before .before .args in
     let loop = c .before .before .before .before .loop in
     let x = c .before .load .result in
-    let passes : near (a .size) (a .base) x ≡ true = rw (c .before .load .ensures) (loop .inv .1 .1 .1 (omega arith)) in
+    let passes : near (a .test) x ≡ true = rw (c .before .load .ensures) (loop .inv .1 .1 .1 (omega arith)) in
     let free : loop .count < length (records (loop .buffer)) =
     omega (arith, length-records (loop .buffer), length-records (a .buffer .now)) in
     gathered-passes _ _ _ _ _ _ (loop .inv .1 .1 .0) (omega arith) (omega arith) x (cc) passes free _ (cc)
@@ -110,7 +106,7 @@ gather-spec =
     load-requires
     store-requires
     add-count
-    add-t15
+    (λ c. omega arith)
     same-length
     returns
     add-next-near

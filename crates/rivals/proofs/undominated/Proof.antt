@@ -1,21 +1,22 @@
--- `undominated` meets its contract. The inner loop's invariant: no record of w passed so far is a rival of x. The outer one's: the first
--- k kids are sifted, and the slice keeps its length. A rival at i decides that x is left out, so `continue` leaves no more to show than
--- that.
-use mathlib.Core.Path.{_≡_, refl, _∙_}
+-- `undominated` meets its contract. The inner loop's invariant: no record of w passed so far is a rival of the child in slot k. The outer
+-- one's: `kept` has the stops passed whose children have no rival (`Thinning`). A rival at i decides that its child is left out, so `continue`
+-- leaves no more to show than that.
+use mathlib.Core.Path.{_≡_, ap, _∙_}
 use mathlib.Core.Bool.{Bool, true, false, _&&_}
 use mathlib.Core.List.{List}
-use Prim.Native.Nat.{ℕ, _+_, _-_, _≤_, _<_}
+use Prim.Native.Nat.{ℕ, _+_, _-_, _^_, _≤_, _<_}
 use native.Mathlib.Omega.{arith}
 use lib.Dec.{leb}
-use lib.ListN.{length, getD}
+use lib.ListN.{length, getD, take}
 use lib.Seq.{slice}
 use Rattle.lists.specs.Lists.{any}
 use Rattle.lists.proofs.Slices.{any-slice-none, any-slice-more, any-slice-found}
 use Rattle.stops.specs.Code.{emptyRecord, recDominates}
 use Rattle.stops.specs.declared.node_record.Record.{Record}
-use Rattle.records.specs.Code.{records, Sifted}
+use Rattle.stops.proofs.SetLoops.{First, first-out, first-later}
+use Rattle.records.specs.Code.{records, inSlot}
+use Rattle.records.proofs.SlotLaws.{slot-inside, Thinning, thinning-starts, thinning-keeps, thinning-drops, thinning-ends}
 use Rattle.rivals.specs.Code.{isFree}
-use Rattle.records.proofs.SiftLaws.{sifted-none, sifted-passes, sifted-fails}
 use Rattle.rivals.proofs.undominated.Statement.{statement}
 use Rattle.rivals.proofs.undominated.Tie as tie
 
@@ -23,104 +24,100 @@ use Rattle.rivals.proofs.undominated.Tie as tie
 abbrev isRival : ℕ → Record → Record → Bool
 isRival limit x y = leb (y .bound) limit && recDominates y x
 
-module _ (limit : ℕ) (x : Record) (l : List Record) (from : ℕ) where
-  -- none of the records of l from `from` to `to` is a rival of x
+module _ (limit : ℕ) (x : Record) (l : List Record) where
+  -- none of the first `to` records of l is a rival of x
   record Unrivalled (to : ℕ) : Type 0 where
-    pub none : any (isRival limit x) (slice from to l) ≡ false
+    pub none : any (isRival limit x) (slice 0 to l) ≡ false
 
-  unrivalled-none : Unrivalled from
-  unrivalled-none = record { none = any-slice-none (isRival limit x) from l }
+  unrivalled-none : Unrivalled 0
+  unrivalled-none = record { none = any-slice-none (isRival limit x) 0 l }
 
-  unrivalled-more : (i : ℕ) → from ≤ i → i < length l → Unrivalled i → isRival limit x (getD l i emptyRecord) ≡ false → Unrivalled (i + 1)
-  unrivalled-more i ordered inside so-far fails =
-      record { none = any-slice-more (isRival limit x) emptyRecord from i l ordered inside ∙ rw (so-far .none, fails) }
+  unrivalled-more : (i : ℕ) → i < length l → Unrivalled i → isRival limit x (getD l i emptyRecord) ≡ false → Unrivalled (i + 1)
+  unrivalled-more i inside so-far fails =
+      record { none = any-slice-more (isRival limit x) emptyRecord 0 i l (omega arith) inside ∙ rw (so-far .none, fails) }
 
-  unrivalled-free : (i to : ℕ) → Unrivalled i → i ≡ to → isFree limit (slice from to l) x ≡ true
+  unrivalled-free : (i to : ℕ) → Unrivalled i → i ≡ to → isFree limit (take to l) x ≡ true
   unfolding isFree
   unrivalled-free i to so-far all = rw (← all, so-far .none)
 
-  rivalled :
-      (to i : ℕ) → from ≤ i → i < to → to ≤ length l → isRival limit x (getD l i emptyRecord) ≡ true
-      → isFree limit (slice from to l) x ≡ false
+  rivalled : (to i : ℕ) → i < to → to ≤ length l → isRival limit x (getD l i emptyRecord) ≡ true → isFree limit (take to l) x ≡ false
   unfolding isFree
-  rivalled to i ordered below inside passes = rw (any-slice-found (isRival limit x) emptyRecord from to i l ordered below inside passes)
+  rivalled to i below inside passes = rw (any-slice-found (isRival limit x) emptyRecord 0 to i l (omega arith) below inside passes)
 
 abbrev Inv-loop : tie.InvT-loop
-Inv-loop kids m w from to limit r k x i₀ i = ((from ≤ i) × (i ≤ to)) × Unrivalled limit x (records w) from i
+Inv-loop kids alive w count limit kept left s k i₀ i = (i ≤ count) × Unrivalled limit (getD (records kids) k emptyRecord) (records w) i
 
 abbrev μ-loop : tie.MeasureT-loop
-μ-loop kids m w from to limit r k x i₀ i = to - i
+μ-loop kids alive w count limit kept left s k i₀ i = count - i
 
 abbrev Inv-child : tie.InvT-child
-Inv-child kids₀ m w from to limit r₀ k₀ kids r k =
-    ((k ≤ m) × (r ≤ k))
-    × ((length kids ≡ length kids₀) × Sifted (isFree limit (slice from to (records w))) (records kids₀) 0 k 0 (records kids) r)
+Inv-child kids alive w count limit kept₀ left₀ kept left = Thinning (isFree limit (take count (records w))) (records kids) alive kept left
 
 abbrev μ-child : tie.MeasureT-child
-μ-child kids₀ m w from to limit r₀ k₀ kids r k = m - k
+μ-child kids alive w count limit kept₀ left₀ kept left = left
 
-child-holds : tie.Need-child-holds Inv-loop μ-loop Inv-child μ-child
-child-holds c = (omega arith, (refl, sifted-none _ _ _ _))
+-- the places before: the entry, seen from the head of the outer loop; that, seen from behind `next`; and the child's slot, seen from the
+-- head of the inner loop
+abbrev entry : tie.At-child Inv-loop μ-loop Inv-child μ-child → tie.Start Inv-loop μ-loop Inv-child μ-child
+entry c = c .before .before .before
 
-load-requires : tie.Need-load-requires Inv-loop μ-loop Inv-child μ-child
-load-requires c κs = omega arith
+abbrev head : tie.After-next Inv-loop μ-loop Inv-child μ-child → tie.At-child Inv-loop μ-loop Inv-child μ-child
+head c = c .before .before
 
-add-k : tie.Need-add-k Inv-loop μ-loop Inv-child μ-child
-add-k c = omega arith
+abbrev slotted : tie.At-loop Inv-loop μ-loop Inv-child μ-child → tie.After-slot Inv-loop μ-loop Inv-child μ-child
+slotted c = c .before
+
+-- what `next` gives is the first of the stops left, and what `later` gives is the others
+first : (c : tie.After-next Inv-loop μ-loop Inv-child μ-child) → First (head c .child .left) (c .next .result)
+first c = first-out _ _ (omega arith) (head c .child .inv .small) (c .next .ensures .0)
+
+others : (c : tie.After-later Inv-loop μ-loop Inv-child μ-child) → c .later .result ≡ head (c .before) .child .left - 2 ^ (c .before .next .result - 1)
+others c = first-later _ _ _ (c .before .next .ensures .0) (c .later .ensures)
+
+-- the child stands in its stop's slot, which is inside
+child :
+    (c : tie.After-slot Inv-loop μ-loop Inv-child μ-child)
+    → let kids = records (entry (head (c .before .before)) .args .kids .now) in
+    (getD kids (c .slot .result) emptyRecord ≡ inSlot kids (c .before .before .next .result)) × (c .slot .result < length kids)
+unfolding inSlot
+child c =
+    let n = c .before .before in
+    let start = entry (head n) in
+    let kids = records (start .args .kids .now) in
+    let inside = slot-inside kids _ _ (start .pre .0 .0) (start .pre .0 .1) (head n .child .inv .among _ (first n .member)) in
+    (ap (λ (j : ℕ). getD kids j emptyRecord) (c .slot .ensures), omega (arith, c .slot .ensures))
+
+-- whether it is left, by what the inner loop found
+free :
+    (c : tie.After-slot Inv-loop μ-loop Inv-child μ-child) (b : Bool)
+    → let a = entry (head (c .before .before)) .args in
+    isFree (a .limit) (take (a .count) (records (a .w .now))) (getD (records (a .kids .now)) (c .slot .result) emptyRecord) ≡ b
+    → isFree (a .limit) (take (a .count) (records (a .w .now))) (inSlot (records (a .kids .now)) (c .before .before .next .result)) ≡ b
+free c b e = rw (← child c .0) e
 
 loop-holds : tie.Need-loop-holds Inv-loop μ-loop Inv-child μ-child
-loop-holds c = (omega arith, unrivalled-none _ _ _ _)
-
-rival-requires : tie.Need-rival-requires Inv-loop μ-loop Inv-child μ-child
-rival-requires c κs = omega arith
-
-child-less : tie.Need-child-less Inv-loop μ-loop Inv-child μ-child
-child-less c = omega arith
+loop-holds c = (omega arith, unrivalled-none _ _ _)
 
 child-again : tie.Need-child-again Inv-loop μ-loop Inv-child μ-child
 child-again c =
-    let args = c .before .before .before .before .before .before .before .before .before .before .args in
-    let sifted = c .before .before .before .before .before .before .before .child .inv .1 .1 in
-    let x = c .before .before .before .before .load .result in
+    let s = slotted (c .before .before .before) in
+    let l = s .before in
+    let a = entry (head (l .before)) .args in
     let i = c .before .before .before .loop .i in
-    let l = records (args .w .now) in
-    let fails = rivalled (args .limit) x l (args .from) (args .to) i (omega arith) (omega arith) (omega arith) (cc) in
-    (omega arith, (cc, sifted-fails _ _ _ _ _ _ _ sifted (omega arith) (omega arith) (omega arith) x (cc) fails))
-
-add-i : tie.Need-add-i Inv-loop μ-loop Inv-child μ-child
-add-i c = omega arith
-
-loop-less : tie.Need-loop-less Inv-loop μ-loop Inv-child μ-child
-loop-less c = omega arith
+    let x = getD (records (a .kids .now)) (s .slot .result) emptyRecord in
+    let fails = rivalled (a .limit) x (records (a .w .now)) (a .count) i (omega arith) (omega arith) (cc) in
+    thinning-drops (head (l .before) .child .inv) (first (l .before)) (others l) (free s false fails)
 
 loop-again : tie.Need-loop-again Inv-loop μ-loop Inv-child μ-child
-loop-again c =
-    (omega arith, unrivalled-more _ _ _ _ _ (omega arith) (omega arith) (c .before .before .before .loop .inv .1) (cc))
-
-store-requires : tie.Need-store-requires Inv-loop μ-loop Inv-child μ-child
-store-requires c κs = omega arith
-
-add-r : tie.Need-add-r Inv-loop μ-loop Inv-child μ-child
-add-r c = omega arith
-
-child-less-2 : tie.Need-child-less-2 Inv-loop μ-loop Inv-child μ-child
-child-less-2 c = omega arith
+loop-again c = (omega arith, unrivalled-more _ _ _ _ (omega arith) (c .before .before .before .loop .inv .1) (cc))
 
 child-again-2 : tie.Need-child-again-2 Inv-loop μ-loop Inv-child μ-child
 child-again-2 c =
-    let sifted = c .before .before .before .before .before .before .before .before .before .child .inv .1 .1 in
-    let x = c .before .before .before .before .before .before .load .result in
-    let to = c .before .before .before .before .before .before .before .before .before .before .before .before .args .to in
-    let passes = unrivalled-free _ _ _ _ _ to (c .before .before .before .before .before .loop .inv .1) (omega arith) in
-    (omega arith, (cc, sifted-passes _ _ _ _ _ _ _ sifted (omega arith) (omega arith) (omega arith) x (cc) passes _ (cc)))
-
-same-length : tie.Need-same-length Inv-loop μ-loop Inv-child μ-child
-same-length c = c .before .child .inv .1 .0
-
-returns : tie.Need-returns Inv-loop μ-loop Inv-child μ-child
-returns c =
-    let all : c .before .child .k ≡ c .before .before .before .before .args .m = omega arith in
-    rw all at (c .before .child .inv .1 .1)
+    let loop = c .before .before in
+    let s = slotted loop in
+    let l = s .before in
+    let passes = unrivalled-free _ _ _ _ (entry (head (l .before)) .args .count) (loop .loop .inv .1) (omega arith) in
+    thinning-keeps (head (l .before) .child .inv) (first (l .before)) (others l) (c .with .ensures) (free s true passes)
 
 pub undominated-spec : {M : Type 1} → statement M
 undominated-spec =
@@ -130,19 +127,18 @@ undominated-spec =
     μ-loop
     Inv-child
     μ-child
-    child-holds
-    load-requires
-    add-k
+    (λ c. thinning-starts _ _ _ (c .before .before .pre .0 .0))
+    (λ c κs. (omega arith, c .before .child .inv .small))
+    (λ c κs. (omega arith, head c .child .inv .small))
+    (λ c κs. omega (arith, c .before .next .ensures))
     loop-holds
-    rival-requires
-    child-less
+    (λ c κs. (omega arith, child (slotted (c .before)) .1))
+    (λ c. let l = slotted (c .before .before .before) .before in omega (arith, first (l .before) .less, others l))
     child-again
-    add-i
-    loop-less
+    (λ c. omega arith)
+    (λ c. omega arith)
     loop-again
-    store-requires
-    add-r
-    child-less-2
+    (λ c κs. let n = slotted (c .before) .before .before in omega (arith, head n .child .inv .kept-small, n .next .ensures))
+    (λ c. let l = slotted (c .before .before) .before in omega (arith, first (l .before) .less, others l))
     child-again-2
-    same-length
-    returns)
+    (λ c. thinning-ends (c .before .child .inv) (c .child-test .left)))

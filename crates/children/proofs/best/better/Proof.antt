@@ -1,21 +1,25 @@
--- `better` meets its contract: a record that is not complete, or not cheaper than U, changes nothing; another one replaces U and its
+-- `better` meets its contract: a child that is not cheaper than U changes nothing; another one, which is complete, replaces U and its
 -- order.
-use mathlib.Core.Logic.{inl, inr}
+use borrow.Author.Needs.{needs}
+use lib.ListN.{getD}
+use Rattle.stops.specs.Code.{emptyRecord}
+use Rattle.records.specs.Code.{records}
 use Rattle.children.proofs.BestLaws.{learn-keeps, learn-replaces}
 use Rattle.children.proofs.best.better.Statement.{statement}
 use Rattle.children.proofs.best.better.Tie as tie
 
-returns-2 : tie.Need-returns-2
-returns-2 c =
-    let e = c .before .before .before in
-    let a = e .before .before .before .args in
-    learn-keeps (a .setting) (a .best) (a .x) (inr (c .if2 .taken))
+returns : tie.Need-returns
+returns c d t o e =
+    let a = c .before .before .before .before .args in
+    let x = getD (records (a .kids .now)) (a .k) emptyRecord in
+    learn-keeps d (a .best) x (rw (← c .before .before .bound-at .ensures) (c .if1 .taken)) t o
 
-returns-3 : tie.Need-returns-3
-returns-3 c =
-    let e = c .before .before .before in
-    let a = e .before .before .before .args in
-    learn-replaces (a .setting) (a .best) (a .x) (e .if1 .left) (c .if2 .left)
+returns-2 : tie.Need-returns-2
+returns-2 c d t o e =
+    let l = c .before in
+    let a = l .before .before .before .before .args in
+    let x = getD (records (a .kids .now)) (a .k) emptyRecord in
+    rw (c .load .ensures) (learn-replaces d (a .best) x e (rw (← l .before .before .bound-at .ensures) (l .if1 .left)) t o)
 
 pub better-spec : {M : Type 1} → statement M
-better-spec = tie.close (tie.spec (λ c. let a = c .before .before .before .args in learn-keeps (a .setting) (a .best) (a .x) (inl (c .if1 .taken))) returns-2 returns-3)
+better-spec = tie.close (tie.spec (λ c κs. search needs) returns (λ c κs. search needs) returns-2)

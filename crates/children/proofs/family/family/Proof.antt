@@ -1,6 +1,5 @@
--- `family::family` meets its contract. The loop's invariant: `rest` is the set of the stops that b leaves, the slice keeps its
--- length, and the first m records are the children by the stops passed (`Written`). The measure is the set of the stops left, as a
--- number.
+-- `family::family` meets its contract. The loop's invariant: `rest` is the set of the stops that b leaves, the slice keeps its length, and
+-- the children by the stops passed stand in their slots (`Placed`). The measure is the set of the stops left, as a number.
 use mathlib.Core.Path.{_≡_, refl, _∙_}
 use Prim.Native.Nat.{_+_, _-_, _*_, _^_, _%_, _≤_, _<_}
 use native.Mathlib.Omega.{arith}
@@ -10,19 +9,21 @@ use Rattle.sizes.specs.Sizes.{mostStops}
 use Rattle.stops.proofs.SetLoops.{First, first-out, first-later}
 use Rattle.records.specs.Code.{records}
 use Rattle.records.proofs.Mask.{rest-small}
-use Rattle.children.specs.Code.{restOf, childOf, childrenOf}
-use Rattle.children.proofs.FamilyLaws.{rest-sum, Written, written-starts, written-room, written-again, written-ends}
+use Rattle.records.proofs.SlotLaws.{slot-inside}
+use Rattle.children.specs.Code.{restOf, childOf}
+use Rattle.children.proofs.FamilyLaws.{rest-sum, Placed, placed-starts, placed-again, placed-ends}
 use Rattle.children.proofs.family.family.Statement.{statement}
 use Rattle.children.proofs.family.family.Tie as tie
 
 abbrev Inv-loop : tie.InvT-loop
-Inv-loop setting b kids₀ t place rest m₀ left₀ kids m left =
-    (rest ≡ restOf setting b) × (length kids ≡ length kids₀) × Written (childOf setting t b) (restOf setting b) (records kids) m left
+Inv-loop setting b kids₀ t place rest left₀ kids left =
+    (rest ≡ restOf setting b) × (length kids ≡ length kids₀) × Placed (childOf setting t b) (restOf setting b) (records kids) left
 
 abbrev μ-loop : tie.MeasureT-loop
-μ-loop setting b kids₀ t place rest m₀ left₀ kids m left = left
+μ-loop setting b kids₀ t place rest left₀ kids left = left
 
--- the places before: the entry, seen from behind `last`; the call of `last`, seen from the loop's head; the loop's head, seen from behind `next`
+-- the places before: the entry, seen from behind `last`; the call of `last`, seen from the loop's head; the loop's head, seen from behind
+-- `next`
 abbrev entry : tie.After-last Inv-loop μ-loop → tie.Start Inv-loop μ-loop
 entry c = c .before .before
 
@@ -32,9 +33,9 @@ placed c = c .before .before .before
 abbrev head : tie.After-next Inv-loop μ-loop → tie.At-loop Inv-loop μ-loop
 head c = c .before .before
 
--- and the call of `next`, seen from behind that of `child`
-abbrev stepped : tie.After-child Inv-loop μ-loop → tie.After-next Inv-loop μ-loop
-stepped c = c .before .before .before .before
+-- and the call of `next`, seen from behind that of `slot`
+abbrev stepped : tie.After-slot Inv-loop μ-loop → tie.After-next Inv-loop μ-loop
+stepped c = c .before .before .before
 
 -- 2 to the power n is small, and b's set is below it
 sums :
@@ -50,7 +51,7 @@ loop-holds c =
     let a = entry last .args in
     let p = entry last .pre in
     let e : 1 * 2 ^ a .setting .n % 2 ^ 32 - 1 - a .b .set ≡ restOf (a .setting) (a .b) = omega (arith, sums last) in
-    (e, refl, written-starts e (rest-small (a .setting .n) (p .0 .few) (a .b .set)) (p .1 .1))
+    (e, refl, placed-starts e (rest-small (a .setting .n) (p .0 .few) (a .b .set)) (p .1 .1))
 
 -- what `next` gives is the first of the stops left
 first : (c : tie.After-next Inv-loop μ-loop) → First (head c .loop .left) (c .next .result)
@@ -62,15 +63,16 @@ first c =
 rest-left : (c : tie.After-later Inv-loop μ-loop) → c .later .result ≡ head (c .before) .loop .left - 2 ^ (c .before .next .result - 1)
 rest-left c = first-later _ _ _ (c .before .next .ensures .0) (c .later .ensures)
 
--- the slice has room for one record more
-room :
-    (c : tie.After-next Inv-loop μ-loop)
-    → let l = head c .loop in (l .m < mostStops) × (mostStops ≤ length (records (l .kids)))
-room c = written-room (head c .loop .inv .2) (first c)
+-- the stop's slot is one of the slice's
+inside :
+    (c : tie.After-next Inv-loop μ-loop) → let s = c .next .result in (1 ≤ s) × (s - 1 < length (records (head c .loop .kids)))
+inside c =
+    let l = head c .loop in
+    slot-inside (records (l .kids)) _ _ (l .inv .2 .small) (l .inv .2 .room) (first c .member)
 
 child-requires : tie.Need-child-requires Inv-loop μ-loop
 child-requires c κs =
-    let n = c .before .before .before in
+    let n = stepped (c .before) in
     let l = head n in
     let p = entry (placed l) .pre in
     record {
@@ -83,22 +85,25 @@ child-requires c κs =
 
 loop-less : tie.Need-loop-less Inv-loop μ-loop
 loop-less c =
-    let born = c .before .before .before in
-    omega (arith, first (stepped born) .less, rest-left (born .before .before .before))
+    let slot = c .before .before .before .before .before in
+    omega (arith, first (stepped slot) .less, rest-left (slot .before .before))
 
 loop-again : tie.Need-loop-again Inv-loop μ-loop
 loop-again c =
     let s = c .before .before in
-    let n = stepped (s .before) in
+    let slot = s .before .before .before in
+    let n = stepped slot in
     let l = head n .loop in (
       l .inv .0,
       s .store .kept .0 ∙ l .inv .1,
-      written-again (l .inv .2) (first n) (rest-left (s .before .before .before .before)) (s .before .child .ensures) (s .store .ensures),
+      placed-again (l .inv .2) (first n) (rest-left (slot .before .before)) (s .before .child .ensures)
+          (rw (slot .slot .ensures) at (s .store .ensures)),
     )
 
 returns : tie.Need-returns Inv-loop μ-loop
-unfolding childrenOf
-returns c = written-ends (c .before .loop .inv .2) (c .loop-test .left)
+returns c =
+    let l = c .before .loop in
+    record { stops = l .inv .0; each = rw (l .inv .0) (placed-ends (l .inv .2) (c .loop-test .left)); room = l .inv .2 .room }
 
 pub family-spec : {M : Type 1} → statement M
 family-spec =
@@ -113,9 +118,9 @@ family-spec =
     loop-holds
     (λ c κs. let h = c .before .loop .inv .2 .small in omega arith)
     (λ c κs. let h = head c .loop .inv .2 .small in omega arith)
+    (λ c κs. inside (c .before .before) .0)
     child-requires
-    (λ c κs. omega (arith, room (stepped c)))
-    (λ c. omega (arith, room (stepped (c .before .before .before))))
+    (λ c κs. let slot = c .before .before in rw (slot .slot .ensures) (inside (stepped slot) .1))
     loop-less
     loop-again
     (λ c. c .before .loop .inv .1)

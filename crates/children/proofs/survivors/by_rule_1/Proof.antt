@@ -2,20 +2,17 @@
 use mathlib.Core.Path.{sym, _∙_}
 use borrow.Author.Needs.{needs}
 use Rattle.passes.specs.Code.{isWithin}
-use Rattle.children.proofs.SurvivorLaws.{sifted-on, sifted-off}
+use Rattle.children.proofs.SurvivorLaws.{thinned-on, thinned-off}
 use Rattle.children.proofs.survivors.by_rule_1.Statement.{statement}
 use Rattle.children.proofs.survivors.by_rule_1.Tie as tie
 
 returns : tie.Need-returns
-returns c =
-    let passed = c .before .before in
-    let chosen = passed .before .before in
-    sifted-on (sym (chosen .before .on .ensures) ∙ chosen .if1 .taken) (passed .within .ensures)
+returns c = thinned-on (sym (c .before .before .on .ensures) ∙ c .before .if1 .taken) (c .within .ensures)
 
 returns-2 : tie.Need-returns-2
 returns-2 c =
     let start = c .before .before .before in
-    sifted-off (isWithin (start .args .limit)) (sym (c .before .on .ensures) ∙ c .if1 .left) (start .pre)
+    thinned-off (isWithin (start .args .limit)) (sym (c .before .on .ensures) ∙ c .if1 .left) (start .pre .0)
 
 pub by-rule-1-spec : {M : Type 1} → statement M
-by-rule-1-spec = tie.close (tie.spec (λ c κs. search needs) (λ c κs. search needs) (λ c. search needs) returns returns-2)
+by-rule-1-spec = tie.close (tie.spec (λ c κs. search needs) (λ c κs. search needs) returns returns-2)

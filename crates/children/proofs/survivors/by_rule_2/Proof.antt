@@ -4,10 +4,9 @@ use native.Mathlib.Omega.{arith}
 use borrow.Author.Needs.{needs}
 use Rattle.records.specs.Code.{records}
 use Rattle.rivals.specs.Code.{isFree}
-use Rattle.records.proofs.SiftLaws.{sifted-fewer}
-use Rattle.rivals.proofs.RivalLaws.{sifted-near-still}
+use Rattle.rivals.proofs.RivalLaws.{siblings-less}
 use Rattle.children.specs.Code.{othersIn}
-use Rattle.children.proofs.SurvivorLaws.{sifted-on, sifted-off, sifted-around}
+use Rattle.children.proofs.SurvivorLaws.{thinned-on, thinned-off, thinned-around}
 use Rattle.children.proofs.survivors.by_rule_2.Statement.{statement}
 use Rattle.children.proofs.survivors.by_rule_2.Tie as tie
 
@@ -16,47 +15,41 @@ abbrev entry : tie.After-on → tie.Start
 entry c = c .before .before .before
 
 abbrev chosen : tie.After-unrivalled → tie.Then1
-chosen c = c .before .before
+chosen c = c .before
 
 abbrev first : tie.After-struct-known → tie.After-unrivalled
-first c = c .before .before .before .before
+first c = c .before
 
 unrivalled-requires : tie.Need-unrivalled-requires
 unrivalled-requires c κs =
-    let p = entry (c .before .before) .pre in
-    ((p .few, p .near), (omega arith, omega (arith, p .inside, p .front)))
+    let p = entry (c .before) .pre in
+    (p .1, (omega arith, omega (arith, p .0 .inside, p .0 .front)))
 
 unrivalled-requires-2 : tie.Need-unrivalled-requires-2
 unrivalled-requires-2 c κs =
     let before = first c .unrivalled .ensures in
-    let start = entry (chosen (first c) .before) in
-    let p = start .pre in (
-      (
-        omega (arith, sifted-fewer before, before .same-length, p .few),
-        sifted-near-still (start .args .spot .size) (start .args .spot .base) before (p .near),
-      ),
-      (omega (arith, p .inside), p .front),
-    )
+    let p = entry (chosen (first c) .before) .pre in
+    (siblings-less (p .1) (before .small) (before .among), (omega (arith, p .0 .inside), p .0 .front))
 
 returns : tie.Need-returns
 returns c =
-    let behind = c .before .before in
-    let before = first (behind .before) in
+    let before = first (c .before) in
     let rule = chosen before in
-    let a = entry (rule .before) .args in
-    sifted-on
+    let start = entry (rule .before) in
+    let a = start .args in
+    thinned-on
     (sym (rule .before .on .ensures) ∙ rule .if1 .taken)
-    (sifted-around (a .limit) (records (a .w .now)) (a .spot .active) (a .spot .at) (entry (rule .before) .pre .inside)
-    (before .unrivalled .ensures) (behind .unrivalled2 .ensures))
+    (thinned-around (a .test .limit) (records (a .w .now)) (a .spot .active) (a .spot .at) (start .pre .0 .inside)
+    (before .unrivalled .ensures) (c .unrivalled2 .ensures))
 
 returns-2 : tie.Need-returns-2
 returns-2 c =
     let start = entry (c .before) in
     let a = start .args in
-    sifted-off
-    (isFree (a .limit) (othersIn (records (a .w .now)) (a .spot .active) (a .spot .at)))
+    thinned-off
+    (isFree (a .test .limit) (othersIn (records (a .w .now)) (a .spot .active) (a .spot .at)))
     (sym (c .before .on .ensures) ∙ c .if1 .left)
-    (start .pre .few)
+    (start .pre .1 .small)
 
 pub by-rule-2-spec : {M : Type 1} → statement M
 by-rule-2-spec =
@@ -64,8 +57,7 @@ by-rule-2-spec =
     (tie.spec
     (λ c κs. search needs)
     unrivalled-requires
-    (λ c. let p = entry (chosen (first c) .before) .pre in omega (arith, p .inside))
+    (λ c. let p = entry (chosen (first c) .before) .pre in omega (arith, p .0 .inside))
     unrivalled-requires-2
-    (λ c. search needs)
     returns
     returns-2)

@@ -1,38 +1,37 @@
 -- `survivors` meets its contract: the passes of the three rules, each over what the one before it left.
 use borrow.Author.Needs.{needs}
 use Rattle.records.specs.Code.{records}
+use Rattle.rivals.proofs.RivalLaws.{siblings-less}
 use Rattle.children.specs.Code.{othersIn, farIn}
-use Rattle.children.proofs.SurvivorLaws.{spotted-still, survivors-sifted}
+use Rattle.children.proofs.SurvivorLaws.{survivors-thinned}
 use Rattle.children.proofs.survivors.survivors.Statement.{statement}
 use Rattle.children.proofs.survivors.survivors.Tie as tie
 
--- the places before: the entry, seen from behind the first pass; each pass, seen from behind the next
+-- the entry, seen from behind the first pass
 abbrev entry : tie.After-by-rule-1 → tie.Start
-entry c = c .before .before .before .before
+entry c = c .before .before .before
 
-abbrev first : tie.After-by-rule-2 → tie.After-by-rule-1
-first c = c .before .before .before .before
-
-abbrev second : tie.After-by-rule-4 → tie.After-by-rule-2
-second c = c .before .before .before .before
+by-rule-2-requires : tie.Need-by-rule-2-requires
+by-rule-2-requires c κs =
+    let one = c .by-rule-1 .ensures in
+    let p = entry c .pre in
+    (p .0, siblings-less (p .1) (one .small) (one .among))
 
 by-rule-4-requires : tie.Need-by-rule-4-requires
 by-rule-4-requires c κs =
-    let two = c .before .before .before in
-    let one = first two in
-    spotted-still (spotted-still (entry one .pre) (one .by-rule-1 .ensures)) (two .by-rule-2 .ensures)
+    let one = c .before .by-rule-1 .ensures in
+    let two = c .by-rule-2 .ensures in
+    let p = entry (c .before) .pre in
+    (p .0, siblings-less (p .1) (two .small) (λ s i. one .among s (two .among s i)))
 
 returns : tie.Need-returns
 returns c =
-    let three = c .before .before in
-    let two = second three in
-    let one = first two in
+    let two = c .before in
+    let one = two .before in
     let a = entry one .args in
     let recs = records (a .w .now) in
-    survivors-sifted (a .setting .rules) (a .limit) (othersIn recs (a .spot .active) (a .spot .at)) (farIn recs (a .spot .far))
-    (one .by-rule-1 .ensures) (two .by-rule-2 .ensures) (three .by-rule-4 .ensures)
+    survivors-thinned (a .setting .rules) (a .test .limit) (othersIn recs (a .spot .active) (a .spot .at)) (farIn recs (a .spot .far))
+    (one .by-rule-1 .ensures) (two .by-rule-2 .ensures) (c .by-rule-4 .ensures)
 
 pub survivors-spec : {M : Type 1} → statement M
-survivors-spec =
-    tie.close
-    (tie.spec (λ c κs. c .before .before .before .pre .few) (λ c κs. let one = c .before .before .before in spotted-still (entry one .pre) (one .by-rule-1 .ensures)) by-rule-4-requires (λ c. search needs) returns)
+survivors-spec = tie.close (tie.spec (λ c κs. search needs) by-rule-2-requires by-rule-4-requires returns)

@@ -1,12 +1,13 @@
--- `search` meets its contract. The invariant: the pool has the length it had, and it shows with r a state of the run. The measure: the
--- nodes that are not yet branched. `SearchLaws` has why the loop goes on and ends, `EndLaws` why its two answers are those of the
+-- `search` meets its contract. The invariant: the pool has the length it had, there is a slot for each stop's child, and the pool shows with r
+-- a state of the run. The measure: the nodes that are not yet branched. `SearchLaws` has why the loop goes on and ends, `EndLaws` why its two answers are those of the
 -- written run, and why no turn is refused.
 use mathlib.Core.Path.{_≡_, refl, _∙_, subst}
 use mathlib.Core.List.{List}
-use Prim.Native.Nat.{ℕ, _-_}
+use Prim.Native.Nat.{ℕ, _-_, _*_}
 use native.Mathlib.Omega.{arith}
 use lib.ListN.{length}
 use borrow.Author.Needs.{needs}
+use Rattle.sizes.specs.Sizes.{mostStops, recordWords}
 use Rattle.search.specs.Problem.{State}
 use Rattle.orders.specs.Orders.{Node, nodes}
 use Rattle.records.specs.Records.{recordsIn}
@@ -23,11 +24,11 @@ use Rattle.planner.proofs.run.search.Statement.{statement}
 use Rattle.planner.proofs.run.search.Tie as tie
 
 abbrev Inv-loop : tie.InvT-loop
-Inv-loop setting table start w₀ t capacity r₀ w r =
-    (length w ≡ length w₀) × ((s : State Node) × Running setting t start w r s)
+Inv-loop setting table start w₀ t capacity r₀ kids₀ w r kids =
+    ((length w ≡ length w₀) × (length kids ≡ mostStops * recordWords)) × ((s : State Node) × Running setting t start w r s)
 
 abbrev μ-loop : tie.MeasureT-loop
-μ-loop setting table start w₀ t capacity r₀ w r = nodes (setting .n) - r .branched
+μ-loop setting table start w₀ t capacity r₀ kids₀ w r kids = nodes (setting .n) - r .branched
 
 -- the places before: the entry, seen from where the table's rows are known; these, seen from the run's beginning; this, seen from the
 -- loop's head; and this, seen from behind the turn
@@ -41,20 +42,20 @@ abbrev began : tie.At-loop Inv-loop μ-loop → tie.After-begun Inv-loop μ-loop
 began c = c .before .before .before
 
 abbrev head : tie.After-take-turn Inv-loop μ-loop → tie.At-loop Inv-loop μ-loop
-head c = c .before .before
+head c = c .before .before .before
 
 -- and the turn, seen from where its answer is known to be the end, a full pool, a refusal, or the next state
 abbrev finish : tie.After-enum-told Inv-loop μ-loop → tie.After-take-turn Inv-loop μ-loop
-finish c = c .before .before .before .before
+finish c = c .before .before .before .before .before
 
 abbrev full : tie.After-enum-told2 Inv-loop μ-loop → tie.After-take-turn Inv-loop μ-loop
-full c = c .before .before .before .before
+full c = c .before .before .before .before .before
 
 abbrev refusal : tie.After-next2 Inv-loop μ-loop → tie.After-take-turn Inv-loop μ-loop
-refusal c = c .before .before .before .before
+refusal c = c .before .before .before .before .before
 
 abbrev further : tie.After-next Inv-loop μ-loop → tie.After-take-turn Inv-loop μ-loop
-further c = c .before .before .before .before
+further c = c .before .before .before .before .before
 
 -- where the pool is settled, seen from the report
 abbrev settled : tie.After-ended Inv-loop μ-loop → tie.After-settle Inv-loop μ-loop
@@ -82,7 +83,7 @@ unfolding callOf
 stands c = let b = began c in record {
   passed = entry (tabled b) .pre;
   table = tabled b .rows .ensures;
-  long = c .loop .inv .0 ∙ b .begun .kept .1 .1 .1 .0;
+  long = c .loop .inv .0 .0 ∙ b .begun .kept .1 .1 .1 .0;
   state = c .loop .inv .1 .0;
   running = c .loop .inv .1 .1;
 }
@@ -116,7 +117,12 @@ unfolding callOf
 loop-holds c =
     let b = c .before .before in
     let t = tabled b in
-    (refl, (_, run-begins (call (entry t)) (ok (entry t)) (t .rows .ensures) (b .begun .ensures)))
+    ((refl, omega arith), (_, run-begins (call (entry t)) (ok (entry t)) (t .rows .ensures) (b .begun .ensures)))
+
+take-turn-requires : tie.Need-take-turn-requires Inv-loop μ-loop
+take-turn-requires c κs =
+    let loop = c .before .before .loop in
+    ((_, loop .inv .1 .0, loop .inv .1 .1), omega (arith, length-records (loop .kids)))
 
 loop-less : tie.Need-loop-less Inv-loop μ-loop
 loop-less c =
@@ -127,7 +133,7 @@ loop-again : tie.Need-loop-again Inv-loop μ-loop
 loop-again c =
     let turn = further (c .before) in
     let inv = head turn .loop .inv in
-    (kept turn ∙ inv .0, turn-keeps (inv .1 .1) (turned turn _ (c .before .next .given .1)) (kept turn))
+    ((kept turn ∙ inv .0 .0, turn .take-turn .kept .1 .1 .1 .1 .0 ∙ inv .0 .1), turn-keeps (inv .1 .1) (turned turn _ (c .before .next .given .1)) (kept turn))
 
 settle-requires : tie.Need-settle-requires Inv-loop μ-loop
 unfolding callOf recordsIn
@@ -207,7 +213,8 @@ search-spec =
     rows-requires
     begun-requires
     loop-holds
-    (λ c κs. let inv = c .before .loop .inv in (_, inv .1 .0, inv .1 .1))
+    (λ c. search needs)
+    take-turn-requires
     (λ c. search needs)
     loop-less
     loop-again

@@ -12,26 +12,26 @@ use Rattle.planner.proofs.run.turn_at.Tie as tie
 
 -- the places before: the entry, seen from where b is loaded; that, seen from behind the finish test; and this, seen from behind the step
 abbrev entry : tie.After-load → tie.Start
-entry c = c .before .before .before
+entry c = c .before .before .before .before
 
 abbrev loaded : tie.After-finishes → tie.After-load
 loaded c = c .before .before
 
 abbrev tested : tie.After-step → tie.Else1
-tested c = c .before .before
+tested c = c .before .before .before
 
 returns : tie.Need-returns
 returns c first s running =
     let test = c .before in
     let l = loaded test in
-    turn-finishes running (entry l .pre .0) (l .load .ensures) (test .finishes .ensures) (c .if1 .taken)
+    turn-finishes running (entry l .pre .0 .0) (l .load .ensures) (test .finishes .ensures) (c .if1 .taken)
 
 step-requires : tie.Need-step-requires
 step-requires c κs =
-    let left = c .before in
+    let left = c .before .before in
     let l = loaded (left .before) in
-    let p = entry l .pre in
-    turn-ready (p .1 .2) (p .0) (l .load .ensures) (left .before .finishes .ensures) (left .if1 .left)
+    let p = entry l .pre .0 in
+    (turn-ready (p .1 .2) (p .0) (l .load .ensures) (left .before .finishes .ensures) (left .if1 .left), entry l .pre .1)
 
 -- what the step gave, by its answer
 stepping :
@@ -44,33 +44,35 @@ stepping c after e s shows = rw (← e) (c .step .ensures s shows)
 
 returns-2 : tie.Need-returns-2
 returns-2 c first s running =
-    let stepped = c .before .before .before .before in
+    let stepped = c .before .before .before .before .before .before in
     let left = tested stepped in
     let l = loaded (left .before) in
-    turn-full running (entry l .pre .0) (l .load .ensures) (left .before .finishes .ensures) (left .if1 .left)
+    turn-full running (entry l .pre .0 .0) (l .load .ensures) (left .before .finishes .ensures) (left .if1 .left)
     (stepping stepped _ (c .enum-told .given .1) (recordsOf _ _ s) (running .shows))
 
 returns-3 : tie.Need-returns-3
 returns-3 c first s running =
     let known = c .before in
-    let stepped = known .before .before .before .before in
+    let stepped = known .before .before .before .before .before .before in
     let left = tested stepped in
     let l = loaded (left .before) in
-    turn-goes running (entry l .pre .0) (l .load .ensures) (left .before .finishes .ensures) (left .if1 .left)
+    turn-goes running (entry l .pre .0 .0) (l .load .ensures) (left .before .finishes .ensures) (left .if1 .left)
     (stepping stepped _ (known .after .given .1) (recordsOf _ _ s) (running .shows))
 
 pub turn-at-spec : {M : Type 1} → statement M
 turn-at-spec =
     tie.close
     (tie.spec
-    (λ c κs. let p = c .before .before .pre in turn-loads (p .1 .2) (p .0))
-    (λ c κs. entry (c .before) .pre .1 .2 .selects)
+    (λ c κs. let p = c .before .before .before .pre .0 in turn-loads (p .1 .2) (p .0))
+    (λ c κs. entry (c .before) .pre .0 .1 .2 .selects)
     (λ c. search needs)
     returns
     step-requires
     (λ c. search needs)
     (λ c. search needs)
     (λ c. search needs)
+    (λ c. search needs)
     returns-2
+    (λ c. search needs)
     (λ c. search needs)
     returns-3)

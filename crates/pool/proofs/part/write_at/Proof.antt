@@ -1,8 +1,8 @@
--- `write_at` meets its contract: the words that it lends on are the records from `at` on, and `write` gives them back with the kids at
--- their front.
+-- `write_at` meets its contract: the words that it lends on are the records from `at` on, and `write` gives them back with the
+-- children at their front.
 use native.Mathlib.Omega.{arith}
 use lib.ListN.{length-drop}
-use Rattle.records.specs.Code.{records}
+use Rattle.records.specs.Code.{records, slots}
 use Rattle.records.proofs.ViewLaws.{length-records}
 use Rattle.pool.proofs.PartLaws.{lent-records, lent-back}
 use borrow.Author.Needs.{needs}
@@ -27,7 +27,8 @@ part-write-end c = search needs
 write-requires : tie.Need-write-requires
 write-requires c κs =
     let a = c .before .before .before .args in
-    rw (lent-records (a .w .now) (a .at), length-drop (a .at) (records (a .w .now))) (omega arith)
+    let p = c .before .before .before .pre in
+    (p .0, rw (lent-records (a .w .now) (a .at), length-drop (a .at) (records (a .w .now))) (omega arith))
 
 same-length : tie.Need-same-length
 same-length c = search needs
@@ -36,7 +37,8 @@ returns : tie.Need-returns
 returns c =
     let a = c .before .before .before .before .before .before .args in
     let write = c .before .before .write in
-    lent-back (a .w .now) (a .at) (records (a .kids .now)) (a .r) (write .last .0) (omega arith) (write .ensures)
+    let all = slots (a .alive) (records (a .kids .now)) in
+    (write .ensures .0, lent-back (a .w .now) (a .at) all (write .result) (write .last .0) (omega arith) (write .ensures .1))
 
 pub write-at-spec : {M : Type 1} → statement M
 write-at-spec =

@@ -1,0 +1,56 @@
+// Sets of stops, each a word: bit s-1 is stop s's.
+ghost use mathlib.Core.Path.{_≡_};
+ghost use Prim.Native.Nat.{_+_, _-_, _^_, _≤_, _<_};
+ghost use lib.Count.{trailingZeros};
+ghost use lib.ListN.{length};
+ghost use Rattle.sizes.specs.Sizes.{mostStops};
+ghost use Rattle.lists.specs.Lists.{In};
+ghost use Rattle.stops.specs.Code.{stopsIn};
+
+// The next stop of a set: its lowest.
+pub fn next(set: u32) -> u32
+    requires { ⌜ (0 < set) × (set < 2 ^ mostStops) ⌝ }
+    ensures { λ r. ⌜ (r ≡ trailingZeros 32 set + 1) × (r ≤ mostStops) ⌝ }
+{
+    u32::trailing_zeros(set) + 1
+}
+
+// The stops of a set behind its next one.
+pub fn later(set: u32) -> u32
+    requires { ⌜ (0 < set) × (set < 2 ^ mostStops) ⌝ }
+    ensures { λ r. ⌜ r ≡ set - 2 ^ trailingZeros 32 set ⌝ }
+{
+    set & (set - 1)
+}
+
+// The set without a stop of it.
+pub fn without(set: u32, stop: u32) -> u32
+    requires { ⌜ (set < 2 ^ mostStops) × In stop (stopsIn set) ⌝ }
+    ensures { λ r. ⌜ r ≡ set - 2 ^ (stop - 1) ⌝ }
+{
+    set - (1u32 << (stop - 1))
+}
+
+// The set with a stop that it lacked.
+pub fn with(set: u32, stop: u32) -> u32
+    requires { ⌜ (set < 2 ^ mostStops) × ((1 ≤ stop) × (stop ≤ mostStops)) ⌝ }
+    ensures { λ r. ⌜ r ≡ set + 2 ^ (stop - 1) ⌝ }
+{
+    set + (1u32 << (stop - 1))
+}
+
+// How many stops a set has.
+pub fn count(set: u32) -> usize
+    requires { ⌜ set < 2 ^ mostStops ⌝ }
+    ensures { λ r. ⌜ r ≡ length (stopsIn set) ⌝ }
+{
+    u32::count_ones(set) as usize
+}
+
+// The slot of a stop among records that stand one for each stop.
+pub fn slot(stop: u32) -> usize
+    requires { ⌜ 1 ≤ stop ⌝ }
+    ensures { λ r. ⌜ r ≡ stop - 1 ⌝ }
+{
+    (stop - 1) as usize
+}
