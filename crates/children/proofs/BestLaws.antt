@@ -1,5 +1,5 @@
 -- Part 2 of a step: what children do to U and its order (`src/best.rt`).
---   Learnt, learn-keeps, learn-replaces    of one child
+--   learn-keeps, learn-replaces            of one child
 --   learn-none, learn-more                 of a list without a complete child, and of one child in front of a list
 --   Learning, learning-starts, learning-again, learning-ends    the invariant of the loop over the children in their slots
 use mathlib.Core.Path.{_≡_, refl, sym, _∙_}
@@ -21,7 +21,7 @@ use Rattle.stops.specs.declared.node_record.Record.{Record}
 use Rattle.stops.proofs.SetLoops.{First}
 use Rattle.records.specs.Code.{inSlot, slots}
 use Rattle.records.proofs.SlotLaws.{slots-none, slots-first, slot-in}
-use Rattle.children.specs.Code.{Table, recProblem, IsBest}
+use Rattle.children.specs.Code.{Table, recProblem, IsBest, Learnt}
 use Rattle.children.specs.declared.best.Best.{Best}
 use Rattle.children.specs.declared.setting.Setting.{Setting}
 
@@ -30,10 +30,6 @@ pub upper-best : (d : Setting) (t : Table) (a : Best) (o : Option Record) → Is
 unfolding recProblem
 upper-best d t a none h = sym (h .0)
 upper-best d t a (some x) h = sym (h .0)
-
--- whatever order a stands for, b stands for U's order after the children xs
-abbrev pub Learnt : Setting → Best → List Record → Best → Type 0
-Learnt d a xs b = (t : Table) (o : Option Record) → IsBest a o → IsBest b (learn (recProblem d t) o xs)
 
 -- no child is complete
 pub learn-none : (d : Setting) (a : Best) (xs : List Record) → ((x : Record) → In x xs → x .size ≢ d .n) → Learnt d a xs a
@@ -56,7 +52,7 @@ module _ (d : Setting) (a : Best) (x : Record) where
   unfolding recProblem
   learn-replaces e l t o h = rw (eq-eqb (x .size) (d .n) e, upper-best d t a o h, lt-ltb (x .bound) (a .upper) l) (refl, refl, refl)
 
-pub learn-more :
+learn-more :
     (d : Setting) (a b c : Best) (x : Record) (xs : List Record) → Learnt d a (x ∷ []) b → Learnt d b xs c → Learnt d a (x ∷ xs) c
 learn-more d a b c x xs p q t o best = q t (learn (recProblem d t) o (x ∷ [])) (p t o best)
 

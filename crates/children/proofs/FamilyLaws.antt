@@ -1,15 +1,14 @@
 -- What the code of `family` needs of a node's record, and of the loop that writes each child's record to its slot.
 --   rest-sum, restOf-left           the stops that it leaves, as a set that fits
---   family-few                      no more children than there may be stops
 --   born-slots, born-siblings, born-size    the children in their slots
---   Placed, placed-starts, placed-again, placed-ends    the invariant of the loop
+--   Placing, placing-starts, placing-again, placing-ends    the invariant of the loop
 use mathlib.Core.Path.{_≡_, ap, subst, _∙_}
 use mathlib.Core.List.{List, map, List·Memᴰ·tail, List·Memᴰ·cases-cons, List·Memᴰ·not-nil}
 use mathlib.Core.Logic.{_⊎_, inl, inr, _≢_}
 use Prim.Native.Nat.{ℕ, _+_, _-_, _^_, _≤_, _<_}
 use native.Mathlib.Omega.{arith}
 use lib.Count.{ones}
-use lib.ListN.{length, set, length-set, length-map}
+use lib.ListN.{length, set, length-set}
 use lib.Pow.{pow-pos, pow-mono}
 use lib.Seq.{getD-set-same, getD-set-other}
 use Rattle.sizes.specs.Sizes.{mostStops}
@@ -20,7 +19,7 @@ use Rattle.orders.specs.Orders.{left, extend}
 use Rattle.orders.proofs.Sets.{size-extend}
 use Rattle.stops.specs.Code.{emptyRecord, extended, stopsIn}
 use Rattle.stops.specs.declared.node_record.Record.{Record}
-use Rattle.stops.proofs.SetBits.{stopsIn-zero, stopsIn-range, stopsIn-few}
+use Rattle.stops.proofs.SetBits.{stopsIn-zero, stopsIn-range}
 use Rattle.stops.proofs.SetAnd.{stopsIn-added}
 use Rattle.stops.proofs.SetLoops.{First}
 use Rattle.records.specs.Code.{encode, inSlot, slots}
@@ -41,12 +40,6 @@ module _ {d : Setting} {t : Table} {b : Record} (rows : Rows d t) (e : Encoded d
   pub restOf-left : stopsIn (restOf d b) ≡ left (d .n) (e .node)
   unfolding restOf encodeOf encode
   restOf-left = rest-left (d .n) (rows .few) (e .node) (b .set) (ap (λ (r : Record). r .set) (e .same))
-
-  pub family-few : length (childrenOf d t b) ≤ mostStops
-  unfolding childrenOf restOf
-  family-few =
-      let few : length (stopsIn (restOf d b)) ≤ mostStops = stopsIn-few (restOf d b) (rest-small (d .n) (rows .few) (b .set)) in
-      omega (arith, length-map (stopsIn (restOf d b)) (childOf d t b))
 
   -- each child has one stop more than b, and its set holds b's
   one-more : (s : ℕ) → In s (stopsIn (restOf d b)) → ones (b .set + 2 ^ (s - 1)) ≡ b .size + 1
@@ -70,7 +63,7 @@ module _ {d : Setting} {t : Table} {b : Record} (rows : Rows d t) (e : Encoded d
       room = k .room;
       sizes = λ s i. ap (λ (x : Record). x .size) (k .each s i) ∙ one-more s (left-by s i);
       sets = λ s i. ap (λ (x : Record). x .set) (k .each s i);
-      lacks = λ s i.
+      holds = λ s i.
           stopsIn-added (d .n) (b .set) (restOf d b) s (rest-sum .0) (rest-small (d .n) (rows .few) (b .set)) (left-by s i);
     }
       where
@@ -83,17 +76,17 @@ module _ {d : Setting} {t : Table} {b : Record} (rows : Rows d t) (e : Encoded d
         ap (λ (y : Record). y .size) e ∙ born-siblings 0 .sizes s m
 
 -- The children are written so: `left` has the stops to come, and the children by the others of `rest` stand in their slots.
-pub record Placed (f : ℕ → Record) (rest : ℕ) (kids : List Record) (left : ℕ) : Type 0 where
+pub record Placing (f : ℕ → Record) (rest : ℕ) (kids : List Record) (left : ℕ) : Type 0 where
   pub small : left < 2 ^ mostStops
   pub rest-fits : rest < 2 ^ mostStops
   pub among : (s : ℕ) → In s (stopsIn left) → In s (stopsIn rest)
   pub room : mostStops ≤ length kids
   pub each : (s : ℕ) → In s (stopsIn rest) → In s (stopsIn left) ⊎ (inSlot kids s ≡ f s)
 
-pub placed-starts :
+pub placing-starts :
     {f : ℕ → Record} {rest left : ℕ} {kids : List Record} → left ≡ rest → rest < 2 ^ mostStops → mostStops ≤ length kids
-    → Placed f rest kids left
-placed-starts e h k = rw e record { small = h; rest-fits = h; among = λ s i. i; room = k; each = λ s i. inl i }
+    → Placing f rest kids left
+placing-starts e h k = rw e record { small = h; rest-fits = h; among = λ s i. i; room = k; each = λ s i. inl i }
 
 -- a record stored in its slot, and the others, which stay
 slot-stored : (l : List Record) (r : ℕ) (x : Record) → r - 1 < length l → inSlot (set l (r - 1) x) r ≡ x
@@ -104,11 +97,11 @@ slot-other : (l : List Record) (r s : ℕ) (x : Record) → 1 ≤ r → 1 ≤ s 
 unfolding inSlot
 slot-other l r s x h i n = getD-set-other l (r - 1) (s - 1) x emptyRecord (λ q. n (omega arith))
 
-module _ {f : ℕ → Record} {rest : ℕ} {kids : List Record} {left : ℕ} (l : Placed f rest kids left) where
-  pub placed-again :
+module _ {f : ℕ → Record} {rest : ℕ} {kids : List Record} {left : ℕ} (l : Placing f rest kids left) where
+  pub placing-again :
       {kids′ : List Record} {left′ : ℕ} {x : Record} {r : ℕ} → First left r → left′ ≡ left - 2 ^ (r - 1) → x ≡ f r
-      → kids′ ≡ set kids (r - 1) x → Placed f rest kids′ left′
-  placed-again {x = x} {r} o e i g = rw (e, g) record {
+      → kids′ ≡ set kids (r - 1) x → Placing f rest kids′ left′
+  placing-again {x = x} {r} o e i g = rw (e, g) record {
     small = omega (arith, l .small);
     among = λ s m. l .among s (rw (o .others) (List·Memᴰ·tail m));
     room = rw length-set (l .room);
@@ -133,8 +126,8 @@ module _ {f : ℕ → Record} {rest : ℕ} {kids : List Record} {left : ℕ} (l 
       go s m (inr n) (inl there) = inl (behind s n (List·Memᴰ·cases-cons (rw (o .others) at there)))
       go s m (inr n) (inr was) = inr (slot-other kids r s x (range-r .0) (range s m .0) n ∙ was)
 
-  pub placed-ends : left ≡ 0 → (s : ℕ) → In s (stopsIn rest) → inSlot kids s ≡ f s
-  placed-ends e s m = go (l .each s m)
+  pub placing-ends : left ≡ 0 → (s : ℕ) → In s (stopsIn rest) → inSlot kids s ≡ f s
+  placing-ends e s m = go (l .each s m)
     where
       go : In s (stopsIn left) ⊎ (inSlot kids s ≡ f s) → inSlot kids s ≡ f s
       go (inl i) = absurd (List·Memᴰ·not-nil (rw (e, stopsIn-zero) at i))

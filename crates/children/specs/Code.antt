@@ -7,7 +7,7 @@
 --   recProblem, recChoices            the same problem and choices on records
 --   Encoded, Kid                      a record is that of a node; and a stop is one that it leaves
 --   Born                              the children of a record, each in the slot of its stop
---   IsBest                            what stands for U and its order
+--   IsBest, Learnt                    what stands for U and its order, and for them after some children
 --   othersIn, farIn, Spotted          where the active records stand, the one that is branched and those branched before
 --   survivorsOf, Surviving            what rules 1, 2 and 4 leave of the children
 use mathlib.Core.Path.{_≡_}
@@ -20,7 +20,7 @@ use lib.ListN.{length, take, drop}
 use Rattle.sizes.specs.Sizes.{mostStops, aboveEveryCost, noLimit}
 use Rattle.lists.specs.Lists.{In, keep, dropAt}
 use Rattle.search.specs.Problem.{Problem, Choices}
-use Rattle.search.specs.Step.{on}
+use Rattle.search.specs.Step.{on, learn}
 use Rattle.orders.specs.Orders.{Node, Partial}
 use Rattle.days.specs.Days.{problem, choices}
 use Rattle.stops.specs.Stops.{dayOn}
@@ -114,6 +114,10 @@ pub record Born (d : Setting) (t : Table) (b : Record) (born : ℕ) (kids : List
 abbrev pub IsBest : Best → Option Record → Type 0
 IsBest b none = (b .upper ≡ aboveEveryCost) × (b .first ≡ 0) × (b .second ≡ 0)
 IsBest b (some x) = (b .upper ≡ x .bound) × (b .first ≡ x .first) × (b .second ≡ x .second)
+
+-- whatever order a stands for, b stands for U's order after the children xs
+abbrev pub Learnt : Setting → Best → List Record → Best → Type 0
+Learnt d a xs b = (t : Table) (o : Option Record) → IsBest a o → IsBest b (learn (recProblem d t) o xs)
 
 -- of the pool's records the first are active, and the last were branched before; the one at i is branched now
 abbrev pub othersIn : List Record → ℕ → ℕ → List Record

@@ -2,29 +2,28 @@
 ghost use mathlib.Core.Path.{_≡_};
 ghost use mathlib.Core.List.{[], _∷_};
 ghost use mathlib.Core.Logic.{_⊎_};
-ghost use mathlib.Core.Option.{Option, Option·map};
+ghost use mathlib.Core.Option.{Option·map};
 ghost use Prim.Native.Nat.{_^_, _≤_, _<_};
 ghost use lib.ListN.{length, getD};
 ghost use Rattle.sizes.specs.Sizes.{mostStops};
 ghost use Rattle.lists.specs.Lists.{In};
-ghost use Rattle.search.specs.Step.{learn};
 ghost use Rattle.stops.specs.Code.{emptyRecord};
 ghost use Rattle.stops.specs.declared.node_record.Record.{Record};
 ghost use Rattle.orders.specs.Orders.{Order};
 ghost use Rattle.records.specs.Code.{records, slots};
 ghost use Rattle.answer.specs.Answer.{given};
-ghost use Rattle.children.specs.Code.{Table, IsBest, recProblem, encodeOf, Rows};
+ghost use Rattle.children.specs.Code.{IsBest, Learnt, encodeOf, Rows};
 ghost use Rattle.children.specs.declared.setting.Setting.{Setting};
 use crate::setting::Setting;
 use records::bound_at;
 use records::load;
+use records::slot;
 use sizes::ABOVE_EVERY_COST;
 use sizes::PLACES;
 use stops::cost::order_cost;
 use stops::node_record::Record;
 use stops::sets::later;
 use stops::sets::next;
-use stops::sets::slot;
 
 // The cost of the best order known, and its two words; `ABOVE_EVERY_COST` and zeros if none is known.
 pub struct Best {
@@ -36,7 +35,7 @@ pub struct Best {
 // The best order known after the complete child in a slot: the child's, if it costs less than U.
 fn better(best: Best, kids: &[u32], k: usize) -> Best
     requires { ⌜ k < length (records (now kids)) ⌝ }
-    ensures { λ r. ⌜ ((d : Setting) (t : Table) (o : Option Record) → getD (records (now (kids .entry))) k emptyRecord .size ≡ d .n → IsBest best o → IsBest r (learn (recProblem d t) o (getD (records (now (kids .entry))) k emptyRecord ∷ []))) ⌝ }
+    ensures { λ r. ⌜ ((d : Setting) → getD (records (now (kids .entry))) k emptyRecord .size ≡ d .n → Learnt d best (getD (records (now (kids .entry))) k emptyRecord ∷ []) r) ⌝ }
 {
     if best.upper <= bound_at(kids, k) {
         return best;
@@ -52,7 +51,7 @@ fn better(best: Best, kids: &[u32], k: usize) -> Best
 // Part 2 of a step, over the children by the stops of `born`, which are all of one size.
 pub fn learn(setting: Setting, kids: &[u32], born: u32, size: u32, best: Best) -> Best
     requires { ⌜ ((born < 2 ^ mostStops) × (mostStops ≤ length (records (now kids)))) × ((x : Record) → In x (slots born (records (now kids))) → x .size ≡ size) ⌝ }
-    ensures { λ r. ⌜ ((t : Table) (o : Option Record) → IsBest best o → IsBest r (learn (recProblem setting t) o (slots born (records (now (kids .entry)))))) ⌝ }
+    ensures { λ r. ⌜ Learnt setting best (slots born (records (now (kids .entry)))) r ⌝ }
 {
     if size != setting.n {
         return best;

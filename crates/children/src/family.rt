@@ -6,13 +6,13 @@ ghost use Rattle.sizes.specs.Sizes.{mostStops};
 ghost use Rattle.records.specs.Code.{records};
 ghost use Rattle.children.specs.Code.{Rows, Encoded, Kid, childOf, rootOf, Born};
 use crate::setting::Setting;
+use records::slot;
 use records::store;
 use sizes::PLACES;
 use stops::bound::ahead;
 use stops::node_record::Record;
 use stops::sets::later;
 use stops::sets::next;
-use stops::sets::slot;
 use stops::sets::without;
 use stops::table::further;
 

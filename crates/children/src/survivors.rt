@@ -38,19 +38,19 @@ fn by_rule_1(kids: &[u32], alive: u32, rules: u32, limit: u32) -> u32
     alive
 }
 
-// Part 4 on them.
+// Part 4 on the children by the stops of `alive`, by the active records before the branched one and behind it.
 fn by_rule_2(kids: &[u32], alive: u32, w: &[u32], spot: Spot, rules: u32, test: Test) -> u32
     requires { ⌜ Spotted (records (now w)) spot × Siblings test alive (records (now kids)) ⌝ }
     ensures { λ r. ⌜ Thinned (λ x. not (on 2 rules) || isFree (test .limit) (othersIn (records (now (w .entry))) (spot .active) (spot .at)) x) (records (now (kids .entry))) alive r ⌝ }
 {
     if on(2, rules) {
-        let left = unrivalled(kids, alive, w, 0, spot.at, test);
-        return unrivalled(kids, left, w, spot.at + 1, spot.active, test);
+        let kept = unrivalled(kids, alive, w, 0, spot.at, test);
+        return unrivalled(kids, kept, w, spot.at + 1, spot.active, test);
     }
     alive
 }
 
-// Part 5 on them, whatever their rivals' bounds are.
+// Part 5 on the children by the stops of `alive`, by the branched records, whatever their bounds are.
 fn by_rule_4(kids: &[u32], alive: u32, w: &[u32], spot: Spot, rules: u32, test: Test) -> u32
     requires { ⌜ Spotted (records (now w)) spot × Siblings test alive (records (now kids)) ⌝ }
     ensures { λ r. ⌜ Thinned (λ x. not (on 4 rules) || isFree noLimit (farIn (records (now (w .entry))) (spot .far)) x) (records (now (kids .entry))) alive r ⌝ }

@@ -15,13 +15,13 @@ ghost use Rattle.rivals.specs.Code.{near, Siblings};
 use records::bound_at;
 use records::load;
 use records::set_at;
+use records::slot;
 use records::store;
 use rivals::Test;
 use rivals::beats;
 use rivals::near;
 use stops::sets::later;
 use stops::sets::next;
-use stops::sets::slot;
 use stops::sets::with;
 
 // Rule 1 on the children by the stops of `alive`: those whose bound is at most limit.

@@ -31,11 +31,13 @@ use sizes::ORDER_PLACES;
 use sizes::PLACES;
 use sizes::RECORD_WORDS;
 use step::After;
-use step::FAMILY_WORDS;
 use step::Run;
 use step::step;
 use stops::node_record::Record;
 use stops::table::rows;
+
+// Words for the children of one node, a record for each stop.
+const FAMILY_WORDS: usize = ORDER_PLACES * RECORD_WORDS;
 
 // What comes next of a state.
 pub enum Turn {
@@ -62,7 +64,7 @@ fn finishes(setting: Setting, b: Record, upper: u32, active: usize) -> bool
     active == 1
 }
 
-// The turn of the node at i, which the selection picked: the finish test, the step.
+// The turn of the node at i, which the selection picked: the finish test, the step. `kids` has the slots for its children.
 fn turn_at(
     setting: Setting,
     t: [[u32; PLACES]; PLACES],
@@ -154,7 +156,7 @@ fn ended(number: u32, cost: u32, order: [u8; ORDER_PLACES], r: Run) -> Report
     }
 }
 
-// The run of a call that every check let pass.
+// The run of a call that every check let pass. The slots for a node's children are made once, and lent to each turn.
 pub fn search(setting: Setting, table: &[u32], start: &[u8], w: &mut [u32]) -> Report
     requires { ⌜ cause (callOf (jobOf setting) (now table) (now start) (now w)) ≡ 0 ⌝ }
     ensures { λ q. ⌜ Ended (callOf (jobOf setting) (now (table .entry)) (now (start .entry)) (now (w .entry))) q (now (w .exit)) ⌝ }

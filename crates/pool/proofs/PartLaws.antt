@@ -2,7 +2,7 @@
 -- after the other (`Writing`), one more element is (`write-more`), words move up by six (`up-next`, `up-length`, `up-records`). And what a
 -- part of the pool's words that is lent on is as records (`lent-records`, `lent-back`, `lent-out`).
 use mathlib.Core.Path.{_≡_, refl, ap, sym, _∙_}
-use mathlib.Core.List.{List, [], _++_, append-assoc, append-nil, List·Memᴰ·tail}
+use mathlib.Core.List.{List, [], _++_, append-assoc, append-nil}
 use Prim.Native.Nat.{ℕ, _+_, _*_, _-_, _^_, _≤_, _<_}
 use native.Mathlib.Numerals.{add-one}
 use native.Mathlib.Nat.{zero-add}
@@ -11,9 +11,7 @@ use lib.ListN.{length, getD, take, drop, set, length-set, length-drop, take-appe
 use lib.Seq.{take-all, take-suc-set, drop-set-lt, drop-length, drop-drop, getD-drop, paste, paste-suc, length-paste, drop-paste}
 use borrow.Rule.Slice.PartMut.{midOf, putMid, post-is}
 use Rattle.sizes.specs.Sizes.{mostStops}
-use Rattle.lists.specs.Lists.{In}
 use Rattle.lists.proofs.Slices.{drop-further}
-use Rattle.stops.specs.Code.{stopsIn}
 use Rattle.stops.specs.declared.node_record.Record.{Record}
 use Rattle.stops.proofs.SetLoops.{First}
 use Rattle.records.specs.Code.{records, inSlot, slots, Sifted, always}
@@ -25,14 +23,13 @@ use Rattle.records.proofs.SlotLaws.{slots-none, slots-first}
 -- behind is as it was.
 pub record Writing (part₀ kids : List Record) (alive : ℕ) (part : List Record) (k left : ℕ) : Type 0 where
   pub small : left < 2 ^ mostStops
-  pub among : (s : ℕ) → In s (stopsIn left) → In s (stopsIn alive)
   pub same : take k part ++ slots left kids ≡ slots alive kids
   pub count : k + length (slots left kids) ≡ length (slots alive kids)
   pub behind : drop k part ≡ drop k part₀
   pub long : length part ≡ length part₀
 
 pub writing-starts : (part kids : List Record) (alive : ℕ) → alive < 2 ^ mostStops → Writing part kids alive part 0 alive
-writing-starts part kids alive h = record { small = h; among = λ s i. i; same = refl; count = omega arith; behind = refl; long = refl }
+writing-starts part kids alive h = record { small = h; same = refl; count = omega arith; behind = refl; long = refl }
 
 module _ {part₀ kids : List Record} {alive : ℕ} {part : List Record} {k left : ℕ} (l : Writing part₀ kids alive part k left) where
   pub writing-room : {s : ℕ} → First left s → length (slots alive kids) ≤ length part₀ → k < length part
@@ -45,7 +42,6 @@ module _ {part₀ kids : List Record} {alive : ℕ} {part : List Record} {k left
       let room : k < length part = writing-room o h in
       rw (e, g) record {
         small = omega (arith, l .small, o .less);
-        among = λ r m. l .among r (rw (o .others) (List·Memᴰ·tail m));
         same = rw (add-one, take-suc-set part k x room, append-assoc, i) (rw (slots-first kids o) at (l .same));
         count = omega (arith, ap length (slots-first kids o), l .count);
         behind = drop-set-lt (k + 1) part k x (omega arith) ∙ drop-further k part part₀ (l .behind) (k + 1) (omega arith);

@@ -6,11 +6,11 @@ ghost use lib.ListN.{length, take, drop};
 ghost use Rattle.sizes.specs.Sizes.{mostStops};
 ghost use Rattle.records.specs.Code.{records, slots, Sifted, always};
 use records::load;
+use records::slot;
 use records::store;
 use sizes::RECORD_WORDS;
 use stops::sets::later;
 use stops::sets::next;
-use stops::sets::slot;
 
 // Moves the records behind the first of a part up by one, as many as count.
 fn move_up(part: &mut [u32], count: usize)

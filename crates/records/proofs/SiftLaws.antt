@@ -1,9 +1,9 @@
 -- Laws of `Sifted` at a partial index, for a loop that reads the record at `to`, goes one on, and stores the record at e if it passes
 -- the test: at the start nothing is moved (`sifted-none`); a record that passes is stored at e (`sifted-passes`); one that fails is left
--- out (`sifted-fails`). A run that passes is moved as one (`sifted-run`), and the records behind one that is taken out move up
--- (`taken-out`). Then laws of passes over the first records, one over what the other left (`sifted-twice`).
+-- out (`sifted-fails`). A run that passes is moved as one (`sifted-run`, `sifted-past`), and the records behind one that is taken out move
+-- up (`taken-out`); a slide to where they stand moves none (`sifted-still`).
 use mathlib.Core.Path.{_≡_, refl, ap, sym, _∙_}
-use mathlib.Core.Bool.{Bool, true, false, cond, _&&_}
+use mathlib.Core.Bool.{Bool, true, false, cond}
 use mathlib.Core.List.{List, [], _∷_, _++_, append-assoc, append-nil}
 use mathlib.Core.Logic.{⊎-elim}
 use Prim.Native.Nat.{ℕ, _+_, _-_, _≤_, _<_}
@@ -11,11 +11,11 @@ use native.Mathlib.Numerals.{add-one}
 use native.Mathlib.Nat.{add-zero}
 use native.Mathlib.Omega.{arith}
 use borrow.Author.Tests.{lt-ltb, le-ltb}
-use lib.Dec.{T, ltb}
-use lib.ListN.{length, getD, take, drop, set, length-append, length-take, length-drop, length-set}
+use lib.Dec.{ltb}
+use lib.ListN.{length, getD, take, drop, set, length-append, length-drop, length-set}
 use lib.Seq.{slice, slice-empty, length-slice, length-take-le, take-suc-set, take-add, take-at, drop-at, drop-set-lt, drop-drop, getD-drop}
-use Rattle.lists.specs.Lists.{In, put, keep}
-use Rattle.lists.proofs.Keep.{keep-same, keep-all, keep-keep, keep-append}
+use Rattle.lists.specs.Lists.{put, keep}
+use Rattle.lists.proofs.Keep.{keep-all, keep-append}
 use Rattle.lists.proofs.Numbers.{keep-parts}
 use Rattle.lists.proofs.Slices.{keep-slice-more, slice-join, drop-further, slice-further, AllSo}
 use Rattle.lists.proofs.Tests.{ordered}
@@ -52,7 +52,7 @@ module _ (test : Record → Bool) (l : List Record) (from at : ℕ) where
       keeps : keep test (slice from (to + 1) l) ≡ keep test (slice from to l) ++ put (test x) x []
       keeps = rw (read ∙ next-stays) (keep-slice-more test emptyRecord from to l ordered inside)
 
-      pub sifted-fails : test x ≡ false → Sifted test l from (to + 1) at l′ e
+      sifted-fails : test x ≡ false → Sifted test l from (to + 1) at l′ e
       sifted-fails fails =
           let kept : keep test (slice from (to + 1) l) ≡ keep test (slice from to l) = rw (keeps, fails, append-nil) in
           record {
@@ -113,41 +113,6 @@ module _ (l : List Record) (a i : ℕ) (inside : i < a) (fits : a ≤ length l) 
 
       all : keep (λ x. true) (slice (i + 1) a l) ≡ slice (i + 1) a l
       all = keep-all (λ x. true) (slice (i + 1) a l) (λ x m. tt)
-
--- Passes over the first m, one over what the other left, are one by both tests.
-pub sifted-fewer : {test : Record → Bool} {l l′ : List Record} {m r : ℕ} → Sifted test l 0 m 0 l′ r → r ≤ m
-sifted-fewer {test} {l} {m = m} sifted = omega (arith, sifted .count, keep-parts test (take m l), length-take m l)
-
-pub sifted-twice :
-    {f g : Record → Bool} {l l′ l″ : List Record} {m e r : ℕ} → Sifted f l 0 m 0 l′ e → Sifted g l′ 0 e 0 l″ r
-    → Sifted (λ x. f x && g x) l 0 m 0 l″ r
-sifted-twice {f} {g} {l} {l′} {l″} {m} {e} first second =
-    let kept : keep g (take e l′) ≡ keep (λ x. f x && g x) (take m l) = ap (keep g) (first .front) ∙ keep-keep g f (take m l) in
-    record {
-      same-length = second .same-length ∙ first .same-length;
-      front = second .front ∙ kept;
-      count = rw (← kept) (second .count);
-      behind = drop-further e l″ l′ (second .behind) m (sifted-fewer first) ∙ first .behind;
-    }
-
--- a test that every record passes moves none
-pub sifted-all : (test : Record → Bool) (l : List Record) (m : ℕ) → ((x : Record) → T (test x)) → m ≤ length l → Sifted test l 0 m 0 l m
-sifted-all test l m passes inside =
-    let kept : keep test (take m l) ≡ take m l = keep-all test (take m l) (λ x i. passes x) in
-    record { same-length = refl; front = sym kept; count = rw kept (omega (arith, length-take-le m l inside)); behind = refl }
-
--- a test that agrees on the records of the pass
-pub sifted-same :
-    (f g : Record → Bool) {l l′ : List Record} {m r : ℕ} → ((x : Record) → In x (take m l) → f x ≡ g x) → Sifted f l 0 m 0 l′ r
-    → Sifted g l 0 m 0 l′ r
-sifted-same f g {l} {m = m} same sifted =
-    let kept : keep f (take m l) ≡ keep g (take m l) = keep-same f g (take m l) same in
-    record {
-      same-length = sifted .same-length;
-      front = sifted .front ∙ kept;
-      count = rw (← kept) (sifted .count);
-      behind = sifted .behind;
-    }
 
 -- a slide to where the records stand
 pub sifted-still : (l : List Record) (from to : ℕ) → from ≤ to → to ≤ length l → Sifted always l from to from l to

@@ -72,8 +72,8 @@ inSlot l s = getD l (s - 1) emptyRecord
 unfoldable pub slots : ℕ → List Record → List Record
 slots set l = map (inSlot l) (stopsIn set)
 
--- of the stops of a set, `left` has those whose records pass the test
-pub record Thinned (test : Record → Bool) (l : List Record) (set left : ℕ) : Type 0 where
-  pub small : left < 2 ^ mostStops
-  pub among : (s : ℕ) → In s (stopsIn left) → In s (stopsIn set)
-  pub same : slots left l ≡ keep test (slots set l)
+-- of the stops of a set, `kept` has those whose records pass the test
+pub record Thinned (test : Record → Bool) (l : List Record) (set kept : ℕ) : Type 0 where
+  pub small : kept < 2 ^ mostStops
+  pub among : (s : ℕ) → In s (stopsIn kept) → In s (stopsIn set)
+  pub same : slots kept l ≡ keep test (slots set l)

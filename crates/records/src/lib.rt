@@ -1,8 +1,8 @@
 // Node records: a record's six words and the pool's words for a state are document 01's (specs/Records); words are seen as a list of
-// records (specs/Code), and one is read and written here; `order` reads the stops of an order. The functions are public for the crates above
-// and not for hosts; what they require, those crates meet.
+// records (specs/Code), of which one, or a word of one, is read and written here; `order` reads the stops of an order. The functions are public
+// for the crates above and not for hosts; what they require, those crates meet.
 ghost use mathlib.Core.Path.{_≡_};
-ghost use Prim.Native.Nat.{_<_};
+ghost use Prim.Native.Nat.{_-_, _≤_, _<_};
 ghost use lib.ListN.{length, getD, set};
 ghost use Rattle.stops.specs.Code.{emptyRecord};
 ghost use Rattle.records.specs.Code.{records};
@@ -25,6 +25,14 @@ pub fn load(w: &[u32], i: usize) -> Record
         first: w[at + 4],
         second: w[at + 5],
     }
+}
+
+// The slot of a stop among records that stand one for each stop.
+pub fn slot(stop: u32) -> usize
+    requires { ⌜ 1 ≤ stop ⌝ }
+    ensures { λ r. ⌜ r ≡ stop - 1 ⌝ }
+{
+    (stop - 1) as usize
 }
 
 // The size, the set and the bound of record i, each read where it stands.

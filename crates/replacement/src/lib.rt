@@ -81,8 +81,8 @@ pub fn fits(w: &[u32], spot: Spot, change: Change, far: usize, kids: &[u32]) -> 
     requires { ⌜ Changing (records (now w)) spot change (records (now kids)) × (far ≤ spot .active + length (records (now w))) ⌝ }
     ensures { λ r. ⌜ r ≡ leb (length (stayingOf (records (now (w .entry))) spot change (records (now (kids .entry)))) + length (slots (change .alive) (records (now (kids .entry)))) + far) (spot .capacity) ⌝ }
 {
-    let left = count(change.alive);
-    let most = spot.active - 1 + left + far;
+    let new = count(change.alive);
+    let most = spot.active - 1 + new + far;
     if most <= spot.capacity {
         return true;
     }
@@ -90,7 +90,7 @@ pub fn fits(w: &[u32], spot: Spot, change: Change, far: usize, kids: &[u32]) -> 
         return false;
     }
     let stay = remaining(w, spot, change, kids);
-    stay + left + far <= spot.capacity
+    stay + new + far <= spot.capacity
 }
 
 // Parts 6 and 7 where some active records may go: what stays of them, then the children that survive.

@@ -6,11 +6,11 @@
 --   free-append, apart               a record is free of two joined lists if it is of each, and of children that it is not near
 --   gathered-none, gathered-run, gathered-passes    gathering goes from one near record to the next
 --   thinned-unsearched, thinned-near, thinned-out   passes by what was gathered of one slice after another are one pass by the whole slice
-use mathlib.Core.Path.{_≡_, refl, ap, sym, subst, _∙_}
+use mathlib.Core.Path.{_≡_, refl, ap, _∙_}
 use mathlib.Core.Bool.{Bool, true, false, not, _&&_, _||_, and-false}
 use mathlib.Core.List.{List, [], _++_, append-nil}
 use mathlib.Core.Logic.{_⊎_, inl, inr, _≢_}
-use Prim.Native.Nat.{ℕ, _+_, _-_, _*_, _%_, _^_, _≤_, _<_}
+use Prim.Native.Nat.{ℕ, _+_, _*_, _%_, _^_, _≤_, _<_}
 use native.Mathlib.Numerals.{add-one}
 use native.Mathlib.Omega.{arith}
 use borrow.Author.Tests.{ne-eqb}
@@ -86,11 +86,11 @@ near-holds t x h =
     omega (arith, and-le-l (x .set) (t .base))
 
 module _ {t : Test} {alive : ℕ} {kids : List Record} (f : Siblings t alive kids) where
-  pub sibling-near : (x : Record) → In x (slots alive kids) → T (near t x)
+  sibling-near : (x : Record) → In x (slots alive kids) → T (near t x)
   unfolding near
   sibling-near x i =
       let (s, m, e) = in-slots kids alive x i in
-      rw (e, f .sets s m, f .sizes s m, f .lacks s m)
+      rw (e, f .sets s m, f .sizes s m, f .holds s m)
       (and-both (eqb (t .base) (t .base)) (eqb (t .size) (t .size)) (eqb-refl (t .base)) (eqb-refl (t .size)))
 
   pub siblings-less : {left : ℕ} → left < 2 ^ mostStops → ((s : ℕ) → In s (stopsIn left) → In s (stopsIn alive)) → Siblings t left kids
@@ -99,12 +99,12 @@ module _ {t : Test} {alive : ℕ} {kids : List Record} (f : Siblings t alive kid
     room = f .room;
     sizes = λ s i. f .sizes s (among s i);
     sets = λ s i. f .sets s (among s i);
-    lacks = λ s i. f .lacks s (among s i);
+    holds = λ s i. f .holds s (among s i);
   }
 
   -- whatever the limit is
   pub siblings-limit : (limit : ℕ) → Siblings (record { size = t .size; base = t .base; limit = limit }) alive kids
-  siblings-limit limit = record { small = f .small; room = f .room; sizes = f .sizes; sets = f .sets; lacks = f .lacks }
+  siblings-limit limit = record { small = f .small; room = f .room; sizes = f .sizes; sets = f .sets; holds = f .holds }
 
   -- a record that is not near is dominated by none of them
   pub apart : (x : Record) → near t x ≡ false → any (λ y. recDominates y x) (slots alive kids) ≡ false

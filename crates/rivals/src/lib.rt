@@ -1,25 +1,24 @@
 // Which children a record of the pool dominates: rules 2 and 4; `near` and `beats` serve rule 8 too. A child's record is read where it
 // stands, in the slot of its stop. The functions are public for the crates above and not for hosts; what they require, those crates meet.
 ghost use mathlib.Core.Path.{_≡_};
-ghost use mathlib.Core.Bool.{false, _&&_};
+ghost use mathlib.Core.Bool.{false};
 ghost use Prim.Native.Nat.{_+_, _^_, _≤_, _<_};
-ghost use lib.Dec.{leb};
 ghost use lib.ListN.{length, getD, take};
 ghost use lib.Seq.{slice};
 ghost use Rattle.sizes.specs.Sizes.{mostStops};
 ghost use Rattle.lists.specs.Lists.{any};
 ghost use Rattle.stops.specs.Code.{emptyRecord, recDominates};
 ghost use Rattle.records.specs.Code.{records, RunsTo, Thinned};
-ghost use Rattle.rivals.specs.Code.{isFree, near, Siblings, Gathering};
+ghost use Rattle.rivals.specs.Code.{isRival, isFree, near, Siblings, Gathering};
 use records::bound_at;
 use records::load;
 use records::set_at;
 use records::size_at;
+use records::slot;
 use records::store;
 use sizes::RECORD_WORDS;
 use stops::sets::later;
 use stops::sets::next;
-use stops::sets::slot;
 use stops::sets::with;
 
 // The least value that a word does not hold, and the mask of a word's bits.
@@ -32,7 +31,7 @@ const ROOM: usize = 32;
 
 const ROOM_WORDS: usize = ROOM * RECORD_WORDS;
 
-// What the pool's records are held against: children of one size whose sets hold the set of their parent, `base`, and the limit of rule 1.
+// What the pool's records are held against: children of one size whose sets hold the set of their parent, `base`, and a limit on bounds.
 pub struct Test {
     pub size: u32,
     pub base: u32,
@@ -53,7 +52,7 @@ pub fn beats(w: &[u32], i: usize, v: &[u32], k: usize) -> bool
 // Whether record i of w has a bound up to limit and dominates record k of v.
 fn rival(w: &[u32], i: usize, v: &[u32], k: usize, limit: u32) -> bool
     requires { ⌜ (i < length (records (now w))) × (k < length (records (now v))) ⌝ }
-    ensures { λ r. ⌜ r ≡ (leb (getD (records (now (w .entry))) i emptyRecord .bound) limit && recDominates (getD (records (now (w .entry))) i emptyRecord) (getD (records (now (v .entry))) k emptyRecord)) ⌝ }
+    ensures { λ r. ⌜ r ≡ isRival limit (getD (records (now (v .entry))) k emptyRecord) (getD (records (now (w .entry))) i emptyRecord) ⌝ }
 {
     if beats(w, i, v, k) {
         return bound_at(w, i) <= limit;
@@ -181,17 +180,17 @@ fn unrivalled_with(
     requires { ⌜ Siblings test alive (records (now kids)) × (((from ≤ to) × (to ≤ length (records (now w)))) × (32 ≤ length (records (now buffer)))) ⌝ }
     ensures { λ r. ⌜ Thinned (isFree (test .limit) (slice from to (records (now (w .entry))))) (records (now (kids .entry))) alive r ⌝ }
 {
-    let mut left = alive;
+    let mut kept = alive;
     let mut at = from;
     while at < to {
-        if left == 0 {
+        if kept == 0 {
             return 0;
         }
         let g = gather(w, at, to, test, buffer, ROOM);
-        left = undominated(kids, left, buffer, g.count, test.limit);
+        kept = undominated(kids, kept, buffer, g.count, test.limit);
         at = g.next;
     }
-    left
+    kept
 }
 
 // Rules 2 and 4 on the children by the stops of `alive`: those that no record of w, from `from` to `to`, with a bound up to the limit

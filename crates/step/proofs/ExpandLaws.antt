@@ -2,16 +2,15 @@
 use mathlib.Core.Path.{_≡_, sym, _∙_, ap, subst}
 use mathlib.Core.Bool.{cond}
 use mathlib.Core.List.{List}
-use mathlib.Core.Option.{Option}
 use Prim.Native.Nat.{ℕ, _+_, _/_}
 use native.Mathlib.Omega.{arith}
 use lib.ListN.{length}
 use Rattle.sizes.specs.Sizes.{noLimit, recordWords}
-use Rattle.search.specs.Step.{on, learn}
+use Rattle.search.specs.Step.{on}
 use Rattle.stops.specs.declared.node_record.Record.{Record}
 use Rattle.records.specs.Code.{records, slots}
 use Rattle.records.proofs.ViewLaws.{length-records}
-use Rattle.children.specs.Code.{Table, Born, recProblem, IsBest, othersIn, farIn, Spotted, Surviving}
+use Rattle.children.specs.Code.{Table, Born, Learnt, othersIn, farIn, Spotted, Surviving}
 use Rattle.children.specs.declared.setting.Setting.{Setting}
 use Rattle.children.specs.declared.spot.Spot.{Spot}
 use Rattle.children.proofs.FamilyLaws.{born-slots}
@@ -36,13 +35,13 @@ module _ {d : Setting} {t : Table} {w : List ℕ} {i : ℕ} {b : Record} {r : Ru
 
   pub expansion-made :
       (e : Expanded) {p : Spot} {kids : List Record} → p ≡ spotOf w i r → Born d t b (e .born) kids
-      → ((t′ : Table) (o : Option Record) → IsBest (r .best) o → IsBest (e .best) (learn (recProblem d t′) o (slots (e .born) kids)))
+      → Learnt d (r .best) (slots (e .born) kids) (e .best)
       → e .test ≡ record { size = b .size + 1; base = b .set; limit = cond (on 1 (d .rules)) (e .best .upper) noLimit }
       → Surviving (d .rules) (e .test .limit) (othersIn (records w) (p .active) (p .at)) (farIn (records w) (p .far)) kids (e .born) (e .alive)
       → Expansion d t w i b r e kids
   expansion-made e same born learnt tests surviving = record {
     children = born;
-    learnt = λ o h. subst (λ (xs : List Record). IsBest (e .best) (learn (recProblem d t) o xs)) (born-slots (ready .rows) (ready .encoded) born) (learnt t o h);
+    learnt = subst (λ (xs : List Record). Learnt d (r .best) xs (e .best)) (born-slots (ready .rows) (ready .encoded) born) learnt;
     tests = tests;
     surviving = rw same at surviving;
   }

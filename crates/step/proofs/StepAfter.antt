@@ -108,7 +108,7 @@ module _
       far = shown-far;
       far-count = count-far (on 4 (d .rules)) refl (shown .far-count);
       fits = omega (arith, whole, put .count);
-      best = made .learnt (s .best) (shown .best);
+      best = made .learnt t (s .best) (shown .best);
       branched = omega (arith, shown .branched, length-append (s .branched) (b ∷ []));
       generated = omega (arith, shown .generated, all);
       eliminated = count-eliminated;

@@ -88,7 +88,7 @@ module _
       unfolding best₂ children₁ recProblem
       same-limit =
           ap (λ (u : ℕ). cond (on 1 rules) u noLimit)
-          (upper-best d t (e .best) (learn Q (s .best) (childrenOf d t b)) (made .learnt (s .best) (shown .best)))
+          (upper-best d t (e .best) (learn Q (s .best) (childrenOf d t b)) (made .learnt t (s .best) (shown .best)))
           ∙ sym limited
 
       same-survivors : children₅ Q D s b rest ≡ slots (e .alive) kids

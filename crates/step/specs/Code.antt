@@ -7,19 +7,18 @@
 use mathlib.Core.Path.{_≡_}
 use mathlib.Core.Bool.{Bool, true, false, not, cond, _&&_}
 use mathlib.Core.List.{List, [], reverse}
-use mathlib.Core.Option.{Option}
 use Prim.Native.Nat.{ℕ, _+_, _-_, _^_, _≤_, _<_, max}
 use lib.Dec.{T, eqb, ltb}
 use lib.ListN.{length, getD, take}
 use Rattle.sizes.specs.Sizes.{noLimit}
 use Rattle.lists.specs.Lists.{In, dropAt}
 use Rattle.search.specs.Problem.{State}
-use Rattle.search.specs.Step.{on, learn, step}
+use Rattle.search.specs.Step.{on, step}
 use Rattle.search.specs.Run.{held}
 use Rattle.stops.specs.Code.{emptyRecord}
 use Rattle.stops.specs.declared.node_record.Record.{Record}
 use Rattle.records.specs.Code.{records}
-use Rattle.children.specs.Code.{Table, Rows, Encoded, Born, childrenOf, recProblem, recChoices, IsBest, othersIn, farIn, Surviving}
+use Rattle.children.specs.Code.{Table, Rows, Encoded, Born, childrenOf, recProblem, recChoices, IsBest, Learnt, othersIn, farIn, Surviving}
 use Rattle.children.specs.declared.best.Best.{Best}
 use Rattle.children.specs.declared.setting.Setting.{Setting}
 use Rattle.children.specs.declared.spot.Spot.{Spot}
@@ -65,7 +64,7 @@ spotOf w i r = record { capacity = length (records w); active = r .active; at = 
 -- what parts 1 to 5 give: the children in their slots, U and the limit of rule 1 after part 2, and the survivors
 pub record Expansion (d : Setting) (t : Table) (w : List ℕ) (i : ℕ) (b : Record) (r : Run) (e : Expanded) (kids : List Record) : Type 0 where
   pub children : Born d t b (e .born) kids
-  pub learnt : (o : Option Record) → IsBest (r .best) o → IsBest (e .best) (learn (recProblem d t) o (childrenOf d t b))
+  pub learnt : Learnt d (r .best) (childrenOf d t b) (e .best)
   pub tests :
       e .test ≡ record { size = b .size + 1; base = b .set; limit = cond (on 1 (d .rules)) (e .best .upper) noLimit }
   pub surviving : Surviving (d .rules) (e .test .limit) (othersIn (records w) (r .active) i) (farIn (records w) (r .far)) kids (e .born) (e .alive)

@@ -24,14 +24,10 @@ use replacement::holding;
 use replacement::replace;
 use replacement::taking_of;
 use rivals::Test;
-use sizes::ORDER_PLACES;
 use sizes::PLACES;
 use sizes::RECORD_WORDS;
 use stops::node_record::Record;
 use stops::sets::count;
-
-// Words for a record for each stop.
-pub const FAMILY_WORDS: usize = ORDER_PLACES * RECORD_WORDS;
 
 // Where a run stands beside the pool: how many active records stand at its front and how many branched ones at its far end, U with
 // its order, and the counts.

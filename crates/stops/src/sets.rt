@@ -46,11 +46,3 @@ pub fn count(set: u32) -> usize
 {
     u32::count_ones(set) as usize
 }
-
-// The slot of a stop among records that stand one for each stop.
-pub fn slot(stop: u32) -> usize
-    requires { ⌜ 1 ≤ stop ⌝ }
-    ensures { λ r. ⌜ r ≡ stop - 1 ⌝ }
-{
-    (stop - 1) as usize
-}

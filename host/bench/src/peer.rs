@@ -1,6 +1,7 @@
 //! An unverified planner written for speed, with the same passes as the proved one: a pass for the least bound, one for
-//! the children's rivals, one for the active nodes that go. Everything is in place, the branched nodes at the far end
-//! of the pool. It checks nothing of a job and is here to be timed.
+//! the children's rivals, one for the active nodes that go. Each child is written to the slot of its stop and tested
+//! there, and a set of stops says which are left; these are copied to the pool once. The active nodes are in place, the
+//! branched ones at the far end of the pool. It checks nothing of a job and is here to be timed.
 
 mod node;
 
@@ -8,7 +9,7 @@ use std::time::Instant;
 
 use gondamuy::{MOST_STOPS, RECORD_WORDS};
 
-use node::{ahead, beaten, family, Kin, BOUND, NONE, SIZE};
+use node::{ahead, beaten, dominates, family, first, Kin, Stops, BOUND, NONE, SIZE};
 pub use node::{Job, Record, Rows};
 
 /// How many of the children's rivals are gathered at a time.
@@ -76,32 +77,28 @@ fn select(job: &Job, active: &[Record]) -> usize {
     }
 }
 
-/// Moves those of the first m children that pass the test to the front.
+/// The stops of `alive` whose children pass the test.
 #[inline(always)]
-fn kept(kids: &mut [Record; MOST_STOPS], m: usize, test: impl Fn(&Record) -> bool) -> usize {
+fn passing(kids: &[Record; MOST_STOPS], alive: u32, test: impl Fn(&Record) -> bool) -> u32 {
     let mut left = 0;
-    for k in 0..m {
-        let x = *at(kids, k);
-        if test(&x) {
-            // SAFETY: left is at most k, which is below m.
-            unsafe { *kids.get_unchecked_mut(left) = x };
-            left += 1;
-        }
+    for s in Stops(alive) {
+        left |= (test(at(kids, s - 1)) as u32) << (s - 1);
     }
     left
 }
 
-/// Rules 2 and 4: keeps the children that none of the records with a bound up to `limit` dominates. One walk gathers the
-/// few that can; whenever the place for them is full, and at the end, the children are tested against those.
+/// Rules 2 and 4: the stops of `alive` whose children none of the records with a bound up to `limit` dominates. One
+/// walk gathers the few that can; whenever the place for them is full, and at the end, the children are tested against
+/// those.
 fn undominated(
-    kids: &mut [Record; MOST_STOPS],
-    m: usize,
+    kids: &[Record; MOST_STOPS],
+    alive: u32,
     kin: Kin,
     records: &[Record],
     limit: u32,
     rivals: &mut [Record; RIVALS],
-) -> usize {
-    let (mut left, mut i) = (m, 0);
+) -> u32 {
+    let (mut left, mut i) = (alive, 0);
     while left != 0 && i < records.len() {
         let mut gathered = 0;
         while gathered < RIVALS {
@@ -114,18 +111,34 @@ fn undominated(
             gathered += 1;
             i += 1;
         }
-        left = kept(kids, left, |x| !beaten(&rivals[..gathered], x, limit));
+        left = passing(kids, left, |x| !beaten(&rivals[..gathered], x, limit));
     }
     left
 }
 
-/// Rules 1 and 8: of the records from `from` to `to`, moves those that stay active to `end` and behind it, a run at a
+/// Rule 8: whether a child by a stop of `alive` dominates x, which is of the kin. Only the one by the stop that x has
+/// beyond b's can.
+#[inline(always)]
+fn displaced(x: &Record, kin: Kin, kids: &[Record; MOST_STOPS], alive: u32) -> bool {
+    let own = kin.beyond(x) & alive;
+    own != 0 && dominates(at(kids, first(own) - 1), x)
+}
+
+/// Rules 1 and 8: of the pool's records from `from` on, moves those that stay active to `end` and behind it, a run at a
 /// time.
-fn squeeze(pool: &mut [Record], from: usize, to: usize, end: usize, limit: u32, kin: Kin, kids: &[Record]) -> usize {
+fn squeeze(
+    pool: &mut [Record],
+    from: usize,
+    end: usize,
+    limit: u32,
+    kin: Kin,
+    kids: &[Record; MOST_STOPS],
+    alive: u32,
+) -> usize {
     let (mut from, mut i, mut end) = (from, from, end);
     loop {
-        i = find(&pool[..to], i, |x| (x[BOUND] > limit) | kin.has(x));
-        if i < to && at(pool, i)[BOUND] <= limit && !beaten(kids, at(pool, i), NONE) {
+        i = find(pool, i, |x| (x[BOUND] > limit) | kin.has(x));
+        if i < pool.len() && at(pool, i)[BOUND] <= limit && !displaced(at(pool, i), kin, kids, alive) {
             i += 1;
             continue;
         }
@@ -133,7 +146,7 @@ fn squeeze(pool: &mut [Record], from: usize, to: usize, end: usize, limit: u32, 
             pool.copy_within(from..i, end);
         }
         end += i - from;
-        if i == to {
+        if i == pool.len() {
             return end;
         }
         i += 1;
@@ -153,36 +166,39 @@ struct Run<'a> {
 }
 
 impl Run<'_> {
-    /// Parts 1 to 5 of the step of b: the limit of rule 1, and how many children survive.
-    fn expand(&mut self, b: &Record, kin: Kin) -> (u32, usize) {
-        let mut m = family(self.job, b, &mut self.kids);
+    /// Parts 1 to 5 of the step of b: the limit of rule 1, and the stops of the children that survive.
+    fn expand(&mut self, b: &Record, kin: Kin) -> (u32, u32) {
+        let mut alive = family(self.job, b, &mut self.kids);
         if b[SIZE] + 1 == self.job.n {
-            self.upper = self.upper.min(self.kids[0][BOUND]);
+            self.upper = self.upper.min(at(&self.kids, first(alive) - 1)[BOUND]);
         }
         let limit = if self.job.rule(1) { self.upper } else { NONE };
-        m = kept(&mut self.kids, m, |x| x[BOUND] <= limit);
+        alive = passing(&self.kids, alive, |x| x[BOUND] <= limit);
         if self.job.rule(2) {
-            m = undominated(&mut self.kids, m, kin, &self.pool[..self.active], limit, &mut self.rivals);
+            alive = undominated(&self.kids, alive, kin, &self.pool[..self.active], limit, &mut self.rivals);
         }
         if self.job.rule(4) {
             let branched = self.pool.len() - self.far;
-            m = undominated(&mut self.kids, m, kin, &self.pool[branched..], NONE, &mut self.rivals);
+            alive = undominated(&self.kids, alive, kin, &self.pool[branched..], NONE, &mut self.rivals);
         }
-        (limit, m)
+        (limit, alive)
     }
 
     /// Parts 6 and 7 of the step of b, which stands at i. `fell` says that U did.
-    fn replace(&mut self, i: usize, b: &Record, kin: Kin, limit: u32, m: usize, fell: bool) {
-        let taking = if self.job.rule(8) { m } else { 0 };
+    fn replace(&mut self, i: usize, b: &Record, kin: Kin, limit: u32, alive: u32, fell: bool) {
+        let taking = if self.job.rule(8) { alive } else { 0 };
         if taking == 0 && !(self.job.rule(1) && fell) {
             self.pool.copy_within(i + 1..self.active, i);
             self.active -= 1;
         } else {
-            let before = squeeze(self.pool, 0, i, 0, limit, kin, &self.kids[..taking]);
-            self.active = squeeze(self.pool, i + 1, self.active, before, limit, kin, &self.kids[..taking]);
+            let before = squeeze(&mut self.pool[..i], 0, 0, limit, kin, &self.kids, taking);
+            self.active = squeeze(&mut self.pool[..self.active], i + 1, before, limit, kin, &self.kids, taking);
         }
-        self.pool[self.active..self.active + m].copy_from_slice(&self.kids[..m]);
-        self.active += m;
+        for s in Stops(alive) {
+            // SAFETY: a step is taken only where the pool has room for MOST_STOPS more records.
+            unsafe { *self.pool.get_unchecked_mut(self.active) = *at(&self.kids, s - 1) };
+            self.active += 1;
+        }
         if self.job.rule(4) {
             self.far += 1;
             let place = self.pool.len() - self.far;
@@ -215,8 +231,8 @@ pub fn plan(job: &Job, upper: u32, pool: &mut [Record], deadline: Instant) -> Op
             return None;
         }
         let (kin, was) = (Kin::of(&b), run.upper);
-        let (limit, m) = run.expand(&b, kin);
-        run.replace(i, &b, kin, limit, m, run.upper < was);
+        let (limit, alive) = run.expand(&b, kin);
+        run.replace(i, &b, kin, limit, alive, run.upper < was);
         branched += 1;
         most = most.max(run.active);
         records = records.max(run.active + run.far);

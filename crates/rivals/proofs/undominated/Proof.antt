@@ -2,27 +2,22 @@
 -- one's: `kept` has the stops passed whose children have no rival (`Thinning`). A rival at i decides that its child is left out, so `continue`
 -- leaves no more to show than that.
 use mathlib.Core.Path.{_≡_, ap, _∙_}
-use mathlib.Core.Bool.{Bool, true, false, _&&_}
+use mathlib.Core.Bool.{Bool, true, false}
 use mathlib.Core.List.{List}
 use Prim.Native.Nat.{ℕ, _+_, _-_, _^_, _≤_, _<_}
 use native.Mathlib.Omega.{arith}
-use lib.Dec.{leb}
 use lib.ListN.{length, getD, take}
 use lib.Seq.{slice}
 use Rattle.lists.specs.Lists.{any}
 use Rattle.lists.proofs.Slices.{any-slice-none, any-slice-more, any-slice-found}
-use Rattle.stops.specs.Code.{emptyRecord, recDominates}
+use Rattle.stops.specs.Code.{emptyRecord}
 use Rattle.stops.specs.declared.node_record.Record.{Record}
 use Rattle.stops.proofs.SetLoops.{First, first-out, first-later}
 use Rattle.records.specs.Code.{records, inSlot}
 use Rattle.records.proofs.SlotLaws.{slot-inside, Thinning, thinning-starts, thinning-keeps, thinning-drops, thinning-ends}
-use Rattle.rivals.specs.Code.{isFree}
+use Rattle.rivals.specs.Code.{isRival, isFree}
 use Rattle.rivals.proofs.undominated.Statement.{statement}
 use Rattle.rivals.proofs.undominated.Tie as tie
-
--- y has a bound up to limit and dominates x
-abbrev isRival : ℕ → Record → Record → Bool
-isRival limit x y = leb (y .bound) limit && recDominates y x
 
 module _ (limit : ℕ) (x : Record) (l : List Record) where
   -- none of the first `to` records of l is a rival of x

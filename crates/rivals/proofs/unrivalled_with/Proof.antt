@@ -1,4 +1,4 @@
--- `unrivalled_with` meets its contract. The loop's invariant: `left` has the stops whose children no record from `from` to `at` rules out.
+-- `unrivalled_with` meets its contract. The loop's invariant: `kept` has the stops whose children no record from `from` to `at` rules out.
 use mathlib.Core.Path.{_≡_, refl}
 use Prim.Native.Nat.{_-_, _≤_}
 use native.Mathlib.Omega.{arith}
@@ -12,12 +12,12 @@ use Rattle.rivals.proofs.unrivalled_with.Statement.{statement}
 use Rattle.rivals.proofs.unrivalled_with.Tie as tie
 
 abbrev Inv-loop : tie.InvT-loop
-Inv-loop kids alive w from to test buffer₀ left₀ at₀ buffer left at =
+Inv-loop kids alive w from to test buffer₀ kept₀ at₀ buffer kept at =
     ((from ≤ at) × (at ≤ to))
-    × ((length buffer ≡ length buffer₀) × Thinned (isFree (test .limit) (slice from at (records w))) (records kids) alive left)
+    × ((length buffer ≡ length buffer₀) × Thinned (isFree (test .limit) (slice from at (records w))) (records kids) alive kept)
 
 abbrev μ-loop : tie.MeasureT-loop
-μ-loop kids alive w from to test buffer₀ left₀ at₀ buffer left at = to - at
+μ-loop kids alive w from to test buffer₀ kept₀ at₀ buffer kept at = to - at
 
 -- the places before: the entry, seen from the loop's head, and that, seen from where records are gathered
 abbrev entry : tie.At-loop Inv-loop μ-loop → tie.Start Inv-loop μ-loop

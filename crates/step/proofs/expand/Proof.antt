@@ -1,12 +1,10 @@
 -- `expand` meets its contract: what its callees ensure is what `Expansion` gathers (`ExpandLaws`).
-use mathlib.Core.Path.{_≡_, ap}
+use mathlib.Core.Path.{ap}
 use mathlib.Core.List.{List}
-use Prim.Native.Nat.{ℕ, _+_, _≤_}
+use Prim.Native.Nat.{ℕ, _+_}
 use native.Mathlib.Omega.{arith}
 use borrow.Author.Needs.{needs}
-use lib.ListN.{length}
 use Rattle.records.specs.Code.{records}
-use Rattle.rivals.specs.declared.Test.{Test}
 use Rattle.children.specs.Code.{Born}
 use Rattle.children.proofs.FamilyLaws.{born-siblings, born-size}
 use Rattle.step.proofs.ExpandLaws.{spotted-there, expansion-made}

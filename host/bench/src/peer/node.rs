@@ -41,7 +41,7 @@ fn last(x: &Record) -> usize {
 }
 
 #[inline(always)]
-fn dominates(y: &Record, z: &Record) -> bool {
+pub fn dominates(y: &Record, z: &Record) -> bool {
     y[SET] == z[SET] && y[PATH] <= z[PATH] && last(y) == last(z) && (y[4] != z[4] || y[5] != z[5])
 }
 
@@ -74,15 +74,21 @@ impl Kin {
     pub fn has(self, x: &Record) -> bool {
         ((x[SET] as u64) << 32 | x[SIZE] as u64) & self.mask == self.is
     }
+
+    /// The set of the one stop that x, which is such a record, has beyond b's.
+    #[inline(always)]
+    pub fn beyond(self, x: &Record) -> u32 {
+        x[SET] - (self.is >> 32) as u32
+    }
 }
 
 #[inline(always)]
-fn first(set: u32) -> usize {
+pub fn first(set: u32) -> usize {
     set.trailing_zeros() as usize + 1
 }
 
 /// The stops of a set, lowest first.
-struct Stops(u32);
+pub struct Stops(pub u32);
 
 impl Iterator for Stops {
     type Item = usize;
@@ -126,11 +132,10 @@ pub fn ahead(job: &Job, place: usize, rest: u32) -> u32 {
     sum + Stops(rest).fold(NONE, |home, s| home.min(job.leg(s, 0)))
 }
 
-/// Writes b's children and says how many there are.
-pub fn family(job: &Job, b: &Record, kids: &mut [Record; MOST_STOPS]) -> usize {
+/// Writes each child of b to the slot of its stop and gives the set of these stops: all that b leaves.
+pub fn family(job: &Job, b: &Record, kids: &mut [Record; MOST_STOPS]) -> u32 {
     let rest = (1u32 << job.n) - 1 - b[SET];
     let place = last(b);
-    let mut m = 0;
     for s in Stops(rest) {
         let mut x = *b;
         x[SET] |= 1 << (s - 1);
@@ -143,9 +148,8 @@ pub fn family(job: &Job, b: &Record, kids: &mut [Record; MOST_STOPS]) -> usize {
         }
         x[SIZE] += 1;
         x[BOUND] = x[PATH] + ahead(job, s, rest & !(1 << (s - 1)));
-        // SAFETY: a set has no more than MOST_STOPS stops.
-        unsafe { *kids.get_unchecked_mut(m) = x };
-        m += 1;
+        // SAFETY: no stop is above MOST_STOPS.
+        unsafe { *kids.get_unchecked_mut(s - 1) = x };
     }
-    m
+    rest
 }

@@ -9,17 +9,17 @@ use Rattle.children.proofs.best.better.Statement.{statement}
 use Rattle.children.proofs.best.better.Tie as tie
 
 returns : tie.Need-returns
-returns c d t o e =
+returns c d e =
     let a = c .before .before .before .before .args in
     let x = getD (records (a .kids .now)) (a .k) emptyRecord in
-    learn-keeps d (a .best) x (rw (← c .before .before .bound-at .ensures) (c .if1 .taken)) t o
+    learn-keeps d (a .best) x (rw (← c .before .before .bound-at .ensures) (c .if1 .taken))
 
 returns-2 : tie.Need-returns-2
-returns-2 c d t o e =
+returns-2 c d e =
     let l = c .before in
     let a = l .before .before .before .before .args in
     let x = getD (records (a .kids .now)) (a .k) emptyRecord in
-    rw (c .load .ensures) (learn-replaces d (a .best) x e (rw (← l .before .before .bound-at .ensures) (l .if1 .left)) t o)
+    rw (c .load .ensures) (learn-replaces d (a .best) x e (rw (← l .before .before .bound-at .ensures) (l .if1 .left)))
 
 pub better-spec : {M : Type 1} → statement M
 better-spec = tie.close (tie.spec (λ c κs. search needs) returns (λ c κs. search needs) returns-2)

@@ -58,7 +58,7 @@ loop-again c =
     let n = slot .before .before in
     let l = head n in
     learning-again (l .loop .inv) (first n) (rest-left (slot .before)) (entry l .pre .1)
-    (λ d complete t o. rw (slot .slot .ensures) at (c .better .ensures d t o) complete)
+    (λ d. rw (slot .slot .ensures) at (c .better .ensures d))
 
 returns-2 : tie.Need-returns-2 Inv-loop μ-loop
 returns-2 c = let l = c .before in learning-ends (l .loop .inv) (c .loop-test .left) (entry l .args .setting) (l .before .if1 .left)

@@ -1,5 +1,5 @@
 -- `family::family` meets its contract. The loop's invariant: `rest` is the set of the stops that b leaves, the slice keeps its length, and
--- the children by the stops passed stand in their slots (`Placed`). The measure is the set of the stops left, as a number.
+-- the children by the stops passed stand in their slots (`Placing`). The measure is the set of the stops left, as a number.
 use mathlib.Core.Path.{_≡_, refl, _∙_}
 use Prim.Native.Nat.{_+_, _-_, _*_, _^_, _%_, _≤_, _<_}
 use native.Mathlib.Omega.{arith}
@@ -11,13 +11,13 @@ use Rattle.records.specs.Code.{records}
 use Rattle.records.proofs.Mask.{rest-small}
 use Rattle.records.proofs.SlotLaws.{slot-inside}
 use Rattle.children.specs.Code.{restOf, childOf}
-use Rattle.children.proofs.FamilyLaws.{rest-sum, Placed, placed-starts, placed-again, placed-ends}
+use Rattle.children.proofs.FamilyLaws.{rest-sum, Placing, placing-starts, placing-again, placing-ends}
 use Rattle.children.proofs.family.family.Statement.{statement}
 use Rattle.children.proofs.family.family.Tie as tie
 
 abbrev Inv-loop : tie.InvT-loop
 Inv-loop setting b kids₀ t place rest left₀ kids left =
-    (rest ≡ restOf setting b) × (length kids ≡ length kids₀) × Placed (childOf setting t b) (restOf setting b) (records kids) left
+    (rest ≡ restOf setting b) × (length kids ≡ length kids₀) × Placing (childOf setting t b) (restOf setting b) (records kids) left
 
 abbrev μ-loop : tie.MeasureT-loop
 μ-loop setting b kids₀ t place rest left₀ kids left = left
@@ -51,7 +51,7 @@ loop-holds c =
     let a = entry last .args in
     let p = entry last .pre in
     let e : 1 * 2 ^ a .setting .n % 2 ^ 32 - 1 - a .b .set ≡ restOf (a .setting) (a .b) = omega (arith, sums last) in
-    (e, refl, placed-starts e (rest-small (a .setting .n) (p .0 .few) (a .b .set)) (p .1 .1))
+    (e, refl, placing-starts e (rest-small (a .setting .n) (p .0 .few) (a .b .set)) (p .1 .1))
 
 -- what `next` gives is the first of the stops left
 first : (c : tie.After-next Inv-loop μ-loop) → First (head c .loop .left) (c .next .result)
@@ -96,14 +96,14 @@ loop-again c =
     let l = head n .loop in (
       l .inv .0,
       s .store .kept .0 ∙ l .inv .1,
-      placed-again (l .inv .2) (first n) (rest-left (slot .before .before)) (s .before .child .ensures)
+      placing-again (l .inv .2) (first n) (rest-left (slot .before .before)) (s .before .child .ensures)
           (rw (slot .slot .ensures) at (s .store .ensures)),
     )
 
 returns : tie.Need-returns Inv-loop μ-loop
 returns c =
     let l = c .before .loop in
-    record { stops = l .inv .0; each = rw (l .inv .0) (placed-ends (l .inv .2) (c .loop-test .left)); room = l .inv .2 .room }
+    record { stops = l .inv .0; each = rw (l .inv .0) (placing-ends (l .inv .2) (c .loop-test .left)); room = l .inv .2 .room }
 
 pub family-spec : {M : Type 1} → statement M
 family-spec =
