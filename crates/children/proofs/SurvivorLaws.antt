@@ -1,31 +1,25 @@
 -- Laws of the passes of rules 1, 2 and 4 over the children in their slots. A pass keeps what passes its test if its rule is on
 -- (`thinned-on`) and all if it is off (`thinned-off`). Two passes, by the records before i and by those behind i, are one by the records
 -- without that at i (`thinned-around`); one by the records from some place to the end is one by the last ones (`thinned-far`); and three by
--- the rules leave the survivors (`survivors-thinned`), which are no more than the children (`survivors-few`).
-use mathlib.Core.Path.{_≡_, refl, ap, sym, _∙_}
-use mathlib.Core.Bool.{Bool, true, false, not, _&&_, _||_}
+-- the rules are one by `survives` (`survivors-kept`).
+use mathlib.Core.Path.{_≡_, refl, sym}
+use mathlib.Core.Bool.{Bool, true, false, _&&_}
 use mathlib.Core.List.{List}
 use Prim.Native.Nat.{ℕ, suc, _+_, _-_, _^_, _≤_, _<_}
 use native.Mathlib.Numerals.{add-one}
 use native.Mathlib.Omega.{arith}
 use lib.ListN.{length, take, drop}
 use lib.Seq.{slice, take-all, take-take}
-use Rattle.sizes.specs.Sizes.{mostStops, noLimit}
+use Rattle.sizes.specs.Sizes.{mostStops}
 use Rattle.lists.specs.Lists.{keep, dropAt}
 use Rattle.lists.proofs.Keep.{keep-all, keep-keep}
-use Rattle.lists.proofs.Numbers.{keep-parts}
 use Rattle.search.specs.Step.{on}
 use Rattle.stops.specs.declared.node_record.Record.{Record}
-use Rattle.records.specs.Code.{slots, Thinned}
+use Rattle.records.specs.Code.{Thinned}
 use Rattle.records.proofs.SlotLaws.{thinned-all, thinned-twice, thinned-same}
 use Rattle.rivals.specs.Code.{isFree}
 use Rattle.rivals.proofs.RivalLaws.{free-append}
-use Rattle.passes.specs.Code.{isWithin}
-use Rattle.children.specs.Code.{othersIn, farIn, passing, survivorsOf, Surviving}
-
--- the test of a rule's pass: all pass if the rule is off
-abbrev ruled : Bool → (Record → Bool) → Record → Bool
-ruled rule test x = not rule || test x
+use Rattle.children.specs.Code.{othersIn, farIn, passing, survivorsOf, ruled, survives}
 
 module _ {rule : Bool} where
   pub thinned-on :
@@ -58,25 +52,9 @@ passing-keeps : (rule : Bool) (test : Record → Bool) (xs : List Record) → pa
 passing-keeps true test xs = refl
 passing-keeps false test xs = sym (keep-all (λ x. true) xs (λ x i. tt))
 
-module _ (rules limit : ℕ) (others far : List Record) where
-  -- x passes each rule that is on
-  abbrev survives : Record → Bool
-  survives x =
-      ruled (on 1 rules) (isWithin limit) x
-      && (ruled (on 2 rules) (isFree limit others) x && ruled (on 4 rules) (isFree noLimit far) x)
-
-  survivors-kept : (xs : List Record) → survivorsOf rules limit others far xs ≡ keep survives xs
-  unfolding survivorsOf
-  survivors-kept xs = rw (passing-keeps (on 1 rules), passing-keeps (on 2 rules), passing-keeps (on 4 rules), keep-keep, keep-keep)
-
-  -- three passes, each over what the one before it left
-  pub survivors-thinned :
-      {l : List Record} {m r s t : ℕ} → Thinned (ruled (on 1 rules) (isWithin limit)) l m r
-      → Thinned (ruled (on 2 rules) (isFree limit others)) l r s → Thinned (ruled (on 4 rules) (isFree noLimit far)) l s t
-      → Surviving rules limit others far l m t
-  survivors-thinned {l} {m} first second third =
-      let all = thinned-twice first (thinned-twice second third) in
-      record { small = all .small; among = all .among; same = all .same ∙ sym (survivors-kept (slots m l)) }
-
-  pub survivors-few : (xs : List Record) → length (survivorsOf rules limit others far xs) ≤ length xs
-  survivors-few xs = omega (arith, ap length (survivors-kept xs), keep-parts survives xs)
+-- what the three passes leave is what passes each rule that is on
+pub survivors-kept :
+    (rules limit : ℕ) (others far xs : List Record) → survivorsOf rules limit others far xs ≡ keep (survives rules limit others far) xs
+unfolding survivorsOf
+survivors-kept rules limit others far xs =
+    rw (passing-keeps (on 1 rules), passing-keeps (on 2 rules), passing-keeps (on 4 rules), keep-keep, keep-keep)

@@ -9,9 +9,9 @@
 --   Born                              the children of a record, each in the slot of its stop
 --   IsBest, Learnt                    what stands for U and its order, and for them after some children
 --   othersIn, farIn, Spotted          where the active records stand, the one that is branched and those branched before
---   survivorsOf, Surviving            what rules 1, 2 and 4 leave of the children
+--   survivorsOf, survives             what rules 1, 2 and 4 leave of the children, pass by pass and by one test
 use mathlib.Core.Path.{_≡_}
-use mathlib.Core.Bool.{Bool, true, false}
+use mathlib.Core.Bool.{Bool, true, false, not, _&&_, _||_}
 use mathlib.Core.List.{List, map}
 use mathlib.Core.Option.{Option, none, some}
 use Prim.Native.Nat.{ℕ, _+_, _-_, _^_, _≤_, _<_}
@@ -26,7 +26,7 @@ use Rattle.days.specs.Days.{problem, choices}
 use Rattle.stops.specs.Stops.{dayOn}
 use Rattle.stops.specs.Code.{emptyRecord, extended, lastStop, recDominates, stopsIn, reckonOn, Cheap}
 use Rattle.stops.specs.declared.node_record.Record.{Record}
-use Rattle.records.specs.Code.{encode, inSlot, slots}
+use Rattle.records.specs.Code.{encode, inSlot}
 use Rattle.passes.specs.Code.{isWithin}
 use Rattle.rivals.specs.Code.{isFree}
 use Rattle.answer.specs.declared.Job.{Job}
@@ -143,8 +143,12 @@ survivorsOf rules limit others far kids =
     passing (on 4 rules) (isFree noLimit far)
     (passing (on 2 rules) (isFree limit others) (passing (on 1 rules) (isWithin limit) kids))
 
--- of the children by the stops of `born`, `alive` has the survivors
-pub record Surviving (rules limit : ℕ) (others far kids : List Record) (born alive : ℕ) : Type 0 where
-  pub small : alive < 2 ^ mostStops
-  pub among : (s : ℕ) → In s (stopsIn alive) → In s (stopsIn born)
-  pub same : slots alive kids ≡ survivorsOf rules limit others far (slots born kids)
+-- the test of a rule's pass: all pass if the rule is off
+abbrev pub ruled : Bool → (Record → Bool) → Record → Bool
+ruled rule test x = not rule || test x
+
+-- the test of the three passes together, which keeps the same
+abbrev pub survives : ℕ → ℕ → List Record → List Record → Record → Bool
+survives rules limit others far x =
+    ruled (on 1 rules) (isWithin limit) x
+    && (ruled (on 2 rules) (isFree limit others) x && ruled (on 4 rules) (isFree noLimit far) x)

@@ -1,6 +1,6 @@
 // Parts 3, 4 and 5 of a step: which children survive rules 1, 2 and 4.
 ghost use mathlib.Core.Path.{_≡_};
-ghost use mathlib.Core.Bool.{not, cond, _||_};
+ghost use mathlib.Core.Bool.{cond};
 ghost use Prim.Native.Nat.{_^_, _≤_, _<_};
 ghost use lib.ListN.{length};
 ghost use Rattle.sizes.specs.Sizes.{mostStops, noLimit};
@@ -8,7 +8,7 @@ ghost use Rattle.search.specs.Step.{on};
 ghost use Rattle.records.specs.Code.{records, Thinned};
 ghost use Rattle.rivals.specs.Code.{isFree, Siblings};
 ghost use Rattle.passes.specs.Code.{isWithin};
-ghost use Rattle.children.specs.Code.{Spotted, othersIn, farIn, Surviving};
+ghost use Rattle.children.specs.Code.{Spotted, othersIn, farIn, ruled, survives};
 use crate::rules::on;
 use crate::setting::Setting;
 use crate::spot::Spot;
@@ -30,7 +30,7 @@ pub fn limit_of(rules: u32, upper: u32) -> u32
 // Part 3 on the children by the stops of `alive`: those that are left.
 fn by_rule_1(kids: &[u32], alive: u32, rules: u32, limit: u32) -> u32
     requires { ⌜ (alive < 2 ^ mostStops) × (mostStops ≤ length (records (now kids))) ⌝ }
-    ensures { λ r. ⌜ Thinned (λ x. not (on 1 rules) || isWithin limit x) (records (now (kids .entry))) alive r ⌝ }
+    ensures { λ r. ⌜ Thinned (ruled (on 1 rules) (isWithin limit)) (records (now (kids .entry))) alive r ⌝ }
 {
     if on(1, rules) {
         return within(kids, alive, limit);
@@ -41,7 +41,7 @@ fn by_rule_1(kids: &[u32], alive: u32, rules: u32, limit: u32) -> u32
 // Part 4 on the children by the stops of `alive`, by the active records before the branched one and behind it.
 fn by_rule_2(kids: &[u32], alive: u32, w: &[u32], spot: Spot, rules: u32, test: Test) -> u32
     requires { ⌜ Spotted (records (now w)) spot × Siblings test alive (records (now kids)) ⌝ }
-    ensures { λ r. ⌜ Thinned (λ x. not (on 2 rules) || isFree (test .limit) (othersIn (records (now (w .entry))) (spot .active) (spot .at)) x) (records (now (kids .entry))) alive r ⌝ }
+    ensures { λ r. ⌜ Thinned (ruled (on 2 rules) (isFree (test .limit) (othersIn (records (now (w .entry))) (spot .active) (spot .at)))) (records (now (kids .entry))) alive r ⌝ }
 {
     if on(2, rules) {
         let kept = unrivalled(kids, alive, w, 0, spot.at, test);
@@ -53,7 +53,7 @@ fn by_rule_2(kids: &[u32], alive: u32, w: &[u32], spot: Spot, rules: u32, test: 
 // Part 5 on the children by the stops of `alive`, by the branched records, whatever their bounds are.
 fn by_rule_4(kids: &[u32], alive: u32, w: &[u32], spot: Spot, rules: u32, test: Test) -> u32
     requires { ⌜ Spotted (records (now w)) spot × Siblings test alive (records (now kids)) ⌝ }
-    ensures { λ r. ⌜ Thinned (λ x. not (on 4 rules) || isFree noLimit (farIn (records (now (w .entry))) (spot .far)) x) (records (now (kids .entry))) alive r ⌝ }
+    ensures { λ r. ⌜ Thinned (ruled (on 4 rules) (isFree noLimit (farIn (records (now (w .entry))) (spot .far)))) (records (now (kids .entry))) alive r ⌝ }
 {
     if on(4, rules) {
         let from = spot.capacity - spot.far;
@@ -78,7 +78,7 @@ pub fn survivors(
     test: Test,
 ) -> u32
     requires { ⌜ Spotted (records (now w)) spot × Siblings test born (records (now kids)) ⌝ }
-    ensures { λ r. ⌜ Surviving (setting .rules) (test .limit) (othersIn (records (now (w .entry))) (spot .active) (spot .at)) (farIn (records (now (w .entry))) (spot .far)) (records (now (kids .entry))) born r ⌝ }
+    ensures { λ r. ⌜ Thinned (survives (setting .rules) (test .limit) (othersIn (records (now (w .entry))) (spot .active) (spot .at)) (farIn (records (now (w .entry))) (spot .far))) (records (now (kids .entry))) born r ⌝ }
 {
     let within_limit = by_rule_1(kids, born, setting.rules, test.limit);
     let free = by_rule_2(kids, within_limit, w, spot, setting.rules, test);

@@ -8,9 +8,9 @@ use lib.ListN.{length}
 use Rattle.sizes.specs.Sizes.{noLimit, recordWords}
 use Rattle.search.specs.Step.{on}
 use Rattle.stops.specs.declared.node_record.Record.{Record}
-use Rattle.records.specs.Code.{records, slots}
+use Rattle.records.specs.Code.{records, slots, Thinned}
 use Rattle.records.proofs.ViewLaws.{length-records}
-use Rattle.children.specs.Code.{Table, Born, Learnt, othersIn, farIn, Spotted, Surviving}
+use Rattle.children.specs.Code.{Table, Born, Learnt, othersIn, farIn, Spotted, survives}
 use Rattle.children.specs.declared.setting.Setting.{Setting}
 use Rattle.children.specs.declared.spot.Spot.{Spot}
 use Rattle.children.proofs.FamilyLaws.{born-slots}
@@ -37,7 +37,7 @@ module _ {d : Setting} {t : Table} {w : List ℕ} {i : ℕ} {b : Record} {r : Ru
       (e : Expanded) {p : Spot} {kids : List Record} → p ≡ spotOf w i r → Born d t b (e .born) kids
       → Learnt d (r .best) (slots (e .born) kids) (e .best)
       → e .test ≡ record { size = b .size + 1; base = b .set; limit = cond (on 1 (d .rules)) (e .best .upper) noLimit }
-      → Surviving (d .rules) (e .test .limit) (othersIn (records w) (p .active) (p .at)) (farIn (records w) (p .far)) kids (e .born) (e .alive)
+      → Thinned (survives (d .rules) (e .test .limit) (othersIn (records w) (p .active) (p .at)) (farIn (records w) (p .far))) kids (e .born) (e .alive)
       → Expansion d t w i b r e kids
   expansion-made e same born learnt tests surviving = record {
     children = born;

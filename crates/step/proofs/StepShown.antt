@@ -15,6 +15,7 @@ use Rattle.sizes.specs.Sizes.{mostStops, noLimit}
 use Rattle.lists.specs.Lists.{In, keep, dropAt}
 use Rattle.lists.proofs.Tests.{tests, and-left, and-right, and-both}
 use Rattle.lists.proofs.Keep.{keep-all}
+use Rattle.lists.proofs.Numbers.{keep-parts}
 use Rattle.search.specs.Problem.{Problem, Choices, State, upper}
 use Rattle.search.specs.Step.{on, learn, children₁, best₂, children₅, rest₆, active₇, step}
 use Rattle.search.specs.Run.{held, withBranched}
@@ -27,11 +28,11 @@ use Rattle.passes.specs.Code.{isStaying}
 use Rattle.rivals.specs.Code.{Siblings}
 use Rattle.rivals.specs.declared.Test.{Test}
 use Rattle.rivals.proofs.RivalLaws.{siblings-less}
-use Rattle.children.specs.Code.{Table, recProblem, recChoices, childrenOf, survivorsOf, othersIn, farIn}
+use Rattle.children.specs.Code.{Table, recProblem, recChoices, childrenOf, survivorsOf, survives, othersIn, farIn}
 use Rattle.children.specs.declared.setting.Setting.{Setting}
 use Rattle.children.proofs.BestLaws.{upper-best}
 use Rattle.children.proofs.FamilyLaws.{born-slots, born-siblings}
-use Rattle.children.proofs.SurvivorLaws.{survivors-few}
+use Rattle.children.proofs.SurvivorLaws.{survivors-kept}
 use Rattle.replacement.specs.Code.{stayingOf, Changing}
 use Rattle.step.specs.Code.{farOf, Ready, Shown, Expansion, spotOf, changeOf, farAfter, stepOf}
 use Rattle.step.specs.declared.Expanded.{Expanded}
@@ -96,6 +97,7 @@ module _
       same-survivors =
           survivors-are d t s b rest far rest-bounded (λ x h. small x (in-drop (length (records w) - r .far) (records w) x h)) (shown .far)
           ∙ ap₂ (λ (u : ℕ) (xs : List Record). survivorsOf rules u rest far xs) same-limit (sym (born-slots (ready .rows) (ready .encoded) (made .children)))
+          ∙ survivors-kept rules (e .test .limit) rest far (slots (e .born) kids)
           ∙ sym (made .surviving .same)
 
       same-staying : rest₆ Q D s b rest ≡ staying
@@ -183,7 +185,7 @@ module _
     unfolding rest far
     stage-generated m count = (
       count ∙ sym (slots-length kids (e .born)) ∙ ap length (born-slots (ready .rows) (ready .encoded) (made .children)),
-      omega (arith, survivors-few rules (e .test .limit) rest far (slots (e .born) kids), ap length (made .surviving .same), slots-length kids (e .born)),
+      omega (arith, keep-parts (survives rules (e .test .limit) rest far) (slots (e .born) kids), ap length (made .surviving .same), slots-length kids (e .born)),
       omega (arith, stopsIn-few (e .born) stage-born),
     )
 

@@ -17,8 +17,8 @@ use Rattle.search.specs.Step.{on, step}
 use Rattle.search.specs.Run.{held}
 use Rattle.stops.specs.Code.{emptyRecord}
 use Rattle.stops.specs.declared.node_record.Record.{Record}
-use Rattle.records.specs.Code.{records}
-use Rattle.children.specs.Code.{Table, Rows, Encoded, Born, childrenOf, recProblem, recChoices, IsBest, Learnt, othersIn, farIn, Surviving}
+use Rattle.records.specs.Code.{records, Thinned}
+use Rattle.children.specs.Code.{Table, Rows, Encoded, Born, childrenOf, recProblem, recChoices, IsBest, Learnt, othersIn, farIn, survives}
 use Rattle.children.specs.declared.best.Best.{Best}
 use Rattle.children.specs.declared.setting.Setting.{Setting}
 use Rattle.children.specs.declared.spot.Spot.{Spot}
@@ -67,7 +67,8 @@ pub record Expansion (d : Setting) (t : Table) (w : List ℕ) (i : ℕ) (b : Rec
   pub learnt : Learnt d (r .best) (childrenOf d t b) (e .best)
   pub tests :
       e .test ≡ record { size = b .size + 1; base = b .set; limit = cond (on 1 (d .rules)) (e .best .upper) noLimit }
-  pub surviving : Surviving (d .rules) (e .test .limit) (othersIn (records w) (r .active) i) (farIn (records w) (r .far)) kids (e .born) (e .alive)
+  pub surviving :
+      Thinned (survives (d .rules) (e .test .limit) (othersIn (records w) (r .active) i) (farIn (records w) (r .far))) kids (e .born) (e .alive)
 
 -- what parts 6 and 7 then go by, and how many branched records stand at the far end afterwards
 abbrev pub changeOf : Setting → Run → Expanded → Change

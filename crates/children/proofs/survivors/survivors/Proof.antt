@@ -1,9 +1,7 @@
 -- `survivors` meets its contract: the passes of the three rules, each over what the one before it left.
 use borrow.Author.Needs.{needs}
-use Rattle.records.specs.Code.{records}
+use Rattle.records.proofs.SlotLaws.{thinned-twice}
 use Rattle.rivals.proofs.RivalLaws.{siblings-less}
-use Rattle.children.specs.Code.{othersIn, farIn}
-use Rattle.children.proofs.SurvivorLaws.{survivors-thinned}
 use Rattle.children.proofs.survivors.survivors.Statement.{statement}
 use Rattle.children.proofs.survivors.survivors.Tie as tie
 
@@ -27,11 +25,7 @@ by-rule-4-requires c κs =
 returns : tie.Need-returns
 returns c =
     let two = c .before in
-    let one = two .before in
-    let a = entry one .args in
-    let recs = records (a .w .now) in
-    survivors-thinned (a .setting .rules) (a .test .limit) (othersIn recs (a .spot .active) (a .spot .at)) (farIn recs (a .spot .far))
-    (one .by-rule-1 .ensures) (two .by-rule-2 .ensures) (c .by-rule-4 .ensures)
+    thinned-twice (two .before .by-rule-1 .ensures) (thinned-twice (two .by-rule-2 .ensures) (c .by-rule-4 .ensures))
 
 pub survivors-spec : {M : Type 1} → statement M
 survivors-spec = tie.close (tie.spec (λ c κs. search needs) by-rule-2-requires by-rule-4-requires returns)
