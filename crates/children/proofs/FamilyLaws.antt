@@ -17,11 +17,10 @@ use Rattle.lists.proofs.Map.{map-same}
 use Rattle.lists.proofs.Tests.{compared}
 use Rattle.orders.specs.Orders.{left, extend}
 use Rattle.orders.proofs.Sets.{size-extend}
-use Rattle.stops.specs.Code.{emptyRecord, extended, stopsIn}
+use Rattle.stops.specs.Code.{emptyRecord, extended, stopsIn, First}
 use Rattle.stops.specs.declared.node_record.Record.{Record}
 use Rattle.stops.proofs.SetBits.{stopsIn-zero, stopsIn-range}
 use Rattle.stops.proofs.SetAnd.{stopsIn-added}
-use Rattle.stops.proofs.SetLoops.{First}
 use Rattle.records.specs.Code.{encode, inSlot, slots}
 use Rattle.records.proofs.Mask.{mask-stops, rest-small, rest-left, ones-set, mask-extend}
 use Rattle.records.proofs.SlotLaws.{in-slots}

@@ -8,7 +8,6 @@ use mathlib.Core.List.{List, [], _∷_, append-nil, List·Memᴰ·eq-of-singleto
 use Prim.Native.Nat.{ℕ, suc, _+_, _-_, _^_, _≤_, _<_}
 use native.Mathlib.Omega.{arith}
 use lib.Bits.{bitAnd, and-le-r}
-use lib.Count.{trailingZeros}
 use lib.Dec.{T, ltb, not-T}
 use lib.ListN.{length, getD, length-append}
 use lib.Pow.{pow-pos}
@@ -21,11 +20,10 @@ use Rattle.lists.proofs.Members.{any-in, in-any}
 use Rattle.lists.proofs.Numbers.{keep-parts}
 use Rattle.lists.proofs.Keep.{keep-append}
 use Rattle.lists.proofs.Slices.{keep-slice-more, slice-join, AllSo}
-use Rattle.stops.specs.Code.{emptyRecord, recDominates, stopsIn}
+use Rattle.stops.specs.Code.{emptyRecord, recDominates, stopsIn, First}
 use Rattle.stops.specs.declared.node_record.Record.{Record}
 use Rattle.stops.proofs.SetBits.{stopsIn-range}
 use Rattle.stops.proofs.SetJoin.{stopsIn-one, both-in, both-one}
-use Rattle.stops.proofs.SetLoops.{First, first-out}
 use Rattle.records.specs.Code.{inSlot, slots}
 use Rattle.records.proofs.SlotLaws.{slot-in, in-slots}
 use Rattle.rivals.specs.Code.{near, Siblings}
@@ -51,9 +49,6 @@ module _ {t : Test} {alive : ℕ} {kids : List Record} (f : Siblings t alive kid
     abbrev beats : Record → Bool
     beats y = recDominates y x
 
-    own-small : own < 2 ^ mostStops
-    own-small = omega (arith, and-le-r (x .set - t .base) alive, f .small)
-
     -- a child that dominates x has its set
     only-own : (s : ℕ) → In s (stopsIn alive) → T (recDominates (inSlot kids s) x) → own ≡ 2 ^ (s - 1)
     only-own s m d =
@@ -71,13 +66,10 @@ module _ {t : Test} {alive : ℕ} {kids : List Record} (f : Siblings t alive kid
             omega (arith, only-own s i (subst (λ (z : Record). T (recDominates z x)) same d), pow-pos (s - 1))
 
     pub beaten-own :
-        0 < own → (s : ℕ) → s ≡ trailingZeros 32 own + 1
+        (s : ℕ) → First own s
         → In s (stopsIn alive) × (any (λ y. recDominates y x) (slots alive kids) ≡ recDominates (inSlot kids s) x)
-    beaten-own some s e = (member, same-tests (any beats (slots alive kids)) (recDominates (inSlot kids s) x) there back)
+    beaten-own s first = (member, same-tests (any beats (slots alive kids)) (recDominates (inSlot kids s) x) there back)
       where
-        first : First own s
-        first = first-out own s some own-small e
-
         member : In s (stopsIn alive)
         member = both-in alive (f .small) (x .set - t .base) s (subst (λ (m : ℕ). In s (stopsIn m)) is (first .member))
 

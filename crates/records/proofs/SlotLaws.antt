@@ -15,11 +15,10 @@ use Rattle.sizes.specs.Sizes.{mostStops}
 use Rattle.lists.specs.Lists.{In, keep}
 use Rattle.lists.proofs.Members.{in-map, map-in}
 use Rattle.lists.proofs.Keep.{keep-all, keep-keep, keep-same}
-use Rattle.stops.specs.Code.{stopsIn}
+use Rattle.stops.specs.Code.{stopsIn, First}
 use Rattle.stops.specs.declared.node_record.Record.{Record}
 use Rattle.stops.proofs.SetBits.{stopsIn-zero, stopsIn-range}
 use Rattle.stops.proofs.SetJoin.{stopsIn-joined}
-use Rattle.stops.proofs.SetLoops.{First}
 use Rattle.records.specs.Code.{inSlot, slots, Thinned}
 
 pub slots-first : (l : List Record) {m s : ℕ} → First m s → slots m l ≡ inSlot l s ∷ slots (m - 2 ^ (s - 1)) l
@@ -135,11 +134,8 @@ module _ {test : Record → Bool} {l : List Record} {set kept left : ℕ} (w : T
               (append-assoc (slots kept l) (inSlot l s ∷ []) (keep test (slots (left - 2 ^ (s - 1)) l)) ∙ (rw (slots-first l o, passes) at (w .same)));
         }
       where
-        range : (1 ≤ s) × (s ≤ mostStops)
-        range = stopsIn-range left (w .small) s (o .member)
-
         joined : (stopsIn (kept + 2 ^ (s - 1)) ≡ stopsIn kept ++ (s ∷ [])) × (kept + 2 ^ (s - 1) < 2 ^ mostStops)
-        joined = stopsIn-joined kept s (w .kept-small) (range .0) (range .1) (λ r i. w .behind r s i (o .member))
+        joined = stopsIn-joined kept s (w .kept-small) (o .some) (o .few) (λ r i. w .behind r s i (o .member))
 
         slots-joined : slots (kept + 2 ^ (s - 1)) l ≡ slots kept l ++ (inSlot l s ∷ [])
         slots-joined = slots-more l kept (kept + 2 ^ (s - 1)) s (joined .0)

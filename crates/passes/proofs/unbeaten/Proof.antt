@@ -56,7 +56,7 @@ unfolding inSlot
 returns-2 c =
     let n = c .before .before in
     let r = read n in
-    let only = beaten-own (entry r .pre .1) (x r) (own r) (own-is r) (omega arith) (n .next .result) (n .next .ensures .0) .1 in
+    let only = beaten-own (entry r .pre .1) (x r) (own r) (own-is r) (n .next .result) (n .next .ensures) .1 in
     cc
 
 pub unbeaten-spec : {M : Type 1} → statement M
