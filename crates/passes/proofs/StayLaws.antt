@@ -7,13 +7,12 @@ use mathlib.Core.Bool.{Bool, true, false}
 use mathlib.Core.List.{List, [], _∷_, append-nil, List·Memᴰ·eq-of-singleton}
 use Prim.Native.Nat.{ℕ, suc, _+_, _-_, _^_, _≤_, _<_}
 use native.Mathlib.Omega.{arith}
-use lib.Bits.{bitAnd, and-le-r}
+use lib.Bits.{bitAnd}
 use lib.Dec.{T, ltb, not-T}
 use lib.ListN.{length, getD, length-append}
 use lib.Pow.{pow-pos}
 use lib.Seq.{slice, slice-empty, length-slice}
 use borrow.Author.Tests.{le-leb, lt-leb, ltb-false}
-use Rattle.sizes.specs.Sizes.{mostStops}
 use Rattle.lists.specs.Lists.{In, put, keep, any}
 use Rattle.lists.proofs.Tests.{both-false, same-tests, to-false}
 use Rattle.lists.proofs.Members.{any-in, in-any}

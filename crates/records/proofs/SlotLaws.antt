@@ -1,13 +1,12 @@
 -- Laws of records that stand one for each stop (`inSlot`, `slots`), and of the passes over them.
 --   slots-none, slots-first, slots-length, slot-in, in-slots    the records of a set, and of its first stop
---   slot-inside                                                a stop's slot is inside
 --   thinned-all, thinned-none, thinned-twice, thinned-same     passes that keep all, over no record, one after the other, and by an equal test
 --   Thinning, thinning-starts, thinning-keeps, thinning-drops, thinning-ends    the invariant of a pass
 use mathlib.Core.Path.{_≡_, ap, sym, _∙_}
 use mathlib.Core.Bool.{Bool, true, false, _&&_}
 use mathlib.Core.List.{List, [], _∷_, _++_, map, map-append, append-assoc, append-nil, List·Memᴰ·tail, List·Memᴰ·not-nil, List·Memᴰ·append-cases, List·Memᴰ·eq-of-singleton}
 use mathlib.Core.Logic.{_⊎_, inl, inr}
-use Prim.Native.Nat.{ℕ, _+_, _-_, _^_, _≤_, _<_}
+use Prim.Native.Nat.{ℕ, _+_, _-_, _^_, _<_}
 use native.Mathlib.Omega.{arith}
 use lib.Dec.{T}
 use lib.ListN.{length, length-map}
@@ -17,7 +16,7 @@ use Rattle.lists.proofs.Members.{in-map, map-in}
 use Rattle.lists.proofs.Keep.{keep-all, keep-keep, keep-same}
 use Rattle.stops.specs.Code.{stopsIn, First}
 use Rattle.stops.specs.declared.node_record.Record.{Record}
-use Rattle.stops.proofs.SetBits.{stopsIn-zero, stopsIn-range}
+use Rattle.stops.proofs.SetBits.{stopsIn-zero}
 use Rattle.stops.proofs.SetJoin.{stopsIn-joined}
 use Rattle.records.specs.Code.{inSlot, slots, Thinned}
 
@@ -41,9 +40,6 @@ slot-in l m s i = map-in (inSlot l) i
 pub in-slots : (l : List Record) (m : ℕ) (x : Record) → In x (slots m l) → (s : ℕ) × In s (stopsIn m) × (x ≡ inSlot l s)
 unfolding slots
 in-slots l m x i = in-map (inSlot l) (stopsIn m) x i
-
-pub slot-inside : (l : List Record) (m s : ℕ) → m < 2 ^ mostStops → mostStops ≤ length l → In s (stopsIn m) → (1 ≤ s) × (s - 1 < length l)
-slot-inside l m s small room i = omega (arith, stopsIn-range m small s i)
 
 slots-more : (l : List Record) (m n s : ℕ) → stopsIn n ≡ stopsIn m ++ (s ∷ []) → slots n l ≡ slots m l ++ (inSlot l s ∷ [])
 unfolding slots

@@ -2,10 +2,8 @@
 -- (`Thinning`). The measure is the set of the stops left, as a number.
 use mathlib.Core.Path.{_≡_}
 use mathlib.Core.List.{List}
-use Prim.Native.Nat.{_-_, _^_, _≤_, _<_}
 use native.Mathlib.Omega.{arith}
 use borrow.Author.Tests.{le-leb, lt-leb}
-use lib.ListN.{length}
 use Rattle.stops.specs.declared.node_record.Record.{Record}
 use Rattle.records.specs.Code.{records, inSlot}
 use Rattle.records.proofs.SlotLaws.{Thinning, thinning-starts, thinning-keeps, thinning-drops, thinning-ends}

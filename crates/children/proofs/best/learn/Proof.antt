@@ -1,9 +1,7 @@
 -- `learn` meets its contract. The invariant: what stands for U and its order after what is known and the children by the stops left stands
 -- for them after all children (`Learning`). The measure is the set of the stops left, as a number.
-use mathlib.Core.Path.{_≡_, sym, _∙_}
-use Prim.Native.Nat.{_-_, _^_, _≤_, _<_}
+use mathlib.Core.Path.{sym, _∙_}
 use native.Mathlib.Omega.{arith}
-use lib.ListN.{length}
 use Rattle.records.specs.Code.{records, inSlot, slots}
 use Rattle.children.proofs.BestLaws.{learn-none, Learning, learning-starts, learning-again, learning-ends}
 use Rattle.children.proofs.best.learn.Statement.{statement}

@@ -1,7 +1,7 @@
 -- `family::family` meets its contract. The loop's invariant: `rest` is the set of the stops that b leaves, the slice keeps its length, and
 -- the children by the stops passed stand in their slots (`Placing`). The measure is the set of the stops left, as a number.
 use mathlib.Core.Path.{_≡_, refl, _∙_}
-use Prim.Native.Nat.{_+_, _-_, _*_, _^_, _%_, _≤_, _<_}
+use Prim.Native.Nat.{_+_, _-_, _*_, _^_, _%_, _≤_}
 use native.Mathlib.Omega.{arith}
 use borrow.Author.Needs.{needs}
 use lib.ListN.{length}

@@ -1,7 +1,7 @@
 -- `write` meets its contract. The loop's invariant: the part keeps its length, and its first k records are the children by the stops passed
 -- (`Writing`). The measure is the set of the stops left, as a number.
 use mathlib.Core.Path.{_≡_, refl, _∙_}
-use Prim.Native.Nat.{_-_, _^_, _≤_, _<_}
+use Prim.Native.Nat.{_<_}
 use native.Mathlib.Omega.{arith}
 use lib.ListN.{length}
 use Rattle.records.specs.Code.{records, inSlot}
