@@ -58,8 +58,7 @@ module _ {d : Setting} {t : Table} {b : Record} (rows : Rows d t) (e : Encoded d
     pub born-siblings : (limit : ℕ) → Siblings (record { size = b .size + 1; base = b .set; limit = limit }) born kids
     unfolding childOf bounded extended restOf
     born-siblings limit = record {
-      small = rw (k .stops) (rest-small (d .n) (rows .few) (b .set));
-      room = k .room;
+      slotted = record { small = rw (k .stops) (rest-small (d .n) (rows .few) (b .set)); room = k .room };
       sizes = λ s i. ap (λ (x : Record). x .size) (k .each s i) ∙ one-more s (left-by s i);
       sets = λ s i. ap (λ (x : Record). x .set) (k .each s i);
       holds = λ s i.

@@ -53,7 +53,7 @@ module _ {t : Test} {alive : ℕ} {kids : List Record} (f : Siblings t alive kid
     only-own s m d =
         let same : inSlot kids s .set ≡ x .set = dominates-same (inSlot kids s) x d .1 in
         let beyond : x .set - t .base ≡ 2 ^ (s - 1) = omega (arith, f .sets s m) in
-        is ∙ ap (λ (v : ℕ). bitAnd v alive) beyond ∙ both-one alive (f .small) s m
+        is ∙ ap (λ (v : ℕ). bitAnd v alive) beyond ∙ both-one alive (f .slotted .small) s m
 
     pub beaten-none : own ≡ 0 → any (λ y. recDominates y x) (slots alive kids) ≡ false
     beaten-none e = to-false (any beats (slots alive kids)) (not-T (any beats (slots alive kids)) none)
@@ -70,14 +70,14 @@ module _ {t : Test} {alive : ℕ} {kids : List Record} (f : Siblings t alive kid
     beaten-own s first = (member, same-tests (any beats (slots alive kids)) (recDominates (inSlot kids s) x) there back)
       where
         member : In s (stopsIn alive)
-        member = both-in alive (f .small) (x .set - t .base) s (subst (λ (m : ℕ). In s (stopsIn m)) is (first .member))
+        member = both-in alive (f .slotted .small) (x .set - t .base) s (subst (λ (m : ℕ). In s (stopsIn m)) is (first .member))
 
         there : T (any beats (slots alive kids)) → T (recDominates (inSlot kids s) x)
         there h =
             let (y, m, d) = any-in beats (slots alive kids) h in
             let (r, i, same) = in-slots kids alive y m in
             let b : T (recDominates (inSlot kids r) x) = subst (λ (z : Record). T (recDominates z x)) same d in
-            let range = stopsIn-range alive (f .small) r i in
+            let range = stopsIn-range alive (f .slotted .small) r i in
             let one : stopsIn own ≡ r ∷ [] = ap stopsIn (only-own r i b) ∙ stopsIn-one r (range .0) (range .1) in
             let found : s ≡ r = List·Memᴰ·eq-of-singleton (subst (λ (xs : List ℕ). In s xs) one (first .member)) in
             subst (λ (q : ℕ). T (recDominates (inSlot kids q) x)) (sym found) b

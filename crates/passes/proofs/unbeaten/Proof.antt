@@ -46,10 +46,10 @@ next-requires c κs =
     let r = c .before .before in
     let start = entry r in
     let a = start .args in
-    omega (arith, and-le-r (r .set-at .result - a .test .base) (a .alive), start .pre .1 .small)
+    omega (arith, and-le-r (r .set-at .result - a .test .base) (a .alive), start .pre .1 .slotted .small)
 
 beats-requires : tie.Need-beats-requires
-beats-requires c κs = omega (arith, entry (read (c .before)) .pre .1 .room)
+beats-requires c κs = omega (arith, entry (read (c .before)) .pre .1 .slotted .room)
 
 returns-2 : tie.Need-returns-2
 unfolding inSlot

@@ -62,11 +62,11 @@ within-spec =
     (tie.spec
     Inv-loop
     μ-loop
-    (λ c. thinning-starts _ _ _ (c .before .pre .0))
+    (λ c. thinning-starts _ _ _ (c .before .pre .small))
     (λ c κs. let h = c .before .loop .inv .small in omega arith)
     (λ c κs. let h = head c .loop .inv .small in omega arith)
     (λ c κs. omega arith)
-    (λ c κs. let n = c .before .before in omega (arith, n .next .ensures, entry (head n) .pre .1))
+    (λ c κs. let n = c .before .before in omega (arith, n .next .ensures, entry (head n) .pre .room))
     (λ c κs. let h = head (stepped (c .before)) .loop .inv .kept-small in omega arith)
     (λ c. let read = c .before .before in omega (arith, read .before .before .later .ensures _ (stepped read .next .ensures)))
     loop-again

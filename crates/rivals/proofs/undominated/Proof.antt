@@ -71,7 +71,7 @@ child c =
     let n = c .before .before in
     let start = entry (head n) in
     let kids = records (start .args .kids .now) in
-    (ap (λ (j : ℕ). getD kids j emptyRecord) (c .slot .ensures), omega (arith, c .slot .ensures, n .next .ensures, start .pre .0 .1))
+    (ap (λ (j : ℕ). getD kids j emptyRecord) (c .slot .ensures), omega (arith, c .slot .ensures, n .next .ensures, start .pre .0 .room))
 
 -- whether it is left, by what the inner loop found
 free :
@@ -113,7 +113,7 @@ undominated-spec =
     μ-loop
     Inv-child
     μ-child
-    (λ c. thinning-starts _ _ _ (c .before .before .pre .0 .0))
+    (λ c. thinning-starts _ _ _ (c .before .before .pre .0 .small))
     (λ c κs. (omega arith, c .before .child .inv .small))
     (λ c κs. (omega arith, head c .child .inv .small))
     (λ c κs. omega (arith, c .before .next .ensures))

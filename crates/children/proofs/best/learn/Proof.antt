@@ -48,11 +48,11 @@ learn-spec =
     Inv-loop
     μ-loop
     returns
-    (λ c. learning-starts (c .before .before .before .pre .0 .0))
+    (λ c. learning-starts (c .before .before .before .pre .0 .small))
     (λ c κs. let h = c .before .loop .inv .small in omega arith)
     (λ c κs. let h = head c .loop .inv .small in omega arith)
     (λ c κs. c .before .next .ensures .some)
-    (λ c κs. let n = c .before .before in omega (arith, c .slot .ensures, n .next .ensures, entry (head n) .pre .0 .1))
+    (λ c κs. let n = c .before .before in omega (arith, c .slot .ensures, n .next .ensures, entry (head n) .pre .0 .room))
     loop-less
     loop-again
     returns-2)

@@ -31,7 +31,7 @@ stepped c = c .before .before .before
 loop-holds : tie.Need-loop-holds Inv-loop μ-loop
 loop-holds c =
     let s = c .before .before in
-    (refl, writing-starts (records (s .args .part .now)) (records (s .args .kids .now)) (s .args .alive) (s .pre .0 .0))
+    (refl, writing-starts (records (s .args .part .now)) (records (s .args .kids .now)) (s .args .alive) (s .pre .0 .small))
 
 -- the part has room for one record more
 room : (c : tie.After-next Inv-loop μ-loop) → let l = head c .loop in l .k < length (records (l .part))
@@ -73,7 +73,7 @@ write-spec =
     (λ c κs. let h = c .before .loop .inv .1 .small in omega arith)
     (λ c κs. let h = head c .loop .inv .1 .small in omega arith)
     (λ c κs. c .before .before .next .ensures .some)
-    (λ c κs. let n = stepped c in omega (arith, c .slot .ensures, n .next .ensures, entry (head n) .pre .0 .1))
+    (λ c κs. let n = stepped c in omega (arith, c .slot .ensures, n .next .ensures, entry (head n) .pre .0 .room))
     (λ c κs. room (stepped (c .before)))
     add-k
     loop-less
