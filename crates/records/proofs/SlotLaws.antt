@@ -1,12 +1,12 @@
 -- Laws of records that stand one for each stop (`inSlot`, `slots`), and of the passes over them.
 --   slots-none, slots-first, slots-length, slot-in, in-slots    the records of a set, and of its first stop
 --   thinned-all, thinned-none, thinned-twice, thinned-same     passes that keep all, over no record, one after the other, and by an equal test
---   Thinning, thinning-starts, thinning-keeps, thinning-drops, thinning-ends    the invariant of a pass
+--   Thinning, thinning-starts, thinning-adds, thinning-keeps, thinning-drops, thinning-ends    the invariant of a pass
 use mathlib.Core.Path.{_≡_, ap, sym, _∙_}
 use mathlib.Core.Bool.{Bool, true, false, _&&_}
 use mathlib.Core.List.{List, [], _∷_, _++_, map, map-append, append-assoc, append-nil, List·Memᴰ·tail, List·Memᴰ·not-nil, List·Memᴰ·append-cases, List·Memᴰ·eq-of-singleton}
 use mathlib.Core.Logic.{_⊎_, inl, inr}
-use Prim.Native.Nat.{ℕ, _+_, _-_, _^_, _<_}
+use Prim.Native.Nat.{ℕ, _+_, _-_, _^_, _≤_, _<_}
 use native.Mathlib.Omega.{arith}
 use lib.Dec.{T}
 use lib.ListN.{length, length-map}
@@ -101,6 +101,10 @@ module _ {test : Record → Bool} {l : List Record} {set kept left : ℕ} (w : T
     among = w .kept-among;
     same = rw (e, slots-none l, append-nil) at (w .same);
   }
+
+  -- the first stop left is one that `kept` lacks, so that it can be added
+  pub thinning-adds : {s : ℕ} → First left s → (kept < 2 ^ mostStops) × (((1 ≤ s) × (s ≤ mostStops)) × (In s (stopsIn kept) → ⊥))
+  thinning-adds {s} o = (w .kept-small, ((o .some, o .few), λ i. omega (arith, w .behind s s i (o .member))))
 
   module _ {s left′ : ℕ} (o : First left s) (later : left′ ≡ left - 2 ^ (s - 1)) where
     later-in : (r : ℕ) → In r (stopsIn left′) → In r (stopsIn left)

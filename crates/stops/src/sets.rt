@@ -32,7 +32,7 @@ pub fn without(set: u32, stop: u32) -> u32
 
 // The set with a stop that it lacked.
 pub fn with(set: u32, stop: u32) -> u32
-    requires { ⌜ (set < 2 ^ mostStops) × ((1 ≤ stop) × (stop ≤ mostStops)) ⌝ }
+    requires { ⌜ (set < 2 ^ mostStops) × (((1 ≤ stop) × (stop ≤ mostStops)) × (In stop (stopsIn set) → ⊥)) ⌝ }
     ensures { λ r. ⌜ r ≡ set + 2 ^ (stop - 1) ⌝ }
 {
     set + (1u32 << (stop - 1))

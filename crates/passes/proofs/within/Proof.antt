@@ -6,7 +6,7 @@ use native.Mathlib.Omega.{arith}
 use borrow.Author.Tests.{le-leb, lt-leb}
 use Rattle.stops.specs.declared.node_record.Record.{Record}
 use Rattle.records.specs.Code.{records, inSlot}
-use Rattle.records.proofs.SlotLaws.{Thinning, thinning-starts, thinning-keeps, thinning-drops, thinning-ends}
+use Rattle.records.proofs.SlotLaws.{Thinning, thinning-starts, thinning-adds, thinning-keeps, thinning-drops, thinning-ends}
 use Rattle.passes.specs.Code.{isWithin}
 use Rattle.passes.proofs.within.Statement.{statement}
 use Rattle.passes.proofs.within.Tie as tie
@@ -67,7 +67,7 @@ within-spec =
     (λ c κs. let h = head c .loop .inv .small in omega arith)
     (λ c κs. omega arith)
     (λ c κs. let n = c .before .before in omega (arith, n .next .ensures, entry (head n) .pre .room))
-    (λ c κs. let h = head (stepped (c .before)) .loop .inv .kept-small in omega arith)
+    (λ c κs. let n = stepped (c .before) in thinning-adds (head n .loop .inv) (n .next .ensures))
     (λ c. let read = c .before .before in omega (arith, read .before .before .later .ensures _ (stepped read .next .ensures)))
     loop-again
     (λ c. let read = c .before in omega (arith, read .before .before .later .ensures _ (stepped read .next .ensures)))

@@ -13,7 +13,7 @@ use Rattle.lists.proofs.Slices.{any-slice-none, any-slice-more, any-slice-found
 use Rattle.stops.specs.Code.{emptyRecord}
 use Rattle.stops.specs.declared.node_record.Record.{Record}
 use Rattle.records.specs.Code.{records, inSlot}
-use Rattle.records.proofs.SlotLaws.{Thinning, thinning-starts, thinning-keeps, thinning-drops, thinning-ends}
+use Rattle.records.proofs.SlotLaws.{Thinning, thinning-starts, thinning-adds, thinning-keeps, thinning-drops, thinning-ends}
 use Rattle.rivals.specs.Code.{isRival, isFree}
 use Rattle.rivals.proofs.undominated.Statement.{statement}
 use Rattle.rivals.proofs.undominated.Tie as tie
@@ -124,7 +124,7 @@ undominated-spec =
     (λ c. omega arith)
     (λ c. omega arith)
     loop-again
-    (λ c κs. let n = slotted (c .before) .before .before in omega (arith, head n .child .inv .kept-small, n .next .ensures))
+    (λ c κs. let n = slotted (c .before) .before .before in thinning-adds (head n .child .inv) (n .next .ensures))
     (λ c. let l = slotted (c .before .before) .before in omega (arith, l .later .ensures _ (l .before .next .ensures)))
     child-again-2
     (λ c. thinning-ends (c .before .child .inv) (c .child-test .left)))
