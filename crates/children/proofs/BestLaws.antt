@@ -16,9 +16,8 @@ use Rattle.lists.specs.Lists.{In}
 use Rattle.lists.proofs.Members.{in-head}
 use Rattle.search.specs.Problem.{upper}
 use Rattle.search.specs.Step.{replace, learn}
-use Rattle.stops.specs.Code.{stopsIn}
+use Rattle.stops.specs.Code.{stopsIn, First}
 use Rattle.stops.specs.declared.node_record.Record.{Record}
-use Rattle.stops.proofs.SetLoops.{First}
 use Rattle.records.specs.Code.{inSlot, slots}
 use Rattle.records.proofs.SlotLaws.{slots-none, slots-first, slot-in}
 use Rattle.children.specs.Code.{Table, recProblem, IsBest, Learnt}

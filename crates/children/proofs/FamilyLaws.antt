@@ -17,11 +17,10 @@ use Rattle.lists.proofs.Map.{map-same}
 use Rattle.lists.proofs.Tests.{compared}
 use Rattle.orders.specs.Orders.{left, extend}
 use Rattle.orders.proofs.Sets.{size-extend}
-use Rattle.stops.specs.Code.{emptyRecord, extended, stopsIn}
+use Rattle.stops.specs.Code.{emptyRecord, extended, stopsIn, First}
 use Rattle.stops.specs.declared.node_record.Record.{Record}
 use Rattle.stops.proofs.SetBits.{stopsIn-zero, stopsIn-range}
 use Rattle.stops.proofs.SetAnd.{stopsIn-added}
-use Rattle.stops.proofs.SetLoops.{First}
 use Rattle.records.specs.Code.{encode, inSlot, slots}
 use Rattle.records.proofs.Mask.{mask-stops, rest-small, rest-left, ones-set, mask-extend}
 use Rattle.records.proofs.SlotLaws.{in-slots}
@@ -59,8 +58,7 @@ module _ {d : Setting} {t : Table} {b : Record} (rows : Rows d t) (e : Encoded d
     pub born-siblings : (limit : ℕ) → Siblings (record { size = b .size + 1; base = b .set; limit = limit }) born kids
     unfolding childOf bounded extended restOf
     born-siblings limit = record {
-      small = rw (k .stops) (rest-small (d .n) (rows .few) (b .set));
-      room = k .room;
+      slotted = record { small = rw (k .stops) (rest-small (d .n) (rows .few) (b .set)); room = k .room };
       sizes = λ s i. ap (λ (x : Record). x .size) (k .each s i) ∙ one-more s (left-by s i);
       sets = λ s i. ap (λ (x : Record). x .set) (k .each s i);
       holds = λ s i.

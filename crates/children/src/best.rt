@@ -3,14 +3,13 @@ ghost use mathlib.Core.Path.{_≡_};
 ghost use mathlib.Core.List.{[], _∷_};
 ghost use mathlib.Core.Logic.{_⊎_};
 ghost use mathlib.Core.Option.{Option·map};
-ghost use Prim.Native.Nat.{_^_, _≤_, _<_};
+ghost use Prim.Native.Nat.{_<_};
 ghost use lib.ListN.{length, getD};
-ghost use Rattle.sizes.specs.Sizes.{mostStops};
 ghost use Rattle.lists.specs.Lists.{In};
 ghost use Rattle.stops.specs.Code.{emptyRecord};
 ghost use Rattle.stops.specs.declared.node_record.Record.{Record};
 ghost use Rattle.orders.specs.Orders.{Order};
-ghost use Rattle.records.specs.Code.{records, slots};
+ghost use Rattle.records.specs.Code.{records, slots, Slotted};
 ghost use Rattle.answer.specs.Answer.{given};
 ghost use Rattle.children.specs.Code.{IsBest, Learnt, encodeOf, Rows};
 ghost use Rattle.children.specs.declared.setting.Setting.{Setting};
@@ -50,7 +49,7 @@ fn better(best: Best, kids: &[u32], k: usize) -> Best
 
 // Part 2 of a step, over the children by the stops of `born`, which are all of one size.
 pub fn learn(setting: Setting, kids: &[u32], born: u32, size: u32, best: Best) -> Best
-    requires { ⌜ ((born < 2 ^ mostStops) × (mostStops ≤ length (records (now kids)))) × ((x : Record) → In x (slots born (records (now kids))) → x .size ≡ size) ⌝ }
+    requires { ⌜ Slotted born (records (now kids)) × ((x : Record) → In x (slots born (records (now kids))) → x .size ≡ size) ⌝ }
     ensures { λ r. ⌜ Learnt setting best (slots born (records (now (kids .entry)))) r ⌝ }
 {
     if size != setting.n {

@@ -1,11 +1,9 @@
 // Parts 3, 4 and 5 of a step: which children survive rules 1, 2 and 4.
 ghost use mathlib.Core.Path.{_≡_};
 ghost use mathlib.Core.Bool.{cond};
-ghost use Prim.Native.Nat.{_^_, _≤_, _<_};
-ghost use lib.ListN.{length};
-ghost use Rattle.sizes.specs.Sizes.{mostStops, noLimit};
+ghost use Rattle.sizes.specs.Sizes.{noLimit};
 ghost use Rattle.search.specs.Step.{on};
-ghost use Rattle.records.specs.Code.{records, Thinned};
+ghost use Rattle.records.specs.Code.{records, Slotted, Thinned};
 ghost use Rattle.rivals.specs.Code.{isFree, Siblings};
 ghost use Rattle.passes.specs.Code.{isWithin};
 ghost use Rattle.children.specs.Code.{Spotted, othersIn, farIn, ruled, survives};
@@ -29,7 +27,7 @@ pub fn limit_of(rules: u32, upper: u32) -> u32
 
 // Part 3 on the children by the stops of `alive`: those that are left.
 fn by_rule_1(kids: &[u32], alive: u32, rules: u32, limit: u32) -> u32
-    requires { ⌜ (alive < 2 ^ mostStops) × (mostStops ≤ length (records (now kids))) ⌝ }
+    requires { ⌜ Slotted alive (records (now kids)) ⌝ }
     ensures { λ r. ⌜ Thinned (ruled (on 1 rules) (isWithin limit)) (records (now (kids .entry))) alive r ⌝ }
 {
     if on(1, rules) {

@@ -18,9 +18,8 @@ use Rattle.lists.proofs.Distinct.{length-without}
 use Rattle.orders.specs.Orders.{Node, left, last, size, extend}
 use Rattle.orders.proofs.Sets.{empty-set, size-left, last-extend, left-extend}
 use Rattle.stops.specs.Legs.{Legs}
-use Rattle.stops.specs.Code.{stopsIn}
+use Rattle.stops.specs.Code.{stopsIn, First}
 use Rattle.stops.proofs.SetBits.{stopsIn-zero, stopsIn-range, stopsIn-distinct, stopsIn-without, all-small, stopsIn-all}
-use Rattle.stops.proofs.SetLoops.{First}
 use Rattle.first_answer.specs.Nearest.{cheapest, toNearest, onward, nearest}
 use Rattle.first_answer.proofs.Cheapest.{cheapest-in}
 use Rattle.first_answer.proofs.NearestOrder.{onward-free}
@@ -34,11 +33,11 @@ pub record Found (f : ℕ → ℕ) (goal found left : ℕ) : Type 0 where
   pub same : cheapest f found (stopsIn left) ≡ goal
 
 pub found-starts :
-    (f : ℕ → ℕ) (set r left : ℕ) → set < 2 ^ mostStops → First set r → left ≡ set - 2 ^ (r - 1) → r ≤ mostStops
+    (f : ℕ → ℕ) (set r left : ℕ) → set < 2 ^ mostStops → First set r → left ≡ set - 2 ^ (r - 1)
     → Found f (nearestIn f (stopsIn set)) r left
-found-starts f set r left h o e k = record {
+found-starts f set r left h o e = record {
   small = omega (arith, o .less);
-  inside = k;
+  inside = o .few;
   same = rw (o .others, e);
 }
 

@@ -7,25 +7,22 @@ use mathlib.Core.Bool.{Bool, true, false}
 use mathlib.Core.List.{List, [], _∷_, append-nil, List·Memᴰ·eq-of-singleton}
 use Prim.Native.Nat.{ℕ, suc, _+_, _-_, _^_, _≤_, _<_}
 use native.Mathlib.Omega.{arith}
-use lib.Bits.{bitAnd, and-le-r}
-use lib.Count.{trailingZeros}
+use lib.Bits.{bitAnd}
 use lib.Dec.{T, ltb, not-T}
 use lib.ListN.{length, getD, length-append}
 use lib.Pow.{pow-pos}
 use lib.Seq.{slice, slice-empty, length-slice}
 use borrow.Author.Tests.{le-leb, lt-leb, ltb-false}
-use Rattle.sizes.specs.Sizes.{mostStops}
 use Rattle.lists.specs.Lists.{In, put, keep, any}
 use Rattle.lists.proofs.Tests.{both-false, same-tests, to-false}
 use Rattle.lists.proofs.Members.{any-in, in-any}
 use Rattle.lists.proofs.Numbers.{keep-parts}
 use Rattle.lists.proofs.Keep.{keep-append}
 use Rattle.lists.proofs.Slices.{keep-slice-more, slice-join, AllSo}
-use Rattle.stops.specs.Code.{emptyRecord, recDominates, stopsIn}
+use Rattle.stops.specs.Code.{emptyRecord, recDominates, stopsIn, First}
 use Rattle.stops.specs.declared.node_record.Record.{Record}
 use Rattle.stops.proofs.SetBits.{stopsIn-range}
 use Rattle.stops.proofs.SetJoin.{stopsIn-one, both-in, both-one}
-use Rattle.stops.proofs.SetLoops.{First, first-out}
 use Rattle.records.specs.Code.{inSlot, slots}
 use Rattle.records.proofs.SlotLaws.{slot-in, in-slots}
 use Rattle.rivals.specs.Code.{near, Siblings}
@@ -51,15 +48,12 @@ module _ {t : Test} {alive : ℕ} {kids : List Record} (f : Siblings t alive kid
     abbrev beats : Record → Bool
     beats y = recDominates y x
 
-    own-small : own < 2 ^ mostStops
-    own-small = omega (arith, and-le-r (x .set - t .base) alive, f .small)
-
     -- a child that dominates x has its set
     only-own : (s : ℕ) → In s (stopsIn alive) → T (recDominates (inSlot kids s) x) → own ≡ 2 ^ (s - 1)
     only-own s m d =
         let same : inSlot kids s .set ≡ x .set = dominates-same (inSlot kids s) x d .1 in
         let beyond : x .set - t .base ≡ 2 ^ (s - 1) = omega (arith, f .sets s m) in
-        is ∙ ap (λ (v : ℕ). bitAnd v alive) beyond ∙ both-one alive (f .small) s m
+        is ∙ ap (λ (v : ℕ). bitAnd v alive) beyond ∙ both-one alive (f .slotted .small) s m
 
     pub beaten-none : own ≡ 0 → any (λ y. recDominates y x) (slots alive kids) ≡ false
     beaten-none e = to-false (any beats (slots alive kids)) (not-T (any beats (slots alive kids)) none)
@@ -71,22 +65,19 @@ module _ {t : Test} {alive : ℕ} {kids : List Record} (f : Siblings t alive kid
             omega (arith, only-own s i (subst (λ (z : Record). T (recDominates z x)) same d), pow-pos (s - 1))
 
     pub beaten-own :
-        0 < own → (s : ℕ) → s ≡ trailingZeros 32 own + 1
+        (s : ℕ) → First own s
         → In s (stopsIn alive) × (any (λ y. recDominates y x) (slots alive kids) ≡ recDominates (inSlot kids s) x)
-    beaten-own some s e = (member, same-tests (any beats (slots alive kids)) (recDominates (inSlot kids s) x) there back)
+    beaten-own s first = (member, same-tests (any beats (slots alive kids)) (recDominates (inSlot kids s) x) there back)
       where
-        first : First own s
-        first = first-out own s some own-small e
-
         member : In s (stopsIn alive)
-        member = both-in alive (f .small) (x .set - t .base) s (subst (λ (m : ℕ). In s (stopsIn m)) is (first .member))
+        member = both-in alive (f .slotted .small) (x .set - t .base) s (subst (λ (m : ℕ). In s (stopsIn m)) is (first .member))
 
         there : T (any beats (slots alive kids)) → T (recDominates (inSlot kids s) x)
         there h =
             let (y, m, d) = any-in beats (slots alive kids) h in
             let (r, i, same) = in-slots kids alive y m in
             let b : T (recDominates (inSlot kids r) x) = subst (λ (z : Record). T (recDominates z x)) same d in
-            let range = stopsIn-range alive (f .small) r i in
+            let range = stopsIn-range alive (f .slotted .small) r i in
             let one : stopsIn own ≡ r ∷ [] = ap stopsIn (only-own r i b) ∙ stopsIn-one r (range .0) (range .1) in
             let found : s ≡ r = List·Memᴰ·eq-of-singleton (subst (λ (xs : List ℕ). In s xs) one (first .member)) in
             subst (λ (q : ℕ). T (recDominates (inSlot kids q) x)) (sym found) b

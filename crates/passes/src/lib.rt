@@ -2,14 +2,13 @@
 // its stop. The functions are public for the crates above and not for hosts; what they require, those crates meet.
 ghost use mathlib.Core.Path.{_≡_};
 ghost use mathlib.Core.Bool.{true, false, not, cond};
-ghost use Prim.Native.Nat.{_+_, _^_, _≤_, _<_};
+ghost use Prim.Native.Nat.{_+_, _≤_, _<_};
 ghost use lib.Dec.{T, ltb};
 ghost use lib.ListN.{length, getD};
 ghost use lib.Seq.{slice};
-ghost use Rattle.sizes.specs.Sizes.{mostStops};
 ghost use Rattle.lists.specs.Lists.{keep, any};
 ghost use Rattle.stops.specs.Code.{emptyRecord, recDominates};
-ghost use Rattle.records.specs.Code.{records, slots, Sifted, Thinned, RunsTo, always};
+ghost use Rattle.records.specs.Code.{records, slots, Sifted, Slotted, Thinned, RunsTo, always};
 ghost use Rattle.passes.specs.Code.{isWithin, isStaying, isSuspect};
 ghost use Rattle.rivals.specs.Code.{near, Siblings};
 use records::bound_at;
@@ -26,7 +25,7 @@ use stops::sets::with;
 
 // Rule 1 on the children by the stops of `alive`: those whose bound is at most limit.
 pub fn within(kids: &[u32], alive: u32, limit: u32) -> u32
-    requires { ⌜ (alive < 2 ^ mostStops) × (mostStops ≤ length (records (now kids))) ⌝ }
+    requires { ⌜ Slotted alive (records (now kids)) ⌝ }
     ensures { λ r. ⌜ Thinned (isWithin limit) (records (now (kids .entry))) alive r ⌝ }
 {
     let mut kept = 0;

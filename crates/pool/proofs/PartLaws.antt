@@ -12,8 +12,8 @@ use lib.Seq.{take-all, take-suc-set, drop-set-lt, drop-length, drop-drop, getD-d
 use borrow.Rule.Slice.PartMut.{midOf, putMid, post-is}
 use Rattle.sizes.specs.Sizes.{mostStops}
 use Rattle.lists.proofs.Slices.{drop-further}
+use Rattle.stops.specs.Code.{First}
 use Rattle.stops.specs.declared.node_record.Record.{Record}
-use Rattle.stops.proofs.SetLoops.{First}
 use Rattle.records.specs.Code.{records, inSlot, slots, Sifted, always}
 use Rattle.records.proofs.ViewLaws.{length-records, records-drop, records-join}
 use Rattle.records.proofs.SiftLaws.{taken-out}

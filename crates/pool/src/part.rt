@@ -1,10 +1,9 @@
 // What is done in a part of the pool that is lent on.
 ghost use mathlib.Core.Path.{_≡_};
 ghost use mathlib.Core.List.{_++_};
-ghost use Prim.Native.Nat.{_+_, _-_, _^_, _≤_, _<_};
+ghost use Prim.Native.Nat.{_+_, _-_, _≤_, _<_};
 ghost use lib.ListN.{length, take, drop};
-ghost use Rattle.sizes.specs.Sizes.{mostStops};
-ghost use Rattle.records.specs.Code.{records, slots, Sifted, always};
+ghost use Rattle.records.specs.Code.{records, slots, Slotted, Sifted, always};
 use records::load;
 use records::slot;
 use records::store;
@@ -38,7 +37,7 @@ pub fn take_out(w: &mut [u32], a: usize, i: usize) -> usize
 // Writes the children by the stops of `alive`, each from its slot, to the front of a part of the pool in ascending stop order, and says how
 // many they are.
 fn write(part: &mut [u32], kids: &[u32], alive: u32) -> usize
-    requires { ⌜ ((alive < 2 ^ mostStops) × (mostStops ≤ length (records (now kids)))) × (length (slots alive (records (now kids))) ≤ length (records (now part))) ⌝ }
+    requires { ⌜ Slotted alive (records (now kids)) × (length (slots alive (records (now kids))) ≤ length (records (now part))) ⌝ }
     ensures { λ r. ⌜ (r ≡ length (slots alive (records (now (kids .entry))))) × (records (now (part .exit)) ≡ slots alive (records (now (kids .entry))) ++ drop r (records (now (part .entry)))) ⌝ }
 {
     let mut left = alive;
@@ -54,7 +53,7 @@ fn write(part: &mut [u32], kids: &[u32], alive: u32) -> usize
 
 // Writes the children by the stops of `alive` behind the first `at` records: the part of the pool that starts there is lent on.
 pub fn write_at(w: &mut [u32], at: usize, kids: &[u32], alive: u32) -> usize
-    requires { ⌜ ((alive < 2 ^ mostStops) × (mostStops ≤ length (records (now kids)))) × (at + length (slots alive (records (now kids))) ≤ length (records (now w))) ⌝ }
+    requires { ⌜ Slotted alive (records (now kids)) × (at + length (slots alive (records (now kids))) ≤ length (records (now w))) ⌝ }
     ensures { λ r. ⌜ (r ≡ length (slots alive (records (now (kids .entry))))) × (records (now (w .exit)) ≡ take at (records (now (w .entry))) ++ (slots alive (records (now (kids .entry))) ++ drop (at + r) (records (now (w .entry))))) ⌝ }
 {
     let from = RECORD_WORDS * at;

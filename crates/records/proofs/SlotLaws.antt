@@ -1,8 +1,7 @@
 -- Laws of records that stand one for each stop (`inSlot`, `slots`), and of the passes over them.
 --   slots-none, slots-first, slots-length, slot-in, in-slots    the records of a set, and of its first stop
---   slot-inside                                                a stop's slot is inside
 --   thinned-all, thinned-none, thinned-twice, thinned-same     passes that keep all, over no record, one after the other, and by an equal test
---   Thinning, thinning-starts, thinning-keeps, thinning-drops, thinning-ends    the invariant of a pass
+--   Thinning, thinning-starts, thinning-adds, thinning-keeps, thinning-drops, thinning-ends    the invariant of a pass
 use mathlib.Core.Path.{_≡_, ap, sym, _∙_}
 use mathlib.Core.Bool.{Bool, true, false, _&&_}
 use mathlib.Core.List.{List, [], _∷_, _++_, map, map-append, append-assoc, append-nil, List·Memᴰ·tail, List·Memᴰ·not-nil, List·Memᴰ·append-cases, List·Memᴰ·eq-of-singleton}
@@ -15,11 +14,10 @@ use Rattle.sizes.specs.Sizes.{mostStops}
 use Rattle.lists.specs.Lists.{In, keep}
 use Rattle.lists.proofs.Members.{in-map, map-in}
 use Rattle.lists.proofs.Keep.{keep-all, keep-keep, keep-same}
-use Rattle.stops.specs.Code.{stopsIn}
+use Rattle.stops.specs.Code.{stopsIn, First}
 use Rattle.stops.specs.declared.node_record.Record.{Record}
-use Rattle.stops.proofs.SetBits.{stopsIn-zero, stopsIn-range}
+use Rattle.stops.proofs.SetBits.{stopsIn-zero}
 use Rattle.stops.proofs.SetJoin.{stopsIn-joined}
-use Rattle.stops.proofs.SetLoops.{First}
 use Rattle.records.specs.Code.{inSlot, slots, Thinned}
 
 pub slots-first : (l : List Record) {m s : ℕ} → First m s → slots m l ≡ inSlot l s ∷ slots (m - 2 ^ (s - 1)) l
@@ -42,9 +40,6 @@ slot-in l m s i = map-in (inSlot l) i
 pub in-slots : (l : List Record) (m : ℕ) (x : Record) → In x (slots m l) → (s : ℕ) × In s (stopsIn m) × (x ≡ inSlot l s)
 unfolding slots
 in-slots l m x i = in-map (inSlot l) (stopsIn m) x i
-
-pub slot-inside : (l : List Record) (m s : ℕ) → m < 2 ^ mostStops → mostStops ≤ length l → In s (stopsIn m) → (1 ≤ s) × (s - 1 < length l)
-slot-inside l m s small room i = omega (arith, stopsIn-range m small s i)
 
 slots-more : (l : List Record) (m n s : ℕ) → stopsIn n ≡ stopsIn m ++ (s ∷ []) → slots n l ≡ slots m l ++ (inSlot l s ∷ [])
 unfolding slots
@@ -107,6 +102,10 @@ module _ {test : Record → Bool} {l : List Record} {set kept left : ℕ} (w : T
     same = rw (e, slots-none l, append-nil) at (w .same);
   }
 
+  -- the first stop left is one that `kept` lacks, so that it can be added
+  pub thinning-adds : {s : ℕ} → First left s → (kept < 2 ^ mostStops) × (((1 ≤ s) × (s ≤ mostStops)) × (In s (stopsIn kept) → ⊥))
+  thinning-adds {s} o = (w .kept-small, ((o .some, o .few), λ i. omega (arith, w .behind s s i (o .member))))
+
   module _ {s left′ : ℕ} (o : First left s) (later : left′ ≡ left - 2 ^ (s - 1)) where
     later-in : (r : ℕ) → In r (stopsIn left′) → In r (stopsIn left)
     later-in r i = rw (o .others) (List·Memᴰ·tail (rw later at i))
@@ -135,11 +134,8 @@ module _ {test : Record → Bool} {l : List Record} {set kept left : ℕ} (w : T
               (append-assoc (slots kept l) (inSlot l s ∷ []) (keep test (slots (left - 2 ^ (s - 1)) l)) ∙ (rw (slots-first l o, passes) at (w .same)));
         }
       where
-        range : (1 ≤ s) × (s ≤ mostStops)
-        range = stopsIn-range left (w .small) s (o .member)
-
         joined : (stopsIn (kept + 2 ^ (s - 1)) ≡ stopsIn kept ++ (s ∷ [])) × (kept + 2 ^ (s - 1) < 2 ^ mostStops)
-        joined = stopsIn-joined kept s (w .kept-small) (range .0) (range .1) (λ r i. w .behind r s i (o .member))
+        joined = stopsIn-joined kept s (w .kept-small) (o .some) (o .few) (λ r i. w .behind r s i (o .member))
 
         slots-joined : slots (kept + 2 ^ (s - 1)) l ≡ slots kept l ++ (inSlot l s ∷ [])
         slots-joined = slots-more l kept (kept + 2 ^ (s - 1)) s (joined .0)

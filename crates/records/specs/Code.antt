@@ -4,6 +4,7 @@
 --   encode              the record of a node
 --   Sifted, RunsTo      what a pass keeps, and how far a walk goes
 --   inSlot, slots       records that stand one for each stop: that of one stop, and those of a set of stops
+--   Slotted             the stops of a set have slots
 --   Thinned             what a pass keeps of these: those of a smaller set
 use mathlib.Core.Path.{_≡_}
 use mathlib.Core.Bool.{Bool, true, not, cond}
@@ -71,6 +72,11 @@ inSlot l s = getD l (s - 1) emptyRecord
 -- the records of the stops of a set, ascending
 unfoldable pub slots : ℕ → List Record → List Record
 slots set l = map (inSlot l) (stopsIn set)
+
+-- the stops of a set have slots
+pub record Slotted (set : ℕ) (l : List Record) : Type 0 where
+  pub small : set < 2 ^ mostStops
+  pub room : mostStops ≤ length l
 
 -- of the stops of a set, `kept` has those whose records pass the test
 pub record Thinned (test : Record → Bool) (l : List Record) (set kept : ℕ) : Type 0 where

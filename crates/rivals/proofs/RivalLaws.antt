@@ -95,8 +95,7 @@ module _ {t : Test} {alive : ℕ} {kids : List Record} (f : Siblings t alive kid
 
   pub siblings-less : {left : ℕ} → left < 2 ^ mostStops → ((s : ℕ) → In s (stopsIn left) → In s (stopsIn alive)) → Siblings t left kids
   siblings-less h among = record {
-    small = h;
-    room = f .room;
+    slotted = record { small = h; room = f .slotted .room };
     sizes = λ s i. f .sizes s (among s i);
     sets = λ s i. f .sets s (among s i);
     holds = λ s i. f .holds s (among s i);
@@ -104,7 +103,7 @@ module _ {t : Test} {alive : ℕ} {kids : List Record} (f : Siblings t alive kid
 
   -- whatever the limit is
   pub siblings-limit : (limit : ℕ) → Siblings (record { size = t .size; base = t .base; limit = limit }) alive kids
-  siblings-limit limit = record { small = f .small; room = f .room; sizes = f .sizes; sets = f .sets; holds = f .holds }
+  siblings-limit limit = record { slotted = f .slotted; sizes = f .sizes; sets = f .sets; holds = f .holds }
 
   -- a record that is not near is dominated by none of them
   pub apart : (x : Record) → near t x ≡ false → any (λ y. recDominates y x) (slots alive kids) ≡ false

@@ -6,16 +6,15 @@
 use mathlib.Core.Path.{_≡_}
 use mathlib.Core.Bool.{Bool, not, _&&_}
 use mathlib.Core.List.{List}
-use Prim.Native.Nat.{ℕ, _+_, _-_, _^_, _≤_, _<_}
+use Prim.Native.Nat.{ℕ, _+_, _-_, _^_, _≤_}
 use lib.Bits.{bitAnd}
 use lib.Dec.{leb, eqb}
 use lib.ListN.{length, take}
 use lib.Seq.{slice}
-use Rattle.sizes.specs.Sizes.{mostStops}
 use Rattle.lists.specs.Lists.{In, keep, any}
 use Rattle.stops.specs.Code.{recDominates, stopsIn}
 use Rattle.stops.specs.declared.node_record.Record.{Record}
-use Rattle.records.specs.Code.{inSlot}
+use Rattle.records.specs.Code.{inSlot, Slotted}
 use Rattle.rivals.specs.declared.Test.{Test}
 
 -- y has a bound up to limit and dominates x
@@ -33,8 +32,7 @@ near t x = eqb (bitAnd (x .set) (t .base)) (t .base) && eqb (x .size) (t .size)
 -- The children by the stops of `alive` stand in their slots: each has the size, and its set is the base with its own stop, which the base
 -- lacks, and so holds the base.
 pub record Siblings (t : Test) (alive : ℕ) (kids : List Record) : Type 0 where
-  pub small : alive < 2 ^ mostStops
-  pub room : mostStops ≤ length kids
+  pub slotted : Slotted alive kids
   pub sizes : (s : ℕ) → In s (stopsIn alive) → inSlot kids s .size ≡ t .size
   pub sets : (s : ℕ) → In s (stopsIn alive) → inSlot kids s .set ≡ t .base + 2 ^ (s - 1)
   pub holds : (s : ℕ) → In s (stopsIn alive) → bitAnd (t .base + 2 ^ (s - 1)) (t .base) ≡ t .base

@@ -2,13 +2,12 @@
 // stands, in the slot of its stop. The functions are public for the crates above and not for hosts; what they require, those crates meet.
 ghost use mathlib.Core.Path.{_≡_};
 ghost use mathlib.Core.Bool.{false};
-ghost use Prim.Native.Nat.{_+_, _^_, _≤_, _<_};
+ghost use Prim.Native.Nat.{_+_, _≤_, _<_};
 ghost use lib.ListN.{length, getD, take};
 ghost use lib.Seq.{slice};
-ghost use Rattle.sizes.specs.Sizes.{mostStops};
 ghost use Rattle.lists.specs.Lists.{any};
 ghost use Rattle.stops.specs.Code.{emptyRecord, recDominates};
-ghost use Rattle.records.specs.Code.{records, RunsTo, Thinned};
+ghost use Rattle.records.specs.Code.{records, RunsTo, Slotted, Thinned};
 ghost use Rattle.rivals.specs.Code.{isRival, isFree, near, Siblings, Gathering};
 use records::bound_at;
 use records::load;
@@ -63,7 +62,7 @@ fn rival(w: &[u32], i: usize, v: &[u32], k: usize, limit: u32) -> bool
 // Rules 2 and 4 on the children by the stops of `alive`: those that none of the first records of w, as many as `count`, with a bound up to
 // limit dominates.
 fn undominated(kids: &[u32], alive: u32, w: &[u32], count: usize, limit: u32) -> u32
-    requires { ⌜ ((alive < 2 ^ mostStops) × (mostStops ≤ length (records (now kids)))) × (count ≤ length (records (now w))) ⌝ }
+    requires { ⌜ Slotted alive (records (now kids)) × (count ≤ length (records (now w))) ⌝ }
     ensures { λ r. ⌜ Thinned (isFree limit (take count (records (now (w .entry))))) (records (now (kids .entry))) alive r ⌝ }
 {
     let mut kept = 0;

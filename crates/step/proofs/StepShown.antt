@@ -177,7 +177,7 @@ module _
 
     -- the set of the stops that b leaves fits; there are as many children as such stops, and no fewer than survive
     pub stage-born : e .born < 2 ^ mostStops
-    stage-born = born-siblings (ready .rows) (ready .encoded) (made .children) 0 .small
+    stage-born = born-siblings (ready .rows) (ready .encoded) (made .children) 0 .slotted .small
 
     pub stage-generated :
         (m : ℕ) → m ≡ length (stopsIn (e .born))

@@ -1,5 +1,5 @@
 -- What a loop over the stops of a set needs: it takes the first stop of what is left out, and lowers or adds to what it has so far.
---   first-out, first-later    the first stop of a set, and the stops that are left without it
+--   first-out, first-only    the first stop of a set, by its trailing zeros
 --   Lowered, lowered-starts, lowered-again, lowered-ends    the invariant of a loop that looks for the least value over a set
 --   Summed, summed-starts, summed-again, summed-ends    the same for a sum; summed-most: no sum on the way is above the last
 --   into-set, into-pair, pair-in            the cheapest leg into a stop, of sets that are numbers
@@ -13,7 +13,7 @@ use native.Mathlib.Nat.{mul-le-mul-right, suc-mul}
 use native.Mathlib.Omega.{arith}
 use lib.Count.{trailingZeros}
 use lib.Dec.{eqb}
-use lib.ListN.{length}
+use lib.ListN.{length, getD}
 use lib.Pow.{pow-pos}
 use Rattle.sizes.specs.Sizes.{mostStops}
 use Rattle.lists.specs.Lists.{In, sum, least, without}
@@ -23,33 +23,32 @@ use Rattle.lists.proofs.Numbers.{sum-mono, sum-const, least-small}
 use Rattle.lists.proofs.Distinct.{least-taken}
 use Rattle.stops.specs.Legs.{Legs, rowLeg, legs}
 use Rattle.stops.specs.Bounds.{cheapestInto, remainder}
-use Rattle.stops.specs.Code.{stopsIn, ahead, Within}
+use Rattle.stops.specs.Code.{stopsIn, First, ahead, Within}
 use Rattle.stops.specs.Examples
 use Rattle.stops.proofs.SetBits.{stopsIn-zero, stopsIn-next, stopsIn-without}
 use Rattle.stops.proofs.SetJoin.{stopsIn-ascends}
 
--- r is the first stop of the set m, and the others, which are behind it, are those of the set without it, which is smaller
-pub record First (m r : ℕ) : Type 0 where
-  pub member : In r (stopsIn m)
-  pub others : stopsIn m ≡ r ∷ stopsIn (m - 2 ^ (r - 1))
-  pub behind : (s : ℕ) → In s (stopsIn (m - 2 ^ (r - 1))) → r < s
-  pub less : m - 2 ^ (r - 1) < m
+-- a set that is not empty has a first stop: the one that stands above its trailing zeros
+module _ (m : ℕ) (some : 0 < m) (small : m < 2 ^ mostStops) where
+  pub first-out : (r : ℕ) → r ≡ trailingZeros 32 m + 1 → First m r
+  first-out r e =
+      let (f, g, h) = stopsIn-next m small some in
+      let back : trailingZeros 32 m ≡ r - 1 = omega arith in
+      let split : stopsIn m ≡ r ∷ stopsIn (m - 2 ^ (r - 1)) = h ∙ rw (← e, back) in
+      record {
+        some = omega arith;
+        few = omega arith;
+        member = rw split in-head;
+        others = split;
+        behind = λ s i. stopsIn-ascends m small r (stopsIn (m - 2 ^ (r - 1))) split s i;
+        less = omega (arith, pow-pos (r - 1));
+      }
 
-pub first-out : (m r : ℕ) → 0 < m → m < 2 ^ mostStops → r ≡ trailingZeros 32 m + 1 → First m r
-first-out m r some small e =
-    let (f, g, h) = stopsIn-next m small some in
-    let back : trailingZeros 32 m ≡ r - 1 = omega arith in
-    let split : stopsIn m ≡ r ∷ stopsIn (m - 2 ^ (r - 1)) = h ∙ rw (← e, back) in
-    record {
-      member = rw split in-head;
-      others = split;
-      behind = λ s i. stopsIn-ascends m small r (stopsIn (m - 2 ^ (r - 1))) split s i;
-      less = omega (arith, pow-pos (r - 1));
-    }
-
--- what `later` gives is the set without that stop
-pub first-later : (m r x : ℕ) → r ≡ trailingZeros 32 m + 1 → x ≡ m - 2 ^ trailingZeros 32 m → x ≡ m - 2 ^ (r - 1)
-first-later m r x e q = let back : trailingZeros 32 m ≡ r - 1 = omega arith in rw (← back) q
+  -- and no other
+  pub first-only : (r : ℕ) → First m r → trailingZeros 32 m ≡ r - 1
+  first-only r o =
+      let same : trailingZeros 32 m + 1 ≡ r = ap (λ (xs : List ℕ). getD xs 0 0) (sym (stopsIn-next m small some .2) ∙ o .others) in
+      omega arith
 
 module _ {A : Type 0} (f : A → ℕ) where
   -- the least of v and of f over xs, taken from the left

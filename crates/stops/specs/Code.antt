@@ -1,6 +1,7 @@
 -- A node as the six words of its record: what the functions of this crate compute on them. `proofs/` shows that these are the words
 -- that document 01's definitions give.
 --   stopsIn set           the stops of a set, ascending (bit s-1 is stop s's)
+--   First set r           r is the first stop of a set
 --   extended x s leg      x with stop s and its leg added; its bound is not yet known
 --   lastStop x            the last stop flown; 0 for e, and for words that are no node's
 --   recDominates y z      dominance, on records
@@ -11,6 +12,7 @@
 --   rowOf n entries       a row of the planner's
 --   Wide x s leg          what `extended` asks, so that no word overflows
 --   emptyRecord           six zeros, e's record before it has a bound
+use mathlib.Core.Path.{_≡_}
 use mathlib.Core.Bool.{Bool, not, _&&_, cond}
 use mathlib.Core.List.{List, [], _∷_, map}
 use Prim.Native.Nat.{ℕ, zero, suc, _+_, _*_, _-_, _^_, _/_, _%_, _≤_, _<_}
@@ -32,6 +34,15 @@ bits (suc k) s m = put (eqb (m % 2) 1) s (bits k (suc s) (m / 2))
 
 unfoldable pub stopsIn : ℕ → List ℕ
 stopsIn set = bits mostStops 1 set
+
+-- r is the first stop of a set, one that a day may have; the others, which are behind it, are those of the set without it, which is smaller
+pub record First (set r : ℕ) : Type 0 where
+  pub some : 1 ≤ r
+  pub few : r ≤ mostStops
+  pub member : In r (stopsIn set)
+  pub others : stopsIn set ≡ r ∷ stopsIn (set - 2 ^ (r - 1))
+  pub behind : (s : ℕ) → In s (stopsIn (set - 2 ^ (r - 1))) → r < s
+  pub less : set - 2 ^ (r - 1) < set
 
 unfoldable pub emptyRecord : Record
 emptyRecord = record { size = 0; set = 0; path = 0; bound = 0; first = 0; second = 0 }

@@ -1,16 +1,15 @@
 // Sets of stops, each a word: bit s-1 is stop s's.
 ghost use mathlib.Core.Path.{_≡_};
-ghost use Prim.Native.Nat.{_+_, _-_, _^_, _≤_, _<_};
-ghost use lib.Count.{trailingZeros};
+ghost use Prim.Native.Nat.{ℕ, _+_, _-_, _^_, _≤_, _<_};
 ghost use lib.ListN.{length};
 ghost use Rattle.sizes.specs.Sizes.{mostStops};
 ghost use Rattle.lists.specs.Lists.{In};
-ghost use Rattle.stops.specs.Code.{stopsIn};
+ghost use Rattle.stops.specs.Code.{stopsIn, First};
 
 // The next stop of a set: its lowest.
 pub fn next(set: u32) -> u32
     requires { ⌜ (0 < set) × (set < 2 ^ mostStops) ⌝ }
-    ensures { λ r. ⌜ (r ≡ trailingZeros 32 set + 1) × (r ≤ mostStops) ⌝ }
+    ensures { λ r. ⌜ First set r ⌝ }
 {
     u32::trailing_zeros(set) + 1
 }
@@ -18,7 +17,7 @@ pub fn next(set: u32) -> u32
 // The stops of a set behind its next one.
 pub fn later(set: u32) -> u32
     requires { ⌜ (0 < set) × (set < 2 ^ mostStops) ⌝ }
-    ensures { λ r. ⌜ r ≡ set - 2 ^ trailingZeros 32 set ⌝ }
+    ensures { λ r. ⌜ ((s : ℕ) → First set s → r ≡ set - 2 ^ (s - 1)) ⌝ }
 {
     set & (set - 1)
 }
@@ -33,7 +32,7 @@ pub fn without(set: u32, stop: u32) -> u32
 
 // The set with a stop that it lacked.
 pub fn with(set: u32, stop: u32) -> u32
-    requires { ⌜ (set < 2 ^ mostStops) × ((1 ≤ stop) × (stop ≤ mostStops)) ⌝ }
+    requires { ⌜ (set < 2 ^ mostStops) × (((1 ≤ stop) × (stop ≤ mostStops)) × (In stop (stopsIn set) → ⊥)) ⌝ }
     ensures { λ r. ⌜ r ≡ set + 2 ^ (stop - 1) ⌝ }
 {
     set + (1u32 << (stop - 1))

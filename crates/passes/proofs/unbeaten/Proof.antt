@@ -46,17 +46,17 @@ next-requires c κs =
     let r = c .before .before in
     let start = entry r in
     let a = start .args in
-    omega (arith, and-le-r (r .set-at .result - a .test .base) (a .alive), start .pre .1 .small)
+    omega (arith, and-le-r (r .set-at .result - a .test .base) (a .alive), start .pre .1 .slotted .small)
 
 beats-requires : tie.Need-beats-requires
-beats-requires c κs = omega (arith, entry (read (c .before)) .pre .1 .room)
+beats-requires c κs = omega (arith, entry (read (c .before)) .pre .1 .slotted .room)
 
 returns-2 : tie.Need-returns-2
 unfolding inSlot
 returns-2 c =
     let n = c .before .before in
     let r = read n in
-    let only = beaten-own (entry r .pre .1) (x r) (own r) (own-is r) (omega arith) (n .next .result) (n .next .ensures .0) .1 in
+    let only = beaten-own (entry r .pre .1) (x r) (own r) (own-is r) (n .next .result) (n .next .ensures) .1 in
     cc
 
 pub unbeaten-spec : {M : Type 1} → statement M

@@ -2,14 +2,11 @@
 -- (`Thinning`). The measure is the set of the stops left, as a number.
 use mathlib.Core.Path.{_≡_}
 use mathlib.Core.List.{List}
-use Prim.Native.Nat.{_-_, _^_, _≤_, _<_}
 use native.Mathlib.Omega.{arith}
 use borrow.Author.Tests.{le-leb, lt-leb}
-use lib.ListN.{length}
 use Rattle.stops.specs.declared.node_record.Record.{Record}
-use Rattle.stops.proofs.SetLoops.{First, first-out, first-later}
 use Rattle.records.specs.Code.{records, inSlot}
-use Rattle.records.proofs.SlotLaws.{slot-inside, Thinning, thinning-starts, thinning-keeps, thinning-drops, thinning-ends}
+use Rattle.records.proofs.SlotLaws.{Thinning, thinning-starts, thinning-adds, thinning-keeps, thinning-drops, thinning-ends}
 use Rattle.passes.specs.Code.{isWithin}
 use Rattle.passes.proofs.within.Statement.{statement}
 use Rattle.passes.proofs.within.Tie as tie
@@ -30,26 +27,11 @@ head c = c .before .before
 abbrev stepped : tie.After-bound-at Inv-loop μ-loop → tie.After-next Inv-loop μ-loop
 stepped c = c .before .before .before
 
--- what `next` gives is the first of the stops left
-first : (c : tie.After-next Inv-loop μ-loop) → First (head c .loop .left) (c .next .result)
-first c =
-    let loop = head c .loop in
-    first-out (loop .left) (c .next .result) (omega arith) (loop .inv .small) (c .next .ensures .0)
-
--- what `later` gives is the others
-rest-left : (c : tie.After-later Inv-loop μ-loop) → c .later .result ≡ head (c .before) .loop .left - 2 ^ (c .before .next .result - 1)
-rest-left c = first-later _ _ _ (c .before .next .ensures .0) (c .later .ensures)
-
 -- the children's records
 abbrev kids : tie.After-next Inv-loop μ-loop → List Record
 kids c = records (entry (head c) .args .kids .now)
 
--- the slot of the stop is inside, and the bound of its child is read
-inside : (c : tie.After-next Inv-loop μ-loop) → (1 ≤ c .next .result) × (c .next .result - 1 < length (kids c))
-inside c =
-    let loop = head c in
-    slot-inside (kids c) (loop .loop .left) (c .next .result) (loop .loop .inv .small) (entry loop .pre .1) (first c .member)
-
+-- the bound of the stop's child is read
 bound-read :
     (c : tie.After-bound-at Inv-loop μ-loop)
     → let n = stepped c in c .bound-at .result ≡ inSlot (kids n) (n .next .result) .bound
@@ -62,7 +44,8 @@ loop-again c =
     let read = c .before .before in
     let n = stepped read in
     let passes = le-leb (read .bound-at .result) (entry (head n) .args .limit) (omega arith) in
-    thinning-keeps (head n .loop .inv) (first n) (rest-left (read .before .before)) (c .with .ensures) (rw (← bound-read read) passes)
+    let later = read .before .before .later .ensures _ (n .next .ensures) in
+    thinning-keeps (head n .loop .inv) (n .next .ensures) later (c .with .ensures) (rw (← bound-read read) passes)
 
 loop-again-2 : tie.Need-loop-again-2 Inv-loop μ-loop
 unfolding isWithin
@@ -70,7 +53,8 @@ loop-again-2 c =
     let read = c .before in
     let n = stepped read in
     let fails = lt-leb (read .bound-at .result) (entry (head n) .args .limit) (omega arith) in
-    thinning-drops (head n .loop .inv) (first n) (rest-left (read .before .before)) (rw (← bound-read read) fails)
+    let later = read .before .before .later .ensures _ (n .next .ensures) in
+    thinning-drops (head n .loop .inv) (n .next .ensures) later (rw (← bound-read read) fails)
 
 pub within-spec : {M : Type 1} → statement M
 within-spec =
@@ -78,14 +62,14 @@ within-spec =
     (tie.spec
     Inv-loop
     μ-loop
-    (λ c. thinning-starts _ _ _ (c .before .pre .0))
+    (λ c. thinning-starts _ _ _ (c .before .pre .small))
     (λ c κs. let h = c .before .loop .inv .small in omega arith)
     (λ c κs. let h = head c .loop .inv .small in omega arith)
     (λ c κs. omega arith)
-    (λ c κs. omega (arith, inside (c .before .before)))
-    (λ c κs. let h = head (stepped (c .before)) .loop .inv .kept-small in omega arith)
-    (λ c. let read = c .before .before in omega (arith, first (stepped read) .less, rest-left (read .before .before)))
+    (λ c κs. let n = c .before .before in omega (arith, n .next .ensures, entry (head n) .pre .room))
+    (λ c κs. let n = stepped (c .before) in thinning-adds (head n .loop .inv) (n .next .ensures))
+    (λ c. let read = c .before .before in omega (arith, read .before .before .later .ensures _ (stepped read .next .ensures)))
     loop-again
-    (λ c. let read = c .before in omega (arith, first (stepped read) .less, rest-left (read .before .before)))
+    (λ c. let read = c .before in omega (arith, read .before .before .later .ensures _ (stepped read .next .ensures)))
     loop-again-2
     (λ c. thinning-ends (c .before .loop .inv) (c .loop-test .left)))

@@ -34,7 +34,7 @@ write-at-requires c κs =
     let out = c .before .before .before in
     let g = gathered out in
     let p = entry (chosen out) .pre in
-    ((p .0 .small, p .0 .takes .room), omega (arith, g .count, g .same-length, p .1))
+    (record { small = p .0 .small; room = p .0 .takes .slotted .room }, omega (arith, g .count, g .same-length, p .1))
 
 add-result : tie.Need-add-result
 add-result c =

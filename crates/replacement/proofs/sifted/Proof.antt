@@ -51,7 +51,7 @@ write-at-requires c κs =
     let sift = c .before .before .before in
     let g = gathered sift in
     let p = entry (first (sift .before)) .pre in
-    ((p .0 .small, p .0 .takes .room), omega (arith, g .count, g .same-length, p .1))
+    (record { small = p .0 .small; room = p .0 .takes .slotted .room }, omega (arith, g .count, g .same-length, p .1))
 
 add-result : tie.Need-add-result
 add-result c =

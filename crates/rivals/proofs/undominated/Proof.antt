@@ -4,7 +4,7 @@
 use mathlib.Core.Path.{_≡_, ap, _∙_}
 use mathlib.Core.Bool.{Bool, true, false}
 use mathlib.Core.List.{List}
-use Prim.Native.Nat.{ℕ, _+_, _-_, _^_, _≤_, _<_}
+use Prim.Native.Nat.{ℕ, _+_, _-_, _≤_, _<_}
 use native.Mathlib.Omega.{arith}
 use lib.ListN.{length, getD, take}
 use lib.Seq.{slice}
@@ -12,9 +12,8 @@ use Rattle.lists.specs.Lists.{any}
 use Rattle.lists.proofs.Slices.{any-slice-none, any-slice-more, any-slice-found}
 use Rattle.stops.specs.Code.{emptyRecord}
 use Rattle.stops.specs.declared.node_record.Record.{Record}
-use Rattle.stops.proofs.SetLoops.{First, first-out, first-later}
 use Rattle.records.specs.Code.{records, inSlot}
-use Rattle.records.proofs.SlotLaws.{slot-inside, Thinning, thinning-starts, thinning-keeps, thinning-drops, thinning-ends}
+use Rattle.records.proofs.SlotLaws.{Thinning, thinning-starts, thinning-adds, thinning-keeps, thinning-drops, thinning-ends}
 use Rattle.rivals.specs.Code.{isRival, isFree}
 use Rattle.rivals.proofs.undominated.Statement.{statement}
 use Rattle.rivals.proofs.undominated.Tie as tie
@@ -62,13 +61,6 @@ head c = c .before .before
 abbrev slotted : tie.At-loop Inv-loop μ-loop Inv-child μ-child → tie.After-slot Inv-loop μ-loop Inv-child μ-child
 slotted c = c .before
 
--- what `next` gives is the first of the stops left, and what `later` gives is the others
-first : (c : tie.After-next Inv-loop μ-loop Inv-child μ-child) → First (head c .child .left) (c .next .result)
-first c = first-out _ _ (omega arith) (head c .child .inv .small) (c .next .ensures .0)
-
-others : (c : tie.After-later Inv-loop μ-loop Inv-child μ-child) → c .later .result ≡ head (c .before) .child .left - 2 ^ (c .before .next .result - 1)
-others c = first-later _ _ _ (c .before .next .ensures .0) (c .later .ensures)
-
 -- the child stands in its stop's slot, which is inside
 child :
     (c : tie.After-slot Inv-loop μ-loop Inv-child μ-child)
@@ -79,8 +71,7 @@ child c =
     let n = c .before .before in
     let start = entry (head n) in
     let kids = records (start .args .kids .now) in
-    let inside = slot-inside kids _ _ (start .pre .0 .0) (start .pre .0 .1) (head n .child .inv .among _ (first n .member)) in
-    (ap (λ (j : ℕ). getD kids j emptyRecord) (c .slot .ensures), omega (arith, c .slot .ensures))
+    (ap (λ (j : ℕ). getD kids j emptyRecord) (c .slot .ensures), omega (arith, c .slot .ensures, n .next .ensures, start .pre .0 .room))
 
 -- whether it is left, by what the inner loop found
 free :
@@ -101,7 +92,7 @@ child-again c =
     let i = c .before .before .before .loop .i in
     let x = getD (records (a .kids .now)) (s .slot .result) emptyRecord in
     let fails = rivalled (a .limit) x (records (a .w .now)) (a .count) i (omega arith) (omega arith) (cc) in
-    thinning-drops (head (l .before) .child .inv) (first (l .before)) (others l) (free s false fails)
+    thinning-drops (head (l .before) .child .inv) (l .before .next .ensures) (l .later .ensures _ (l .before .next .ensures)) (free s false fails)
 
 loop-again : tie.Need-loop-again Inv-loop μ-loop Inv-child μ-child
 loop-again c = (omega arith, unrivalled-more _ _ _ _ (omega arith) (c .before .before .before .loop .inv .1) (cc))
@@ -112,7 +103,7 @@ child-again-2 c =
     let s = slotted loop in
     let l = s .before in
     let passes = unrivalled-free _ _ _ _ (entry (head (l .before)) .args .count) (loop .loop .inv .1) (omega arith) in
-    thinning-keeps (head (l .before) .child .inv) (first (l .before)) (others l) (c .with .ensures) (free s true passes)
+    thinning-keeps (head (l .before) .child .inv) (l .before .next .ensures) (l .later .ensures _ (l .before .next .ensures)) (c .with .ensures) (free s true passes)
 
 pub undominated-spec : {M : Type 1} → statement M
 undominated-spec =
@@ -122,18 +113,18 @@ undominated-spec =
     μ-loop
     Inv-child
     μ-child
-    (λ c. thinning-starts _ _ _ (c .before .before .pre .0 .0))
+    (λ c. thinning-starts _ _ _ (c .before .before .pre .0 .small))
     (λ c κs. (omega arith, c .before .child .inv .small))
     (λ c κs. (omega arith, head c .child .inv .small))
     (λ c κs. omega (arith, c .before .next .ensures))
     loop-holds
     (λ c κs. (omega arith, child (slotted (c .before)) .1))
-    (λ c. let l = slotted (c .before .before .before) .before in omega (arith, first (l .before) .less, others l))
+    (λ c. let l = slotted (c .before .before .before) .before in omega (arith, l .later .ensures _ (l .before .next .ensures)))
     child-again
     (λ c. omega arith)
     (λ c. omega arith)
     loop-again
-    (λ c κs. let n = slotted (c .before) .before .before in omega (arith, head n .child .inv .kept-small, n .next .ensures))
-    (λ c. let l = slotted (c .before .before) .before in omega (arith, first (l .before) .less, others l))
+    (λ c κs. let n = slotted (c .before) .before .before in thinning-adds (head n .child .inv) (n .next .ensures))
+    (λ c. let l = slotted (c .before .before) .before in omega (arith, l .later .ensures _ (l .before .next .ensures)))
     child-again-2
     (λ c. thinning-ends (c .before .child .inv) (c .child-test .left)))

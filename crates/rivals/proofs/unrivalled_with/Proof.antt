@@ -30,7 +30,7 @@ loop-holds : tie.Need-loop-holds Inv-loop μ-loop
 loop-holds c =
     let start = c .before .before .before in
     let a = start .args in
-    (omega arith, (refl, thinned-unsearched (a .test .limit) (a .from) (records (a .w .now)) (records (a .kids .now)) (a .alive) (start .pre .0 .small)))
+    (omega arith, (refl, thinned-unsearched (a .test .limit) (a .from) (records (a .w .now)) (records (a .kids .now)) (a .alive) (start .pre .0 .slotted .small)))
 
 returns : tie.Need-returns Inv-loop μ-loop
 returns c =
@@ -48,7 +48,7 @@ undominated-requires : tie.Need-undominated-requires Inv-loop μ-loop
 undominated-requires c κs =
     let g = c .before .before .before in
     let h = head g in
-    ((h .loop .inv .1 .1 .small, entry h .pre .0 .room), g .gather .ensures .0 .room)
+    (record { small = h .loop .inv .1 .1 .small; room = entry h .pre .0 .slotted .room }, g .gather .ensures .0 .room)
 
 loop-less : tie.Need-loop-less Inv-loop μ-loop
 loop-less c =

@@ -33,7 +33,7 @@ learn-requires c κs =
     let f = c .before .before .before in
     let ready = entry (spotted f) .pre .0 in
     let siblings = born-siblings (ready .rows) (ready .encoded) (born f) 0 in
-    ((siblings .small, siblings .room), born-size (ready .rows) (ready .encoded) (born f))
+    (siblings .slotted, born-size (ready .rows) (ready .encoded) (born f))
 
 survivors-requires : tie.Need-survivors-requires
 survivors-requires c κs =

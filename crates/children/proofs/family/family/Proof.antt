@@ -1,15 +1,13 @@
 -- `family::family` meets its contract. The loop's invariant: `rest` is the set of the stops that b leaves, the slice keeps its length, and
 -- the children by the stops passed stand in their slots (`Placing`). The measure is the set of the stops left, as a number.
 use mathlib.Core.Path.{_≡_, refl, _∙_}
-use Prim.Native.Nat.{_+_, _-_, _*_, _^_, _%_, _≤_, _<_}
+use Prim.Native.Nat.{_+_, _-_, _*_, _^_, _%_, _≤_}
 use native.Mathlib.Omega.{arith}
 use borrow.Author.Needs.{needs}
 use lib.ListN.{length}
 use Rattle.sizes.specs.Sizes.{mostStops}
-use Rattle.stops.proofs.SetLoops.{First, first-out, first-later}
 use Rattle.records.specs.Code.{records}
 use Rattle.records.proofs.Mask.{rest-small}
-use Rattle.records.proofs.SlotLaws.{slot-inside}
 use Rattle.children.specs.Code.{restOf, childOf}
 use Rattle.children.proofs.FamilyLaws.{rest-sum, Placing, placing-starts, placing-again, placing-ends}
 use Rattle.children.proofs.family.family.Statement.{statement}
@@ -53,23 +51,6 @@ loop-holds c =
     let e : 1 * 2 ^ a .setting .n % 2 ^ 32 - 1 - a .b .set ≡ restOf (a .setting) (a .b) = omega (arith, sums last) in
     (e, refl, placing-starts e (rest-small (a .setting .n) (p .0 .few) (a .b .set)) (p .1 .1))
 
--- what `next` gives is the first of the stops left
-first : (c : tie.After-next Inv-loop μ-loop) → First (head c .loop .left) (c .next .result)
-first c =
-    let l = head c .loop in
-    first-out (l .left) (c .next .result) (omega arith) (l .inv .2 .small) (c .next .ensures .0)
-
--- what `later` gives is the others
-rest-left : (c : tie.After-later Inv-loop μ-loop) → c .later .result ≡ head (c .before) .loop .left - 2 ^ (c .before .next .result - 1)
-rest-left c = first-later _ _ _ (c .before .next .ensures .0) (c .later .ensures)
-
--- the stop's slot is one of the slice's
-inside :
-    (c : tie.After-next Inv-loop μ-loop) → let s = c .next .result in (1 ≤ s) × (s - 1 < length (records (head c .loop .kids)))
-inside c =
-    let l = head c .loop in
-    slot-inside (records (l .kids)) _ _ (l .inv .2 .small) (l .inv .2 .room) (first c .member)
-
 child-requires : tie.Need-child-requires Inv-loop μ-loop
 child-requires c κs =
     let n = stepped (c .before) in
@@ -80,13 +61,13 @@ child-requires c κs =
       encoded = p .1 .0;
       at = placed l .last .ensures;
       leaves = l .loop .inv .0;
-      stop = rw (l .loop .inv .0) (l .loop .inv .2 .among _ (first n .member));
+      stop = rw (l .loop .inv .0) (l .loop .inv .2 .among _ (n .next .ensures .member));
     }
 
 loop-less : tie.Need-loop-less Inv-loop μ-loop
 loop-less c =
     let slot = c .before .before .before .before .before in
-    omega (arith, first (stepped slot) .less, rest-left (slot .before .before))
+    omega (arith, slot .before .before .later .ensures _ (stepped slot .next .ensures))
 
 loop-again : tie.Need-loop-again Inv-loop μ-loop
 loop-again c =
@@ -96,7 +77,7 @@ loop-again c =
     let l = head n .loop in (
       l .inv .0,
       s .store .kept .0 ∙ l .inv .1,
-      placing-again (l .inv .2) (first n) (rest-left (slot .before .before)) (s .before .child .ensures)
+      placing-again (l .inv .2) (n .next .ensures) (slot .before .before .later .ensures _ (n .next .ensures)) (s .before .child .ensures)
           (rw (slot .slot .ensures) at (s .store .ensures)),
     )
 
@@ -118,9 +99,9 @@ family-spec =
     loop-holds
     (λ c κs. let h = c .before .loop .inv .2 .small in omega arith)
     (λ c κs. let h = head c .loop .inv .2 .small in omega arith)
-    (λ c κs. inside (c .before .before) .0)
+    (λ c κs. c .before .before .next .ensures .some)
     child-requires
-    (λ c κs. let slot = c .before .before in rw (slot .slot .ensures) (inside (stepped slot) .1))
+    (λ c κs. let slot = c .before .before in let n = stepped slot in omega (arith, slot .slot .ensures, n .next .ensures, head n .loop .inv .2 .room))
     loop-less
     loop-again
     (λ c. c .before .loop .inv .1)

@@ -12,7 +12,7 @@ returns c = thinned-on (sym (c .before .before .on .ensures) ∙ c .before .if1 
 returns-2 : tie.Need-returns-2
 returns-2 c =
     let start = c .before .before .before in
-    thinned-off (isWithin (start .args .limit)) (sym (c .before .on .ensures) ∙ c .if1 .left) (start .pre .0)
+    thinned-off (isWithin (start .args .limit)) (sym (c .before .on .ensures) ∙ c .if1 .left) (start .pre .small)
 
 pub by-rule-1-spec : {M : Type 1} → statement M
 by-rule-1-spec = tie.close (tie.spec (λ c κs. search needs) (λ c κs. search needs) returns returns-2)

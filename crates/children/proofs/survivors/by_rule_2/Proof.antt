@@ -49,7 +49,7 @@ returns-2 c =
     thinned-off
     (isFree (a .test .limit) (othersIn (records (a .w .now)) (a .spot .active) (a .spot .at)))
     (sym (c .before .on .ensures) ∙ c .if1 .left)
-    (start .pre .1 .small)
+    (start .pre .1 .slotted .small)
 
 pub by-rule-2-spec : {M : Type 1} → statement M
 by-rule-2-spec =

@@ -34,7 +34,7 @@ returns-2 c =
     thinned-off
     (isFree noLimit (farIn (records (start .args .w .now)) (start .args .spot .far)))
     (sym (c .before .on .ensures) ∙ c .if1 .left)
-    (start .pre .1 .small)
+    (start .pre .1 .slotted .small)
 
 pub by-rule-4-spec : {M : Type 1} → statement M
 by-rule-4-spec =

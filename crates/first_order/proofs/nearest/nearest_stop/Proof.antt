@@ -4,7 +4,6 @@ use native.Mathlib.Omega.{arith}
 use borrow.Author.Needs.{needs}
 use Rattle.stops.specs.Legs.{legs}
 use Rattle.stops.specs.Code.{stopsIn}
-use Rattle.stops.proofs.SetLoops.{First, first-out, first-later}
 use Rattle.first_order.specs.Code.{nearestIn}
 use Rattle.first_order.proofs.NearestLaws.{Found, found-starts, found-again, found-ends}
 use Rattle.first_order.proofs.nearest.nearest_stop.Statement.{statement}
@@ -16,34 +15,23 @@ Inv-loop t place rest found₀ left₀ found left = Found (legs t .leg place) (n
 abbrev μ-loop : tie.MeasureT-loop
 μ-loop t place rest found₀ left₀ found left = left
 
--- what `next` gives is the first stop, before the loop and in it
-first : (c : tie.After-next Inv-loop μ-loop) → First (c .before .args .rest) (c .next .result)
-first c =
-    let p = c .before .pre .1 in
-    first-out (c .before .args .rest) (c .next .result) (p .0) (p .1) (c .next .ensures .0)
-
-first-left : (c : tie.After-next2 Inv-loop μ-loop) → First (c .before .before .loop .left) (c .next2 .result)
-first-left c =
-    let l = c .before .before .loop in
-    first-out (l .left) (c .next2 .result) (omega arith) (l .inv .small) (c .next2 .ensures .0)
-
 loop-holds : tie.Need-loop-holds Inv-loop μ-loop
 loop-holds c =
     let n = c .before in
     let a = n .before .args in
-    found-starts (legs (a .t .now) .leg (a .place)) (a .rest) (n .next .result) (c .later .result) (n .before .pre .1 .1) (first n)
-    (first-later _ _ _ (n .next .ensures .0) (c .later .ensures)) (n .next .ensures .1)
+    found-starts (legs (a .t .now) .leg (a .place)) (a .rest) (n .next .result) (c .later .result) (n .before .pre .1 .1) (n .next .ensures)
+    (c .later .ensures _ (n .next .ensures))
 
 loop-less : tie.Need-loop-less Inv-loop μ-loop
 loop-less c =
     let n = c .before .before in
-    omega (arith, first-left n .less, first-later _ _ _ (n .next2 .ensures .0) (c .before .later2 .ensures))
+    omega (arith, c .before .later2 .ensures _ (n .next2 .ensures))
 
 loop-again : tie.Need-loop-again Inv-loop μ-loop
 loop-again c =
     let n = c .before .before in
-    let rest = first-later _ _ _ (n .next2 .ensures .0) (c .before .later2 .ensures) in
-    found-again (n .before .before .loop .inv) (n .next2 .result) (first-left n) rest (c .nearer .ensures)
+    let rest = c .before .later2 .ensures _ (n .next2 .ensures) in
+    found-again (n .before .before .loop .inv) (n .next2 .result) (n .next2 .ensures) rest (c .nearer .ensures)
 
 pub nearest-stop-spec : {M : Type 1} → statement M
 nearest-stop-spec =

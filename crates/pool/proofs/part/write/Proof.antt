@@ -1,13 +1,11 @@
 -- `write` meets its contract. The loop's invariant: the part keeps its length, and its first k records are the children by the stops passed
 -- (`Writing`). The measure is the set of the stops left, as a number.
 use mathlib.Core.Path.{_≡_, refl, _∙_}
-use Prim.Native.Nat.{_-_, _^_, _≤_, _<_}
+use Prim.Native.Nat.{_<_}
 use native.Mathlib.Omega.{arith}
 use lib.ListN.{length}
-use Rattle.stops.proofs.SetLoops.{First, first-out, first-later}
 use Rattle.records.specs.Code.{records, inSlot}
 use Rattle.records.proofs.ViewLaws.{length-records}
-use Rattle.records.proofs.SlotLaws.{slot-inside}
 use Rattle.pool.proofs.PartLaws.{Writing, writing-starts, writing-room, writing-again, writing-ends}
 use Rattle.pool.proofs.part.write.Statement.{statement}
 use Rattle.pool.proofs.part.write.Tie as tie
@@ -33,29 +31,11 @@ stepped c = c .before .before .before
 loop-holds : tie.Need-loop-holds Inv-loop μ-loop
 loop-holds c =
     let s = c .before .before in
-    (refl, writing-starts (records (s .args .part .now)) (records (s .args .kids .now)) (s .args .alive) (s .pre .0 .0))
-
--- what `next` gives is the first of the stops left
-first : (c : tie.After-next Inv-loop μ-loop) → First (head c .loop .left) (c .next .result)
-first c =
-    let l = head c .loop in
-    first-out (l .left) (c .next .result) (omega arith) (l .inv .1 .small) (c .next .ensures .0)
-
--- what `later` gives is the others
-rest-left : (c : tie.After-later Inv-loop μ-loop) → c .later .result ≡ head (c .before) .loop .left - 2 ^ (c .before .next .result - 1)
-rest-left c = first-later _ _ _ (c .before .next .ensures .0) (c .later .ensures)
-
--- the stop's slot is one of the kids'
-inside :
-    (c : tie.After-next Inv-loop μ-loop)
-    → let s = c .next .result in (1 ≤ s) × (s - 1 < length (records (entry (head c) .args .kids .now)))
-inside c =
-    let l = head c in
-    slot-inside (records (entry l .args .kids .now)) _ _ (l .loop .inv .1 .small) (entry l .pre .0 .1) (first c .member)
+    (refl, writing-starts (records (s .args .part .now)) (records (s .args .kids .now)) (s .args .alive) (s .pre .0 .small))
 
 -- the part has room for one record more
 room : (c : tie.After-next Inv-loop μ-loop) → let l = head c .loop in l .k < length (records (l .part))
-room c = let l = head c in writing-room (l .loop .inv .1) (first c) (entry l .pre .1)
+room c = let l = head c in writing-room (l .loop .inv .1) (c .next .ensures) (entry l .pre .1)
 
 add-k : tie.Need-add-k Inv-loop μ-loop
 add-k c =
@@ -66,7 +46,7 @@ add-k c =
 loop-less : tie.Need-loop-less Inv-loop μ-loop
 loop-less c =
     let s = c .before .before .before .before in
-    omega (arith, first (stepped s) .less, rest-left (s .before .before))
+    omega (arith, s .before .before .later .ensures _ (stepped s .next .ensures))
 
 loop-again : tie.Need-loop-again Inv-loop μ-loop
 unfolding inSlot
@@ -76,7 +56,7 @@ loop-again c =
     let n = stepped slot in
     let l = head n in (
       s .store .kept .0 ∙ l .loop .inv .0,
-      writing-again (l .loop .inv .1) (first n) (entry l .pre .1) (rest-left (slot .before .before))
+      writing-again (l .loop .inv .1) (n .next .ensures) (entry l .pre .1) (slot .before .before .later .ensures _ (n .next .ensures))
           (rw (slot .slot .ensures) at (s .before .load .ensures)) (s .store .ensures),
     )
 
@@ -92,8 +72,8 @@ write-spec =
     loop-holds
     (λ c κs. let h = c .before .loop .inv .1 .small in omega arith)
     (λ c κs. let h = head c .loop .inv .1 .small in omega arith)
-    (λ c κs. inside (c .before .before) .0)
-    (λ c κs. rw (c .slot .ensures) (inside (stepped c) .1))
+    (λ c κs. c .before .before .next .ensures .some)
+    (λ c κs. let n = stepped c in omega (arith, c .slot .ensures, n .next .ensures, entry (head n) .pre .0 .room))
     (λ c κs. room (stepped (c .before)))
     add-k
     loop-less

@@ -7,7 +7,7 @@ use borrow.Author.Needs.{needs}
 use Rattle.lists.specs.Lists.{least}
 use Rattle.stops.specs.Legs.{rowLeg}
 use Rattle.stops.specs.Code.{stopsIn}
-use Rattle.stops.proofs.SetLoops.{First, first-out, first-later, Lowered, lowered-starts-first, lowered-again, lowered-ends}
+use Rattle.stops.proofs.SetLoops.{Lowered, lowered-starts-first, lowered-again, lowered-ends}
 use Rattle.stops.proofs.bound.home.Statement.{statement}
 use Rattle.stops.proofs.bound.home.Tie as tie
 
@@ -17,34 +17,25 @@ Inv-loop t rest first low₀ left₀ low left = Lowered (λ s. rowLeg t s 0) (le
 abbrev μ-loop : tie.MeasureT-loop
 μ-loop t rest first low₀ left₀ low left = left
 
--- what `next` gives is the first stop, before the loop and in it
-first : (c : tie.After-next Inv-loop μ-loop) → First (c .before .args .rest) (c .next .result)
-first c = first-out (c .before .args .rest) (c .next .result) (c .before .pre .0) (c .before .pre .1) (c .next .ensures .0)
-
-first-left : (c : tie.After-next2 Inv-loop μ-loop) → First (c .before .before .loop .left) (c .next2 .result)
-first-left c =
-    let l = c .before .before .loop in
-    first-out (l .left) (c .next2 .result) (omega arith) (l .inv .small) (c .next2 .ensures .0)
-
 loop-holds : tie.Need-loop-holds Inv-loop μ-loop
 loop-holds c =
     let n = c .before .before in
     let a = n .before .args in
     rw (c .before .leg .ensures)
-    (lowered-starts-first (λ s. rowLeg (a .t .now) s 0) (a .rest) (n .next .result) (c .later .result) (n .before .pre .1) (first n)
-    (first-later _ _ _ (n .next .ensures .0) (c .later .ensures)))
+    (lowered-starts-first (λ s. rowLeg (a .t .now) s 0) (a .rest) (n .next .result) (c .later .result) (n .before .pre .1) (n .next .ensures)
+    (c .later .ensures _ (n .next .ensures)))
 
 loop-less : tie.Need-loop-less Inv-loop μ-loop
 loop-less c =
     let n = c .before .before .before in
-    omega (arith, first-left n .less, first-later _ _ _ (n .next2 .ensures .0) (c .before .before .later2 .ensures))
+    omega (arith, n .next2 .ensures .less, c .before .before .later2 .ensures _ (n .next2 .ensures))
 
 loop-again : tie.Need-loop-again Inv-loop μ-loop
 loop-again c =
     let n = c .before .before .before in
     let l = n .before .before .loop in
-    let rest = first-later _ _ _ (n .next2 .ensures .0) (c .before .before .later2 .ensures) in
-    lowered-again (n .next2 .result) (l .inv) (first-left n) rest (c .lesser .ensures ∙ ap (min (l .least)) (c .before .leg2 .ensures))
+    let rest = c .before .before .later2 .ensures _ (n .next2 .ensures) in
+    lowered-again (n .next2 .result) (l .inv) (n .next2 .ensures) rest (c .lesser .ensures ∙ ap (min (l .least)) (c .before .leg2 .ensures))
 
 pub home-spec : {M : Type 1} → statement M
 home-spec =

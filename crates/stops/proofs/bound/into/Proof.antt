@@ -8,7 +8,7 @@ use borrow.Author.Needs.{needs}
 use Rattle.lists.specs.Lists.{least}
 use Rattle.stops.specs.Legs.{rowLeg}
 use Rattle.stops.specs.Code.{stopsIn}
-use Rattle.stops.proofs.SetLoops.{First, first-out, first-later, Lowered, lowered-starts, lowered-again, lowered-ends}
+use Rattle.stops.proofs.SetLoops.{Lowered, lowered-starts, lowered-again, lowered-ends}
 use Rattle.stops.proofs.bound.into.Statement.{statement}
 use Rattle.stops.proofs.bound.into.Tie as tie
 
@@ -18,12 +18,6 @@ Inv-loop t place others s low₀ left₀ low left = Lowered (λ p. rowLeg t p s)
 abbrev μ-loop : tie.MeasureT-loop
 μ-loop t place others s low₀ left₀ low left = left
 
--- what `next` gives is the first of the stops left
-first : (c : tie.After-next Inv-loop μ-loop) → First (c .before .before .loop .left) (c .next .result)
-first c =
-    let l = c .before .before .loop in
-    first-out (l .left) (c .next .result) (omega arith) (l .inv .small) (c .next .ensures .0)
-
 loop-holds : tie.Need-loop-holds Inv-loop μ-loop
 loop-holds c =
     let a = c .before .args in
@@ -32,14 +26,14 @@ loop-holds c =
 loop-less : tie.Need-loop-less Inv-loop μ-loop
 loop-less c =
     let n = c .before .before .before in
-    omega (arith, first n .less, first-later _ _ _ (n .next .ensures .0) (c .before .before .later .ensures))
+    omega (arith, n .next .ensures .less, c .before .before .later .ensures _ (n .next .ensures))
 
 loop-again : tie.Need-loop-again Inv-loop μ-loop
 loop-again c =
     let n = c .before .before .before in
     let l = n .before .before .loop in
-    let rest = first-later _ _ _ (n .next .ensures .0) (c .before .before .later .ensures) in
-    lowered-again (n .next .result) (l .inv) (first n) rest (c .lesser .ensures ∙ ap (min (l .least)) (c .before .leg2 .ensures))
+    let rest = c .before .before .later .ensures _ (n .next .ensures) in
+    lowered-again (n .next .result) (l .inv) (n .next .ensures) rest (c .lesser .ensures ∙ ap (min (l .least)) (c .before .leg2 .ensures))
 
 pub into-spec : {M : Type 1} → statement M
 into-spec =

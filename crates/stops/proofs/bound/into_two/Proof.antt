@@ -8,7 +8,7 @@ use Rattle.sizes.specs.Sizes.{dearest}
 use Rattle.lists.specs.Lists.{least}
 use Rattle.stops.specs.Legs.{rowLeg}
 use Rattle.stops.specs.Code.{stopsIn}
-use Rattle.stops.proofs.SetLoops.{First, first-out, first-later, Lowered, lowered-starts-two, lowered-again, lowered-ends, leg-small}
+use Rattle.stops.proofs.SetLoops.{Lowered, lowered-starts-two, lowered-again, lowered-ends, leg-small}
 use Rattle.stops.proofs.bound.into_two.Statement.{statement}
 use Rattle.stops.proofs.bound.into_two.Tie as tie
 
@@ -23,12 +23,6 @@ abbrev μ-loop : tie.MeasureT-loop
 -- the call, seen from where both first values are known
 abbrev entry : tie.After-lesser2 Inv-loop μ-loop → tie.Start Inv-loop μ-loop
 entry c = let one = c .before .before .before in one .before .before .before
-
--- what `next` gives is the first of the stops left
-first : (c : tie.After-next Inv-loop μ-loop) → First (c .before .before .loop .left) (c .next .result)
-first c =
-    let l = c .before .before .loop in
-    first-out (l .left) (c .next .result) (omega arith) (l .inv .0 .small) (c .next .ensures .0)
 
 loop-holds : tie.Need-loop-holds Inv-loop μ-loop
 loop-holds c =
@@ -45,17 +39,17 @@ loop-less : tie.Need-loop-less Inv-loop μ-loop
 loop-less c =
     let m = c .before .before .before .before in
     let n = m .before in
-    omega (arith, first n .less, first-later _ _ _ (n .next .ensures .0) (m .later .ensures))
+    omega (arith, n .next .ensures .less, m .later .ensures _ (n .next .ensures))
 
 loop-again : tie.Need-loop-again Inv-loop μ-loop
 loop-again c =
     let m = c .before .before .before .before in
     let n = m .before in
     let l = n .before .before .loop in
-    let rest = first-later _ _ _ (n .next .ensures .0) (m .later .ensures) in
+    let rest = m .later .ensures _ (n .next .ensures) in
     let one = c .before .before in (
-      lowered-again (n .next .result) (l .inv .0) (first n) rest (one .lesser3 .ensures ∙ ap (min (l .a)) (one .before .leg5 .ensures)),
-      lowered-again (n .next .result) (l .inv .1) (first n) rest (c .lesser4 .ensures ∙ ap (min (l .b)) (c .before .leg6 .ensures)),
+      lowered-again (n .next .result) (l .inv .0) (n .next .ensures) rest (one .lesser3 .ensures ∙ ap (min (l .a)) (one .before .leg5 .ensures)),
+      lowered-again (n .next .result) (l .inv .1) (n .next .ensures) rest (c .lesser4 .ensures ∙ ap (min (l .b)) (c .before .leg6 .ensures)),
     )
 
 add-result : tie.Need-add-result Inv-loop μ-loop

@@ -12,9 +12,6 @@ use Rattle.stops.specs.Bounds.{cheapestInto, remainder}
 use Rattle.stops.specs.Code.{stopsIn}
 use Rattle.stops.proofs.SetBits.{stopsIn-few}
 use Rattle.stops.proofs.SetLoops.{
-  First,
-  first-out,
-  first-later,
   Summed,
   summed-starts,
   summed-most,
@@ -42,18 +39,12 @@ entry c = c .before .before .before .before
 abbrev turn : tie.After-next2 Inv-loop μ-loop → tie.After-next Inv-loop μ-loop
 turn c = c .before .before .before .before
 
--- what `next` gives is the first of the stops left
-first : (c : tie.After-next Inv-loop μ-loop) → First (c .before .before .loop .left) (c .next .result)
-first c =
-    let l = c .before .before .loop in
-    first-out (l .left) (c .next .result) (omega arith) (l .inv .small) (c .next .ensures .0)
-
--- it is a stop of the set
+-- what `next` gives is a stop of the set
 first-in : (c : tie.After-next Inv-loop μ-loop) → In (c .next .result) (stopsIn (entry c .args .rest))
-first-in c = c .before .before .loop .inv .among (c .next .result) (first c .member)
+first-in c = c .before .before .loop .inv .among (c .next .result) (c .next .ensures .member)
 
 left-is : (c : tie.After-later Inv-loop μ-loop) → c .later .result ≡ c .before .before .before .loop .left - 2 ^ (c .before .next .result - 1)
-left-is c = first-later _ _ _ (c .before .next .ensures .0) (c .later .ensures)
+left-is c = c .later .ensures _ (c .before .next .ensures)
 
 -- what is left without it
 passed :
@@ -67,7 +58,7 @@ passed c =
     let f = cheapestInto (legs (a .t .now)) (a .place) (stopsIn (a .rest)) in
     let l = n .before .before .loop in
     let more : l .sum + f (n .next .result) ≡ l .sum + f (n .next .result) = refl in
-    summed-again (l .inv) (n .next .result) (first n) (left-is c) more
+    summed-again (l .inv) (n .next .result) (n .next .ensures) (left-is c) more
 
 -- where it is the last one, what `into` gives is the cheapest leg into it
 last-value :
@@ -83,11 +74,6 @@ last-value c =
     c .into .ensures ∙ into-set (a .t .now) (a .place) (a .rest) (o .result) (n .next .result) (b .pre .1 .1 .0) (first-in n) (o .ensures)
 
 -- else there is a second one
-second : (c : tie.After-next2 Inv-loop μ-loop) → First (c .before .before .before .later .result) (c .next2 .result)
-second c =
-    let q = c .before .before .before in
-    first-out (q .later .result) (c .next2 .result) (omega arith) (passed q .small) (c .next2 .ensures .0)
-
 pair :
     (c : tie.After-next2 Inv-loop μ-loop) →
     let n = turn c in
@@ -100,8 +86,8 @@ pair c =
     let n = q .before in
     let l = n .before .before .loop in
     let b = entry n in
-    pair-in (b .args .rest) (l .left) (n .next .result) (c .next2 .result) (b .pre .1 .1 .0) (l .inv .small) (l .inv .among) (first n .member)
-    (rw (← left-is q) (second c .member))
+    pair-in (b .args .rest) (l .left) (n .next .result) (c .next2 .result) (b .pre .1 .1 .0) (l .inv .small) (l .inv .among) (n .next .ensures .member)
+    (rw (← left-is q) (c .next2 .ensures .member))
 
 -- and what `into_two` gives is the two cheapest legs
 two-values :
@@ -124,7 +110,7 @@ two-values c =
     let e′ : others ≡ a .rest - 2 ^ (u - 1) - 2 ^ (s - 1) = omega arith in
     let both = pair d in
     let small = b .pre .1 .1 .0 in
-    let u-in = passed q .among u (second d .member) in
+    let u-in = passed q .among u (d .next2 .ensures .member) in
     rw (c .into-two .ensures, into-pair (a .t .now) (a .place) (a .rest) others s u small (first-in n) (both .0) e)
     (ap (λ (v : ℕ). cheapestInto (legs (a .t .now)) (a .place) (stopsIn (a .rest)) s + v)
     (into-pair (a .t .now) (a .place) (a .rest) others u s small u-in (both .1) e′))
@@ -147,7 +133,7 @@ loop-holds c = summed-starts (c .before .pre .1 .1 .0) (rw (c .home .ensures))
 add-result : tie.Need-add-result Inv-loop μ-loop
 add-result c =
     let n = c .before .before .before .before in
-    omega (arith, last-value c, summed-most (n .before .before .loop .inv) (n .next .result) (first n), most (entry n))
+    omega (arith, last-value c, summed-most (n .before .before .loop .inv) (n .next .result) (n .next .ensures), most (entry n))
 
 returns : tie.Need-returns Inv-loop μ-loop
 returns c =
@@ -170,7 +156,7 @@ add-sum : tie.Need-add-sum Inv-loop μ-loop
 add-sum c =
     let d = c .before .before .before in
     let q = d .before .before .before in
-    omega (arith, two-values c, summed-most (passed q) (d .next2 .result) (second d), most (entry (q .before)))
+    omega (arith, two-values c, summed-most (passed q) (d .next2 .result) (d .next2 .ensures), most (entry (q .before)))
 
 loop-less : tie.Need-loop-less Inv-loop μ-loop
 loop-less c =
@@ -178,18 +164,18 @@ loop-less c =
     let q = d .before .before .before in
     omega (
       arith,
-      first (q .before) .less,
+      q .before .next .ensures .less,
       left-is q,
-      second d .less,
-      first-later _ _ _ (d .next2 .ensures .0) (c .before .before .later2 .ensures),
+      d .next2 .ensures .less,
+      c .before .before .later2 .ensures _ (d .next2 .ensures),
     )
 
 loop-again : tie.Need-loop-again Inv-loop μ-loop
 loop-again c =
     let d = c .before .before .before in
     let q = d .before .before .before in
-    let rest = first-later _ _ _ (d .next2 .ensures .0) (c .before .before .later2 .ensures) in
-    summed-again (passed q) (d .next2 .result) (second d) rest (omega (arith, two-values c))
+    let rest = c .before .before .later2 .ensures _ (d .next2 .ensures) in
+    summed-again (passed q) (d .next2 .result) (d .next2 .ensures) rest (omega (arith, two-values c))
 
 pub remainder-spec : {M : Type 1} → statement M
 remainder-spec =
