@@ -88,11 +88,12 @@ child-again : tie.Need-child-again Inv-loop μ-loop Inv-child μ-child
 child-again c =
     let s = slotted (c .before .before .before) in
     let l = s .before in
-    let a = entry (head (l .before)) .args in
+    let n = l .before in
+    let a = entry (head n) .args in
     let i = c .before .before .before .loop .i in
     let x = getD (records (a .kids .now)) (s .slot .result) emptyRecord in
     let fails = rivalled (a .limit) x (records (a .w .now)) (a .count) i (omega arith) (omega arith) (cc) in
-    thinning-drops (head (l .before) .child .inv) (l .before .next .ensures) (l .later .ensures _ (l .before .next .ensures)) (free s false fails)
+    thinning-drops (head n .child .inv) (n .next .ensures) (l .later .ensures _ (n .next .ensures)) (free s false fails)
 
 loop-again : tie.Need-loop-again Inv-loop μ-loop Inv-child μ-child
 loop-again c = (omega arith, unrivalled-more _ _ _ _ (omega arith) (c .before .before .before .loop .inv .1) (cc))
@@ -102,8 +103,9 @@ child-again-2 c =
     let loop = c .before .before in
     let s = slotted loop in
     let l = s .before in
-    let passes = unrivalled-free _ _ _ _ (entry (head (l .before)) .args .count) (loop .loop .inv .1) (omega arith) in
-    thinning-keeps (head (l .before) .child .inv) (l .before .next .ensures) (l .later .ensures _ (l .before .next .ensures)) (c .with .ensures) (free s true passes)
+    let n = l .before in
+    let passes = unrivalled-free _ _ _ _ (entry (head n) .args .count) (loop .loop .inv .1) (omega arith) in
+    thinning-keeps (head n .child .inv) (n .next .ensures) (l .later .ensures _ (n .next .ensures)) (c .with .ensures) (free s true passes)
 
 pub undominated-spec : {M : Type 1} → statement M
 undominated-spec =

@@ -30,7 +30,8 @@ loop-holds : tie.Need-loop-holds Inv-loop μ-loop
 loop-holds c =
     let start = c .before .before .before in
     let a = start .args in
-    (omega arith, (refl, thinned-unsearched (a .test .limit) (a .from) (records (a .w .now)) (records (a .kids .now)) (a .alive) (start .pre .0 .slotted .small)))
+    let kids = records (a .kids .now) in
+    (omega arith, (refl, thinned-unsearched (a .test .limit) (a .from) (records (a .w .now)) kids (a .alive) (start .pre .0 .slotted .small)))
 
 returns : tie.Need-returns Inv-loop μ-loop
 returns c =

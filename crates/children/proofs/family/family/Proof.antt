@@ -64,6 +64,12 @@ child-requires c κs =
       stop = rw (l .loop .inv .0) (l .loop .inv .2 .among _ (n .next .ensures .member));
     }
 
+store-requires : tie.Need-store-requires Inv-loop μ-loop
+store-requires c κs =
+    let slot = c .before .before in
+    let n = stepped slot in
+    omega (arith, slot .slot .ensures, n .next .ensures, head n .loop .inv .2 .room)
+
 loop-less : tie.Need-loop-less Inv-loop μ-loop
 loop-less c =
     let slot = c .before .before .before .before .before in
@@ -101,7 +107,7 @@ family-spec =
     (λ c κs. let h = head c .loop .inv .2 .small in omega arith)
     (λ c κs. c .before .before .next .ensures .some)
     child-requires
-    (λ c κs. let slot = c .before .before in let n = stepped slot in omega (arith, slot .slot .ensures, n .next .ensures, head n .loop .inv .2 .room))
+    store-requires
     loop-less
     loop-again
     (λ c. c .before .loop .inv .1)

@@ -46,10 +46,11 @@ loop-again c =
     let m = c .before .before .before .before in
     let n = m .before in
     let l = n .before .before .loop in
-    let rest = m .later .ensures _ (n .next .ensures) in
+    let first = n .next .ensures in
+    let rest = m .later .ensures _ first in
     let one = c .before .before in (
-      lowered-again (n .next .result) (l .inv .0) (n .next .ensures) rest (one .lesser3 .ensures ∙ ap (min (l .a)) (one .before .leg5 .ensures)),
-      lowered-again (n .next .result) (l .inv .1) (n .next .ensures) rest (c .lesser4 .ensures ∙ ap (min (l .b)) (c .before .leg6 .ensures)),
+      lowered-again (n .next .result) (l .inv .0) first rest (one .lesser3 .ensures ∙ ap (min (l .a)) (one .before .leg5 .ensures)),
+      lowered-again (n .next .result) (l .inv .1) first rest (c .lesser4 .ensures ∙ ap (min (l .b)) (c .before .leg6 .ensures)),
     )
 
 add-result : tie.Need-add-result Inv-loop μ-loop

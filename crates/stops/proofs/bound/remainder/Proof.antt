@@ -86,8 +86,8 @@ pair c =
     let n = q .before in
     let l = n .before .before .loop in
     let b = entry n in
-    pair-in (b .args .rest) (l .left) (n .next .result) (c .next2 .result) (b .pre .1 .1 .0) (l .inv .small) (l .inv .among) (n .next .ensures .member)
-    (rw (← left-is q) (c .next2 .ensures .member))
+    pair-in (b .args .rest) (l .left) (n .next .result) (c .next2 .result) (b .pre .1 .1 .0) (l .inv .small) (l .inv .among)
+    (n .next .ensures .member) (rw (← left-is q) (c .next2 .ensures .member))
 
 -- and what `into_two` gives is the two cheapest legs
 two-values :

@@ -1,5 +1,5 @@
--- `stops::sets::later` meets its contract: of the digits of a set and of the number before it, those above the lowest that is set agree, and
--- that one is the first stop's.
+-- `stops::sets::later` meets its contract: of the digits of a set and of the number before it, those above the lowest that is set agree,
+-- and that one is the first stop's.
 use mathlib.Core.Path.{_∙_, ap}
 use Prim.Native.Nat.{ℕ, _-_, _^_}
 use native.Mathlib.Omega.{arith}
