@@ -18,6 +18,7 @@ use pool::part::take_out;
 use pool::part::write_at;
 use records::store;
 use rivals::Test;
+use sizes::ORDER_PLACES;
 use stops::node_record::Record;
 use stops::sets::count;
 
@@ -75,12 +76,15 @@ fn remaining(w: &[u32], spot: Spot, change: Change, kids: &[u32]) -> usize
     before + behind
 }
 
-// Whether the nodes to keep are at most the pool's capacity; far is how many of them are branched ones. They are counted only where some
-// may go and it matters.
+// Whether the nodes to keep are at most the pool's capacity; far is how many of them are branched ones. Where there is room for as many
+// children as there may be stops nothing is counted, and the active records only where some may go and it matters.
 pub fn fits(w: &[u32], spot: Spot, change: Change, far: usize, kids: &[u32]) -> bool
     requires { ⌜ Changing (records (now w)) spot change (records (now kids)) × (far ≤ spot .active + length (records (now w))) ⌝ }
     ensures { λ r. ⌜ r ≡ leb (length (stayingOf (records (now (w .entry))) spot change (records (now (kids .entry)))) + length (slots (change .alive) (records (now (kids .entry)))) + far) (spot .capacity) ⌝ }
 {
+    if spot.active + ORDER_PLACES + far <= spot.capacity {
+        return true;
+    }
     let new = count(change.alive);
     let most = spot.active - 1 + new + far;
     if most <= spot.capacity {
