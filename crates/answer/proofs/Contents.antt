@@ -7,12 +7,12 @@ use lib.Dec.{eqb}
 use lib.ListN.{length}
 use Rattle.sizes.specs.Sizes.{recordWords}
 use Rattle.search.specs.Problem.{start}
-use Rattle.search.specs.Run.{Outcome, finished, full, unfinished, run}
+use Rattle.search.specs.Run.{Outcome, finished, stopped, full, unfinished, run}
 use Rattle.orders.specs.Orders.{Node, nodes}
 use Rattle.records.specs.Records.{recordsIn, poolWords}
 use Rattle.answer.specs.Call.{Call, callOf, Answer}
 use Rattle.answer.specs.Checks.{cause₆, orLater, jobCause, cause}
-use Rattle.answer.specs.Answer.{dayOf, problemOf, choicesOf, given, outcome, wordsOf, ending, respond, answer}
+use Rattle.answer.specs.Answer.{dayOf, problemOf, choicesOf, given, outcome, floorOf, wordsOf, ending, respond, answer}
 use Rattle.answer.specs.Demands.{written}
 use Rattle.answer.specs.Document01.{ContentsPlayNoPart}
 use Rattle.answer.proofs.Instance.{outcome-ends}
@@ -20,7 +20,7 @@ use Rattle.answer.proofs.Instance.{outcome-ends}
 module _ (c : Call) (pool : List ℕ) (long : length pool ≡ length (c .pool)) where
   -- the same job over the other pool
   abbrev other : Call
-  other = record { job = c .job; table = c .table; start = c .start; pool = pool }
+  other = record { job = c .job; table = c .table; start = c .start; budget = c .budget; pool = pool }
 
   same-cause : cause other ≡ cause c
   unfolding cause cause₆ recordsIn
@@ -36,11 +36,12 @@ module _ (c : Call) (pool : List ℕ) (long : length pool ≡ length (c .pool)) 
       ap (λ (m : ℕ). run (problemOf c) (choicesOf c) (m / recordWords) (suc (nodes (c .job .n))) (start (problemOf c) (given (c .start)))) long
 
   pub same-report : answer other .report ≡ answer c .report
-  unfolding answer respond ending problemOf dayOf
+  unfolding answer respond ending problemOf choicesOf floorOf dayOf
   same-report = ap (λ (k : ℕ). respond other k .report) same-cause ∙ by-cause (cause c)
     where
       by-outcome : (o : Outcome Node) → ending other o .report ≡ ending c o .report
       by-outcome (finished s) = refl
+      by-outcome (stopped s) = refl
       by-outcome (full s) = refl
       by-outcome (unfinished s) = refl
 
@@ -56,6 +57,7 @@ module _ (c : Call) (pool : List ℕ) (long : length pool ≡ length (c .pool)) 
     where
       by-outcome : (o : Outcome Node) → outcome c ≡ o → ending other o .pool ≡ ending c o .pool
       by-outcome (finished s) e = ap (λ (m : ℕ). poolWords (c .job .n) (dayOf c) (c .job .bound) (c .job .rules) m s) long
+      by-outcome (stopped s) e = ap (λ (m : ℕ). poolWords (c .job .n) (dayOf c) (c .job .bound) (c .job .rules) m s) long
       by-outcome (full s) e = ap (λ (m : ℕ). poolWords (c .job .n) (dayOf c) (c .job .bound) (c .job .rules) m s) long
       by-outcome (unfinished s) e = absurd (outcome-ends c s e)
 

@@ -5,10 +5,10 @@ use native.Mathlib.Omega.{arith}
 use Rattle.answer.specs.Call.{Call, Answer}
 use Rattle.answer.specs.declared.Report.{Report}
 use Rattle.answer.specs.Answer.{reportWith, ending, answer}
-use Rattle.answer.specs.Ends.{FullAt, RefusedAt, Ended, planned, filled, refused}
+use Rattle.answer.specs.Ends.{FullAt, RefusedAt, Ended, planned, halted, filled, refused}
 use Rattle.answer.specs.Demands.{written, EveryCallIsAnswered, EveryCallEnds, OneAnswer, RefusalsFixed}
-use Rattle.answer.proofs.Instance.{finished-state, full-state}
-use Rattle.answer.proofs.Ending.{Came, checked, overran, ended, call-came, cause-small}
+use Rattle.answer.proofs.Instance.{finished-state, stopped-state, full-state}
+use Rattle.answer.proofs.Ending.{Came, checked, halted as stood, overran, ended, call-came, cause-small}
 use Rattle.answer.proofs.Ends.{finish-holds}
 use Rattle.answer.proofs.Demand3.{answer-cheapest}
 
@@ -31,6 +31,14 @@ call-ended c = go (call-came c)
           reported = ap (λ (a : Answer). a .report) q;
           pool-stays = ap (λ (a : Answer). a .pool) q;
         })
+    go (stood f) =
+        let (steps, spent) = stopped-state c (f .state) (f .ran) in
+        halted
+        (record {
+          comes = record { passed = f .passed; state = f .state; steps = steps; there = spent };
+          reported = ap (λ (a : Answer). a .report) (f .answered);
+          pool-holds = ap (λ (a : Answer). a .pool) (f .answered);
+        })
     go (overran f) =
         let (steps, over) = full-state c (f .state) (f .ran) in
         filled
@@ -47,7 +55,8 @@ call-ended c = go (call-came c)
           reported = ap (λ (a : Answer). a .report) (f .answered);
           pool-holds = ap (λ (a : Answer). a .pool) (f .answered);
         })
-        (answer-cheapest c (ap (λ (a : Answer). a .report .number) (f .answered)) .is-order)
+        (answer-cheapest c
+        (ap (λ (a : Answer). a .report .number) (f .answered), ap (λ (a : Answer). a .report .mark) (f .answered)) .is-order)
 
 pub call-ends : EveryCallEnds written
 call-ends c a e = subst (Ended c) (sym e) (call-ended c)
@@ -58,5 +67,6 @@ refusals-fixed c a e h = go (call-ends c a e)
   where
     go : Ended c a → RefusedAt c a ⊎ FullAt c a
     go (planned f o) = absurd (h (ap (λ (r : Report). r .number) (f .reported)))
+    go (halted f) = absurd (h (ap (λ (r : Report). r .number) (f .reported)))
     go (filled f) = inr f
     go (refused r) = inl r

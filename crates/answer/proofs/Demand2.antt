@@ -8,13 +8,13 @@ use Rattle.search.proofs.Counts.{counts-agree}
 use Rattle.records.specs.Records.{recordsIn}
 use Rattle.answer.specs.Call.{Call, Answer, refusal}
 use Rattle.answer.specs.Answer.{problemOf, choicesOf, given, reportWith, ending, answer}
-use Rattle.answer.specs.Ends.{FinishTestHolds, NextDoesNotFit, Ends, ComesTo, made}
+use Rattle.answer.specs.Ends.{Finishes, FinishTestHolds, BudgetIsSpent, NextDoesNotFit, Ends, ComesTo, made}
 use Rattle.answer.specs.Demands.{written, RunIsWritten, CountsBalance, FullIff}
 use Rattle.answer.specs.Document01.{StatesBalance, FinishedIff, BranchedAreSteps}
 use Rattle.answer.proofs.Passes.{passes}
-use Rattle.answer.proofs.Instance.{finished-state, full-state, state-reached}
-use Rattle.answer.proofs.Ending.{Came, checked, overran, ended, call-came, Finished, number-0, Filled, number-7}
-use Rattle.answer.proofs.Ends.{finish-holds, steps-branched, finished-answer, full-answer}
+use Rattle.answer.proofs.Instance.{finished-state, stopped-state, full-state, state-reached}
+use Rattle.answer.proofs.Ending.{Came, checked, halted, overran, ended, call-came, Finished, number-0, Filled, number-7}
+use Rattle.answer.proofs.Ends.{finish-holds, steps-branched, finished-answer, stopped-answer, full-answer}
 
 pub run-is-written : RunIsWritten written
 run-is-written c a e = e
@@ -33,6 +33,7 @@ counts-balance c a e = subst Balances (sym e) (go (call-came c))
   where
     go : Came c → Balances (answer c)
     go (checked k e q) = subst Balances (sym q) refl
+    go (halted f) = subst Balances (sym (f .answered)) (states-balance c (f .passed) (f .state) (stopped-state c (f .state) (f .ran) .0))
     go (overran f) = subst Balances (sym (f .answered)) (states-balance c (f .passed) (f .state) (full-state c (f .state) (f .ran) .0))
     go (ended f) = subst Balances (sym (f .answered)) (states-balance c (f .passed) (f .state) (finished-state c (f .state) (f .ran) .0))
 
@@ -52,11 +53,12 @@ full-iff c a e = (only-then, λ h. same-number c e (full-answer c h))
 
 pub finished-iff : FinishedIff written
 unfolding ending reportWith
-finished-iff c a e = (only-then, λ h. same-number c e (finished-answer c h))
+finished-iff c a e =
+    (only-then, λ h. (same-number c e (finished-answer c h), ap (λ (y : Answer). y .report .mark) (e ∙ finished-answer c h)))
   where
-    only-then : a .report .number ≡ 0 → ComesTo c FinishTestHolds
+    only-then : Finishes (a .report) → ComesTo c FinishTestHolds
     only-then h =
-        let f : Finished c = number-0 c (sym (ap (λ (y : Answer). y .report .number) e) ∙ h) in
+        let f : Finished c = number-0 c (subst (λ (y : Answer). Finishes (y .report)) e h) in
         let (steps, end) = finished-state c (f .state) (f .ran) in
         record { passed = f .passed; state = f .state; steps = steps; there = finish-holds c (f .state) (f .passed) steps end }
 
@@ -71,6 +73,9 @@ branched-are-steps c a e end = go (end .there)
     go (inl h) =
         shown (finished-answer c (record { passed = end .passed; state = end .state; steps = end .steps; there = h }))
         ∙ steps-branched c (end .steps)
-    go (inr h) =
+    go (inr (inl h)) =
+        shown (stopped-answer c (record { passed = end .passed; state = end .state; steps = end .steps; there = h }))
+        ∙ steps-branched c (end .steps)
+    go (inr (inr h)) =
         shown (full-answer c (record { passed = end .passed; state = end .state; steps = end .steps; there = h }))
         ∙ steps-branched c (end .steps)

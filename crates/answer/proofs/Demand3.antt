@@ -1,6 +1,7 @@
 -- Demand 3 of the written run, the first half: finished runs over one table report one cost, that of a cheapest order. A run that finishes is a
--- call whose answer has number 0; nothing else is assumed of the calls.
+-- call whose answer has number 0 and mark 0; nothing else is assumed of the calls.
 --   Solved, solved    the state of a finished run knows an order, and no order is cheaper
+--   padded-front      the first n places of a report hold its order
 use mathlib.Core.Path.{_≡_, refl, sym, _∙_, ap, subst}
 use mathlib.Core.Option.{Option, some}
 use Prim.Native.Nat.{ℕ, _-_, _≤_}
@@ -20,7 +21,7 @@ use Rattle.sizes.specs.Sizes.{orderPlaces}
 use Rattle.lists.specs.Lists.{padded}
 use Rattle.answer.specs.Call.{Call, Answer}
 use Rattle.answer.specs.Answer.{dayOf, problemOf, choicesOf, given, stopsOf, reportWith, ending, answer}
-use Rattle.answer.specs.Ends.{orderIn}
+use Rattle.answer.specs.Ends.{Finishes, orderIn}
 use Rattle.answer.specs.Demands.{written, OneTable, OneCost, Cheapest, CheapestOfAll, OrdersAreAll}
 use Rattle.answer.proofs.Passes.{Passes, passes}
 use Rattle.answer.proofs.Instance.{one-day, finished-state, state-reached, finish-stops, call-lawful, bound-laws, call-manner, call-solvable, start-known}
@@ -54,15 +55,20 @@ solved c f =
           (order-leads (c .job .n) (problemOf c) (λ z. refl) y o));
     }
 
+-- a report's first n places hold its order
+pub padded-front : (n : ℕ) (x : Node) → Order n x → take n (padded orderPlaces x) ≡ x
+unfolding padded
+padded-front n x o = take-at x (replicate (orderPlaces - length x) 0) n (order-length n x o)
+
 -- a solved state's report
 solved-report : (c : Call) → Passes c → (s : State Node) → Solved c s → Cheapest c (ending c (finished s) .report)
-unfolding ending reportWith problemOf problem padded
-solved-report c ok s v = subst (λ (b : Option Node). Cheapest c (reportWith 0 (upper (problemOf c) b) (stopsOf b) s)) (sym (v .best)) shown
+unfolding ending reportWith problemOf problem
+solved-report c ok s v = subst (λ (b : Option Node). Cheapest c (reportWith 0 0 (upper (problemOf c) b) 0 (stopsOf b) s)) (sym (v .best)) shown
   where
     front : take (c .job .n) (padded orderPlaces (v .x)) ≡ v .x
-    front = take-at (v .x) (replicate (orderPlaces - length (v .x)) 0) (c .job .n) (order-length (c .job .n) (v .x) (v .order))
+    front = padded-front (c .job .n) (v .x) (v .order)
 
-    shown : Cheapest c (reportWith 0 (dayOf c .cost (v .x)) (v .x) s)
+    shown : Cheapest c (reportWith 0 0 (dayOf c .cost (v .x)) 0 (v .x) s)
     shown = record {
       is-order = rw front (v .order);
       zeros-past-n = ap (padded orderPlaces) (sym front);
@@ -70,14 +76,14 @@ solved-report c ok s v = subst (λ (b : Option Node). Cheapest c (reportWith 0 (
       least = λ y m. v .least y (in-orders (c .job .n) y m);
     }
 
-pub answer-cheapest : (c : Call) → answer c .report .number ≡ 0 → Cheapest c (answer c .report)
+pub answer-cheapest : (c : Call) → Finishes (answer c .report) → Cheapest c (answer c .report)
 answer-cheapest c h =
     let f : Finished c = number-0 c h in
     subst (λ (a : Answer). Cheapest c (a .report)) (sym (f .answered)) (solved-report c (passes c (f .passed)) (f .state) (solved c f))
 
 pub cheapest-of-all : CheapestOfAll written
 cheapest-of-all c a e h =
-    subst (λ (x : Answer). Cheapest c (x .report)) (sym e) (answer-cheapest c (sym (ap (λ (x : Answer). x .report .number) e) ∙ h))
+    subst (λ (x : Answer). Cheapest c (x .report)) (sym e) (answer-cheapest c (subst (λ (x : Answer). Finishes (x .report)) e h))
 
 -- one of two runs over one table costs at most as much as the other, so by symmetry they cost the same
 pub one-cost : OneCost written
@@ -85,7 +91,7 @@ one-cost a b x y p q one hx hy =
     le-antisymm (below a b x y p q one hx hy) (below b a y x q p (record { n = sym (one .n); table = sym (one .table) }) hy hx)
   where
     below :
-        (a b : Call) (x y : Answer) → written a x → written b y → OneTable a b → x .report .number ≡ 0 → y .report .number ≡ 0
+        (a b : Call) (x y : Answer) → written a x → written b y → OneTable a b → Finishes (x .report) → Finishes (y .report)
         → x .report .cost ≤ y .report .cost
     below a b x y p q one hx hy =
         let best : Cheapest a (x .report) = cheapest-of-all a x p hx in

@@ -6,7 +6,7 @@ use mathlib.Core.List.{List, [], _∷_}
 use mathlib.Core.Logic.{_⊎_, inl, inr}
 use Prim.Native.Nat.{ℕ, zero, suc, _≤_}
 use native.Mathlib.Omega.{arith}
-use lib.Dec.{eqb}
+use lib.Dec.{eqb, ltb→lt, lt→ltb}
 use lib.ListN.{length}
 use Rattle.search.specs.Problem.{Problem, State, upper, start}
 use Rattle.search.specs.Run.{finished}
@@ -23,18 +23,20 @@ use Rattle.records.specs.Records.{recordsIn}
 use Rattle.answer.specs.Call.{Call, Answer}
 use Rattle.answer.specs.Checks.{cause}
 use Rattle.answer.specs.Answer.{dayOf, problemOf, choicesOf, given, outcome, reportWith, ending, respond, answer}
+use Rattle.answer.specs.Ends.{Finishes}
 use Rattle.answer.specs.Demands.{written, AsClose, Favours, NoWorse, FavouredFinishes}
 use Rattle.answer.proofs.Passes.{Passes, passes}
 use Rattle.answer.proofs.Instance.{call-walk, order-cheap, call-lawful, bound-laws, call-manner, call-solvable, start-known, selection-small}
 use Rattle.answer.proofs.Ending.{Finished, number-0}
 
 -- B over A's own n, table and selection
-abbrev alongside : Call → ℕ → ℕ → List ℕ → List ℕ → Call
-alongside a rules bound start pool =
+abbrev alongside : Call → ℕ → ℕ → List ℕ → ℕ → List ℕ → Call
+alongside a rules bound start budget pool =
     record {
       job = record { n = a .job .n; selection = a .job .selection; rules = rules; bound = bound };
       table = a .table;
       start = start;
+      budget = budget;
       pool = pool;
     }
 
@@ -45,12 +47,12 @@ same-rank P f g (suc zero) h = absurd (omega arith)
 same-rank P f g (suc (suc zero)) h = refl
 same-rank P f g (suc (suc (suc k))) h = refl
 
-module _ (a : Call) (ok : Passes a) (rules bound : ℕ) (first pool : List ℕ) (favours : Favours a (alongside a rules bound first pool)) where
+module _ (a : Call) (ok : Passes a) (rules bound : ℕ) (first : List ℕ) (budget : ℕ) (pool : List ℕ) (favours : Favours a (alongside a rules bound first budget pool)) where
   -- B's bound, 0 or 1, is at most A's
   bound-below : bound ≤ a .job .bound
   bound-below = go (favours .bound)
     where
-      go : AsClose (a .job) (alongside a rules bound first pool .job) → bound ≤ a .job .bound
+      go : AsClose (a .job) (alongside a rules bound first budget pool .job) → bound ≤ a .job .bound
       go (inl e) = omega arith
       go (inr h) = h .1
 
@@ -60,14 +62,14 @@ module _ (a : Call) (ok : Passes a) (rules bound : ℕ) (first pool : List ℕ) 
   one-rank = go (favours .bound)
     where
       go :
-          AsClose (a .job) (alongside a rules bound first pool .job)
+          AsClose (a .job) (alongside a rules bound first budget pool .job)
           → rankBy (problemOf a) (dayOf a .bound bound) (a .job .selection)
           ≡ rankBy (problemOf a) (dayOf a .bound (a .job .bound)) (a .job .selection)
       go (inl e) = ap (λ (k : ℕ). rankBy (problemOf a) (dayOf a .bound k) (a .job .selection)) (sym e)
       go (inr h) = same-rank (problemOf a) (dayOf a .bound bound) (dayOf a .bound (a .job .bound)) (a .job .selection) (h .0)
 
   -- both runs share the plan: ranks and dominance rules agree
-  one-plan : planOf (problemOf a) (choicesOf (alongside a rules bound first pool)) ≡ planOf (problemOf a) (choicesOf a)
+  one-plan : planOf (problemOf a) (choicesOf (alongside a rules bound first budget pool)) ≡ planOf (problemOf a) (choicesOf a)
   unfolding choicesOf choices dayOf
   one-plan = λ i. record {
     late = lateBy (a .job .selection);
@@ -79,12 +81,12 @@ module _ (a : Call) (ok : Passes a) (rules bound : ℕ) (first pool : List ℕ) 
     rule8 = sym (favours .rule-8) i;
   }
 
-  closer : Closer (cutOf (choicesOf a)) (cutOf (choicesOf (alongside a rules bound first pool)))
+  closer : Closer (cutOf (choicesOf a)) (cutOf (choicesOf (alongside a rules bound first budget pool)))
   unfolding choicesOf choices dayOf
   closer = record {
     closer = walk-closer (call-walk a) bound (a .job .bound) bound-below (ok .bound);
     stricter = favours .rule-1;
-    longer = λ j k h t. tt;
+    longer = λ j k h t. lt→ltb j (a .budget) (omega (arith, favours .budget, ltb→lt k budget t));
   }
 
   -- A's U is no higher than B's at the start
@@ -118,31 +120,31 @@ module _ (a : Call) (ok : Passes a) (rules bound : ℕ) (first pool : List ℕ) 
 
   -- B's run, over A's problem and plan
   other-done :
-      (e : State Node) → outcome (alongside a rules bound first pool) ≡ finished e
-      → search (tree (problemOf a)) (planOf (problemOf a) (choicesOf a)) (cutOf (choicesOf (alongside a rules bound first pool))) (recordsIn pool)
+      (e : State Node) → outcome (alongside a rules bound first budget pool) ≡ finished e
+      → search (tree (problemOf a)) (planOf (problemOf a) (choicesOf a)) (cutOf (choicesOf (alongside a rules bound first budget pool))) (recordsIn pool)
       (suc (nodes (a .job .n))) (start (problemOf a) (given first))
       ≡ done e
   unfolding outcome problemOf choicesOf choices dayOf
   other-done e h =
       subst
       (λ (p : Plan Node).
-      search (tree (problemOf a)) p (cutOf (choicesOf (alongside a rules bound first pool))) (recordsIn pool) (suc (nodes (a .job .n)))
+      search (tree (problemOf a)) p (cutOf (choicesOf (alongside a rules bound first budget pool))) (recordsIn pool) (suc (nodes (a .job .n)))
       (start (problemOf a) (given first))
       ≡ done e)
       one-plan
-      (finished-iff-done (problemOf a) (choicesOf (alongside a rules bound first pool)) (recordsIn pool) (ok .selection) (suc (nodes (a .job .n)))
+      (finished-iff-done (problemOf a) (choicesOf (alongside a rules bound first budget pool)) (recordsIn pool) (ok .selection) (suc (nodes (a .job .n)))
       (start (problemOf a) (given first)) e .0 h)
 
   -- so A's run is finished too, with no higher counts
   beside-finishes :
-      (e : State Node) → outcome (alongside a rules bound first pool) ≡ finished e
+      (e : State Node) → outcome (alongside a rules bound first budget pool) ≡ finished e
       → (d : State Node) × (outcome a ≡ finished d) × (length (d .branched) ≤ length (e .branched)) × (d .generated ≤ e .generated)
       × (d .most ≤ e .most)
   unfolding outcome cap
   beside-finishes e h =
       let (d, ran, branched, generated, most) =
       compare-runs (tree (problemOf a)) (planOf (problemOf a) (choicesOf a)) (cutOf (choicesOf a))
-      (cutOf (choicesOf (alongside a rules bound first pool))) (size (a .job .n)) (a .job .n) (call-lawful a ok) (adds (problemOf a)) (bound-laws a ok)
+      (cutOf (choicesOf (alongside a rules bound first budget pool))) (size (a .job .n)) (a .job .n) (call-lawful a ok) (adds (problemOf a)) (bound-laws a ok)
       (call-manner a ok) closer (recordsIn (a .pool)) (recordsIn pool) more-records (given (a .start)) (given first) lower-start root-within
       (suc (nodes (a .job .n))) e (other-done e h) in (
         d,
@@ -154,30 +156,31 @@ module _ (a : Call) (ok : Passes a) (rules bound : ℕ) (first pool : List ℕ) 
       )
 
 -- B is the call alongside A that has its rules, bound, starting order and pool.
-same-call : (a b : Call) → Favours a b → b ≡ alongside a (b .job .rules) (b .job .bound) (b .start) (b .pool)
+same-call : (a b : Call) → Favours a b → b ≡ alongside a (b .job .rules) (b .job .bound) (b .start) (b .budget) (b .pool)
 same-call a b f = λ i. record {
   job = record { n = sym (f .n) i; selection = sym (f .selection) i; rules = b .job .rules; bound = b .job .bound };
   table = sym (f .table) i;
   start = b .start;
+  budget = b .budget;
   pool = b .pool;
 }
 
 answers-no-worse :
-    (a b : Call) → Favours a b → cause a ≡ 0 → answer b .report .number ≡ 0 → NoWorse (answer a .report) (answer b .report)
+    (a b : Call) → Favours a b → cause a ≡ 0 → Finishes (answer b .report) → NoWorse (answer a .report) (answer b .report)
 unfolding answer respond ending reportWith
 answers-no-worse a b f passed h =
     let fb : Finished b = number-0 b h in
-    let e : b ≡ alongside a (b .job .rules) (b .job .bound) (b .start) (b .pool) = same-call a b f in
+    let e : b ≡ alongside a (b .job .rules) (b .job .bound) (b .start) (b .budget) (b .pool) = same-call a b f in
     let (d, ran, branched, generated, most) =
-    beside-finishes a (passes a passed) (b .job .rules) (b .job .bound) (b .start) (b .pool) (subst (Favours a) e f) (fb .state)
+    beside-finishes a (passes a passed) (b .job .rules) (b .job .bound) (b .start) (b .budget) (b .pool) (subst (Favours a) e f) (fb .state)
     (ap outcome (sym e) ∙ fb .ran) in
     let answered : answer a ≡ ending a (finished d) = ap (respond a) passed ∙ ap (ending a) ran in
     subst (λ (x : Answer). NoWorse (x .report) (answer b .report)) (sym answered)
     (subst (λ (y : Answer). NoWorse (ending a (finished d) .report) (y .report)) (sym (fb .answered))
-    (record { finishes = refl; branched = branched; generated = generated; most = most }))
+    (record { finishes = (refl, refl); branched = branched; generated = generated; most = most }))
 
 pub favoured-finishes : FavouredFinishes written
 favoured-finishes a b x y p q f passed h =
     subst (λ (z : Answer). NoWorse (z .report) (y .report)) (sym p)
     (subst (λ (z : Answer). NoWorse (answer a .report) (z .report)) (sym q)
-    (answers-no-worse a b f passed (sym (ap (λ (z : Answer). z .report .number) q) ∙ h)))
+    (answers-no-worse a b f passed (subst (λ (z : Answer). Finishes (z .report)) q h)))

@@ -2,7 +2,8 @@
 --   finish-holds, holds-finish    a state that ends the run is one where a node is chosen of which the finish test holds, and the other way
 --                                 round, whatever the pool: the active set is never empty
 --   steps-branched                as many nodes were branched as steps were made
---   finished-answer, full-answer  the answer where the run comes to such a state, and where the next step does not fit
+--   finished-answer, stopped-answer, full-answer    the answer where the run comes to such a state, where the budget is spent, and where
+--                                 the next step does not fit
 use mathlib.Core.Path.{_≡_, refl, sym, _∙_, ap, subst}
 use mathlib.Core.Bool.{Bool, true, false}
 use mathlib.Core.List.{List, [], _∷_, List·Memᴰ·not-nil}
@@ -15,7 +16,7 @@ use Rattle.lists.proofs.Tests.{to-true}
 use Rattle.search.specs.Problem.{Problem, Choices, State, start}
 use Rattle.search.specs.Selection.{Choice, nothing, chosen, select, finishes}
 use Rattle.search.specs.Step.{step}
-use Rattle.search.specs.Run.{finish, unless, goUnless, fitting, decide, next, held, finished, full, Steps, none, more}
+use Rattle.search.specs.Run.{finish, unless, ifAllowed, goUnless, fitting, decide, next, held, finished, stopped, full, Steps, none, more}
 use Rattle.search.proofs.Pick.{picked-none}
 use Rattle.search.proofs.Plain.{planOf}
 use Rattle.search.proofs.PlainSelection.{select-is-pick}
@@ -24,9 +25,9 @@ use Rattle.records.specs.Records.{recordsIn}
 use Rattle.answer.specs.Call.{Call}
 use Rattle.answer.specs.Checks.{cause}
 use Rattle.answer.specs.Answer.{problemOf, choicesOf, StateOf, ending, respond, answer}
-use Rattle.answer.specs.Ends.{made, FinishTestHolds, NextDoesNotFit, ComesTo}
+use Rattle.answer.specs.Ends.{made, FinishTestHolds, BudgetIsSpent, NextDoesNotFit, ComesTo}
 use Rattle.answer.proofs.Passes.{passes}
-use Rattle.answer.proofs.Instance.{selection-small, finish-outcome, overflow-outcome}
+use Rattle.answer.proofs.Instance.{selection-small, finish-outcome, halt-outcome, overflow-outcome}
 use Rattle.answer.proofs.Tested.{active-never-empty}
 
 module _ (c : Call) (s : State Node) where
@@ -44,10 +45,11 @@ module _ (c : Call) (s : State Node) where
   unfolding next decide fitting
   finish-holds passed steps = at (select (problemOf c) (choicesOf c) (s .active)) refl
     where
-      test : (f o : Bool) (s′ : State Node) → unless f (goUnless o s′) ≡ finish → T f
-      test true o s′ e = tt
-      test false true s′ e = absurd (let z : _≡_ {A = ℕ} 0 1 = cc in omega arith)
-      test false false s′ e = absurd (let z : _≡_ {A = ℕ} 0 1 = cc in omega arith)
+      test : (f a o : Bool) (s′ : State Node) → unless f (ifAllowed a (goUnless o s′)) ≡ finish → T f
+      test true a o s′ e = tt
+      test false false o s′ e = absurd (let z : _≡_ {A = ℕ} 0 1 = cc in omega arith)
+      test false true true s′ e = absurd (let z : _≡_ {A = ℕ} 0 1 = cc in omega arith)
+      test false true false s′ e = absurd (let z : _≡_ {A = ℕ} 0 1 = cc in omega arith)
 
       at :
           (ch : Choice Node) → select (problemOf c) (choicesOf c) (s .active) ≡ ch
@@ -56,7 +58,8 @@ module _ (c : Call) (s : State Node) where
       at (chosen b rest) q e =
           let after : State Node = step (problemOf c) (choicesOf c) s b rest in
           let over : Bool = ltb (recordsIn (c .pool)) (length (held (choicesOf c .rules) after)) in
-          record { b = b; rest = rest; selects = q; ends = test (finishes (problemOf c) (choicesOf c) (s .best) b rest) over after e }
+          let allowed : Bool = ltb (length (s .branched)) (choicesOf c .budget) in
+          record { b = b; rest = rest; selects = q; ends = test (finishes (problemOf c) (choicesOf c) (s .best) b rest) allowed over after e }
 
   pub holds-finish : FinishTestHolds c s → (capacity : ℕ) → next (problemOf c) (choicesOf c) capacity s ≡ finish
   unfolding next decide
@@ -80,6 +83,10 @@ pub finished-answer : (c : Call) (h : ComesTo c FinishTestHolds) → answer c �
 unfolding answer respond
 finished-answer c h =
     ap (respond c) (h .passed) ∙ ap (ending c) (finish-outcome c (h .steps) (holds-finish c (h .state) (h .there) (recordsIn (c .pool))))
+
+pub stopped-answer : (c : Call) (h : ComesTo c BudgetIsSpent) → answer c ≡ ending c (stopped (h .state))
+unfolding answer respond
+stopped-answer c h = ap (respond c) (h .passed) ∙ ap (ending c) (halt-outcome c (h .steps) (h .there))
 
 pub full-answer : (c : Call) (h : ComesTo c NextDoesNotFit) → answer c ≡ ending c (full (h .state))
 unfolding answer respond

@@ -8,12 +8,12 @@ use native.Mathlib.Omega.{arith}
 use Rattle.sizes.specs.Sizes.{aboveEveryCost}
 use Rattle.lists.specs.Lists.{sum}
 use Rattle.search.specs.Problem.{State, start}
-use Rattle.search.specs.Run.{finished, full, unfinished, finish, next, Overflows}
+use Rattle.search.specs.Run.{finished, stopped, full, unfinished, finish, next, Halts, Overflows}
 use Rattle.search.proofs.General.{Reached, verdict, stop}
 use Rattle.search.proofs.Laws.{Lawful, BoundLaws, Manner, Solvable, Weighs, KnownIn, unknown, known}
 use Rattle.search.proofs.Plain.{tree, planOf, cutOf, verdictOf, plan-manner, next-is-verdict}
 use Rattle.search.proofs.Ends.{start-ends}
-use Rattle.search.proofs.Outcome.{finished-means, full-means, overflow-full, finish-finished, steps-reached}
+use Rattle.search.proofs.Outcome.{finished-means, stopped-means, full-means, overflow-full, halt-stopped, finish-finished, steps-reached}
 use Rattle.orders.specs.Orders.{Node, size, Order, nodes}
 use Rattle.orders.proofs.Partial.{partial-root, partial-size}
 use Rattle.orders.proofs.Order.{order-complete, order-leads}
@@ -39,7 +39,7 @@ unfolding problemOf weight
 call-weighs c = day-weighs (c .job .n) (dayOf c)
 
 -- e weighs less than the fuel
-root-light : (c : Call) → weight c (problemOf c .root) < suc (nodes (c .job .n))
+pub root-light : (c : Call) → weight c (problemOf c .root) < suc (nodes (c .job .n))
 unfolding problemOf problem weight
 root-light c =
     let e : size (c .job .n) [] ≡ 0 = partial-size (c .job .n) [] (partial-root (c .job .n)) in
@@ -57,6 +57,11 @@ unfolding outcome
 finished-state c s e =
     finished-means (problemOf c) (choicesOf c) (recordsIn (c .pool)) (suc (nodes (c .job .n))) (start (problemOf c) (given (c .start))) s e
 
+pub stopped-state : (c : Call) (s : State Node) → outcome c ≡ stopped s → StateOf c s × Halts (problemOf c) (choicesOf c) (recordsIn (c .pool)) s
+unfolding outcome
+stopped-state c s e =
+    stopped-means (problemOf c) (choicesOf c) (recordsIn (c .pool)) (suc (nodes (c .job .n))) (start (problemOf c) (given (c .start))) s e
+
 pub full-state : (c : Call) (s : State Node) → outcome c ≡ full s → StateOf c s × Overflows (problemOf c) (choicesOf c) (recordsIn (c .pool)) s
 unfolding outcome
 full-state c s e =
@@ -71,6 +76,11 @@ pub overflow-outcome : (c : Call) {s : State Node} → StateOf c s → Overflows
 unfolding outcome
 overflow-outcome c steps over =
     overflow-full (problemOf c) (choicesOf c) (recordsIn (c .pool)) (call-weighs c) (suc (nodes (c .job .n))) (start-light c) steps over
+
+pub halt-outcome : (c : Call) {s : State Node} → StateOf c s → Halts (problemOf c) (choicesOf c) (recordsIn (c .pool)) s → outcome c ≡ stopped s
+unfolding outcome
+halt-outcome c steps halts =
+    halt-stopped (problemOf c) (choicesOf c) (recordsIn (c .pool)) (call-weighs c) (suc (nodes (c .job .n))) (start-light c) steps halts
 
 pub finish-outcome : (c : Call) {s : State Node} → StateOf c s → next (problemOf c) (choicesOf c) (recordsIn (c .pool)) s ≡ finish → outcome c ≡ finished s
 unfolding outcome
@@ -100,6 +110,10 @@ module _ (c : Call) (ok : Passes c) where
   pub order-cheap : (x : Node) → Order (c .job .n) x → dayOf c .cost x < aboveEveryCost
   unfolding dayOf
   order-cheap x o = order-below (rows (c .job .n) (c .table)) call-cheap (c .job .n) (ok .few) x o
+
+  pub known-cheap : (x : Node) → Order (c .job .n) x → problemOf c .cost x < aboveEveryCost
+  unfolding problemOf problem
+  known-cheap = order-cheap
 
   pub call-lawful : Lawful (tree (problemOf c)) (size (c .job .n)) (c .job .n)
   unfolding problemOf

@@ -36,15 +36,15 @@ job-first job table start =
     (first-or (cause₂ (job .n) table) 1
     (first-or (cause₃ (job .n) table) 2 (first-or (cause₄ job) 3 (first-or (cause₅ (job .n) start) 4 first-later))))
 
-module _ (job : Job) (table start pool : List ℕ) where
+module _ (job : Job) (table start : List ℕ) (budget : ℕ) (pool : List ℕ) where
   -- the number of cause 6, which is looked at last
   abbrev later : ℕ
   later = orLater (cause₆ pool) 6 0
 
-  pub job-refuses : (k : ℕ) → k ≡ jobCause job table start 0 → k ≢ 0 → k ≡ cause (callOf job table start pool)
+  pub job-refuses : (k : ℕ) → k ≡ jobCause job table start 0 → k ≢ 0 → k ≡ cause (callOf job table start budget pool)
   unfolding cause callOf
   job-refuses k e h = e ∙ job-first job table start .own (λ z. h (e ∙ z)) later
 
-  pub job-passes : (k : ℕ) → k ≡ jobCause job table start 0 → k ≡ 0 → cause (callOf job table start pool) ≡ later
+  pub job-passes : (k : ℕ) → k ≡ jobCause job table start 0 → k ≡ 0 → cause (callOf job table start budget pool) ≡ later
   unfolding cause callOf
   job-passes k e z = job-first job table start .none (sym e ∙ z) later

@@ -1,6 +1,7 @@
 pub mod Passes
 pub mod JobCause
 pub mod Instance
+pub mod Known
 pub mod Ending
 pub mod Bounds
 pub mod Tested
@@ -10,3 +11,5 @@ pub mod Demand1
 pub mod Demand2
 pub mod Demand3
 pub mod Demand3Pairs
+pub mod Budget
+pub mod BudgetPairs

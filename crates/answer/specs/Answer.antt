@@ -1,12 +1,12 @@
 -- The one function from what a caller hands in to the report and the pool's words afterwards: `answer`.
--- Document 01, "The report", "The pool" and "Causes and numbers".
+-- Document 01, "The report", "The pool" and "Causes and numbers"; document 02, A.3.
 use mathlib.Core.List.{List, [], _∷_}
 use mathlib.Core.Option.{Option, none, some}
 use Prim.Native.Nat.{ℕ, zero, suc}
 use lib.ListN.{length}
-use Rattle.lists.specs.Lists.{padded}
+use Rattle.lists.specs.Lists.{padded, least}
 use Rattle.search.specs.Problem.{Problem, Choices, State, upper, start}
-use Rattle.search.specs.Run.{Outcome, finished, full, unfinished, run, Steps}
+use Rattle.search.specs.Run.{Outcome, finished, stopped, full, unfinished, run, Steps}
 use Rattle.orders.specs.Orders.{Node, nodes}
 use Rattle.days.specs.Days.{Day, problem, choices}
 use Rattle.stops.specs.Tables.{rows}
@@ -25,7 +25,7 @@ unfoldable pub problemOf : Call → Problem Node
 problemOf c = problem (c .job .n) (dayOf c)
 
 unfoldable pub choicesOf : Call → Choices Node
-choicesOf c = choices (dayOf c) (c .job .selection) (c .job .rules) (c .job .bound)
+choicesOf c = choices (dayOf c) (c .job .selection) (c .job .rules) (c .job .bound) (c .budget)
 
 -- the starting order, if one is given
 abbrev pub given : List ℕ → Option Node
@@ -37,7 +37,7 @@ unfoldable pub outcome : Call → Outcome Node
 outcome c =
     run (problemOf c) (choicesOf c) (recordsIn (c .pool)) (suc (nodes (c .job .n))) (start (problemOf c) (given (c .start)))
 
--- The states of a call's run: what steps of the written run come to, each of which fitted the pool.
+-- The states of a call's run: what steps of the written run come to, each of which the budget allowed and fitted the pool.
 abbrev pub StateOf : Call → State Node → Type 0
 StateOf c s = Steps (problemOf c) (choicesOf c) (recordsIn (c .pool)) (start (problemOf c) (given (c .start))) s
 
@@ -45,12 +45,23 @@ abbrev pub stopsOf : Option Node → List ℕ
 stopsOf none = []
 stopsOf (some x) = x
 
--- A report at the end of a run: with 0 it has the cost and the order, in as many places as there may be stops; with 7 it has zeros there.
--- The counts are those of the state that the run ended at.
-unfoldable pub reportWith : ℕ → ℕ → List ℕ → State Node → Report
-reportWith number cost order s = record {
+-- the cost of the best order known, 0 while there is none
+abbrev pub costOf : Problem Node → Option Node → ℕ
+costOf P none = 0
+costOf P (some x) = P .cost x
+
+-- Request A.3, the floor: the least bound among the active nodes.
+unfoldable pub floorOf : Call → State Node → ℕ
+floorOf c s = least (choicesOf c .bound) (s .active)
+
+-- A report at the end of a run: its number, mark, cost and floor, and the order in as many places as there may be stops. The counts are those
+-- of the state that the run ended at.
+unfoldable pub reportWith : ℕ → ℕ → ℕ → ℕ → List ℕ → State Node → Report
+reportWith number mark cost floor order s = record {
   number = number;
+  mark = mark;
   cost = cost;
+  floor = floor;
   order = padded orderPlaces order;
   branched = length (s .branched);
   generated = s .generated;
@@ -63,9 +74,13 @@ reportWith number cost order s = record {
 unfoldable pub wordsOf : Call → State Node → List ℕ
 wordsOf c s = poolWords (c .job .n) (dayOf c) (c .job .bound) (c .job .rules) (length (c .pool)) s
 
+-- A finished run has U and its order. One that the budget stopped (request A.3) has mark 1, the best order known and the floor. One that
+-- filled the pool has number 7, and zeros.
 unfoldable pub ending : Call → Outcome Node → Answer
-ending c (finished s) = record { report = reportWith 0 (upper (problemOf c) (s .best)) (stopsOf (s .best)) s; pool = wordsOf c s }
-ending c (full s) = record { report = reportWith 7 0 [] s; pool = wordsOf c s }
+ending c (finished s) = record { report = reportWith 0 0 (upper (problemOf c) (s .best)) 0 (stopsOf (s .best)) s; pool = wordsOf c s }
+ending c (stopped s) =
+    record { report = reportWith 0 1 (costOf (problemOf c) (s .best)) (floorOf c s) (stopsOf (s .best)) s; pool = wordsOf c s }
+ending c (full s) = record { report = reportWith 7 0 0 0 [] s; pool = wordsOf c s }
 -- never comes, and has no number in document 01
 ending c (unfinished s) = record { report = refusal 255; pool = c .pool }
 

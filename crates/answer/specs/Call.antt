@@ -1,4 +1,4 @@
--- What a caller hands in and what comes back: document 01, "The report". A `Job` (n, selection, rules, bound) and a `Report` are the structs of
+-- What a caller hands in and what comes back: document 01, "The report", and document 02, A.3. A `Job` (n, selection, rules, bound) and a `Report` are the structs of
 -- src/lib.rt.
 use mathlib.Core.List.{List}
 use Prim.Native.Nat.{ℕ}
@@ -14,12 +14,14 @@ pub record Call : Type 0 where
   pub table : List ℕ
   -- the starting order, or nothing
   pub start : List ℕ
+  -- how many nodes may be branched (request A.3)
+  pub budget : ℕ
   -- the pool's words
   pub pool : List ℕ
 
 -- a call by its parts, in the order of the code's arguments
-unfoldable pub callOf : Job → List ℕ → List ℕ → List ℕ → Call
-callOf job table start pool = record { job = job; table = table; start = start; pool = pool }
+unfoldable pub callOf : Job → List ℕ → List ℕ → ℕ → List ℕ → Call
+callOf job table start budget pool = record { job = job; table = table; start = start; budget = budget; pool = pool }
 
 pub record Answer : Type 0 where
   pub report : Report
@@ -30,7 +32,9 @@ pub record Answer : Type 0 where
 unfoldable pub refusal : ℕ → Report
 refusal number = record {
   number = number;
+  mark = 0;
   cost = 0;
+  floor = 0;
   order = replicate orderPlaces 0;
   branched = 0;
   generated = 0;

@@ -14,32 +14,45 @@ use Rattle.orders.specs.Orders.{Node, mask, count, isOrder}
 use Rattle.days.specs.Days.{problem, choices}
 use Rattle.stops.specs.Examples.{computedDay}
 use Rattle.records.specs.Records.{record-of, poolWords, recordsIn}
-use Rattle.sizes.specs.Sizes.{tableNumbers, orderPlaces, recordWords}
+use Rattle.sizes.specs.Sizes.{tableNumbers, orderPlaces, recordWords, noBudget}
 use Rattle.lists.specs.Lists.{padded}
 use Rattle.answer.specs.Call.{Call, Answer, refusal}
 use Rattle.answer.specs.declared.Report.{Report}
 use Rattle.answer.specs.Checks.{cause₁, cause₂, cause₃, cause₄, cause₅, cause₆, tableCause, jobCause, cause}
-use Rattle.answer.specs.Answer.{dayOf, problemOf, choicesOf, outcome, reportWith, wordsOf, ending, respond, answer}
+use Rattle.answer.specs.Answer.{dayOf, problemOf, choicesOf, outcome, floorOf, reportWith, wordsOf, ending, respond, answer}
 
--- a call by its parts, with the number of the pool's records
+-- a call by its parts, with the number of the pool's records, and with a budget that no run reaches
 abbrev pub call : ℕ → List ℕ → ℕ → ℕ → ℕ → List ℕ → ℕ → Call
 call n table selection rules bound start records = record {
   job = record { n = n; selection = selection; rules = rules; bound = bound };
   table = table;
   start = start;
+  budget = noBudget;
   pool = replicate (recordWords * records) 7;
 }
 
--- a report with number 0: cost, order, and branched, generated, eliminated, active, most
+-- a report of a finished run: cost, order, and branched, generated, eliminated, active, most
 abbrev pub found : ℕ → List ℕ → ℕ → ℕ → ℕ → ℕ → ℕ → Report
-found cost order branched generated eliminated active most = record
-    { number = 0; cost = cost; order = order; branched = branched; generated = generated; eliminated = eliminated; active = active; most = most }
+found cost order branched generated eliminated active most = record {
+  number = 0;
+  mark = 0;
+  cost = cost;
+  floor = 0;
+  order = order;
+  branched = branched;
+  generated = generated;
+  eliminated = eliminated;
+  active = active;
+  most = most;
+}
 
 -- a report with a number, zeros and the counts of the steps done
 abbrev pub refused : ℕ → ℕ → ℕ → ℕ → ℕ → ℕ → Report
 refused number branched generated eliminated active most = record {
   number = number;
+  mark = 0;
   cost = 0;
+  floor = 0;
   order = replicate orderPlaces 0;
   branched = branched;
   generated = generated;
@@ -50,7 +63,7 @@ refused number branched generated eliminated active most = record {
 
 -- the answer, with every definition that it rests on open: a proof that says `unfolding computed` computes it
 unfoldable pub computed : Call → Answer
-unfolding start selectBy select finishes children₁ best₂ over₃ children₃ rest₃ dominated₄ children₄ dominated₅ children₅ dominated₆ rest₆ active₇ step held fitting decide next run count isOrder computedDay problem choices mask record-of padded poolWords recordsIn refusal cause₁ cause₂ cause₃ cause₄ cause₅ cause₆ tableCause jobCause cause dayOf problemOf choicesOf outcome reportWith wordsOf ending respond answer
+unfolding start selectBy select finishes children₁ best₂ over₃ children₃ rest₃ dominated₄ children₄ dominated₅ children₅ dominated₆ rest₆ active₇ step held fitting decide next run count isOrder computedDay problem choices mask record-of padded poolWords recordsIn refusal cause₁ cause₂ cause₃ cause₄ cause₅ cause₆ tableCause jobCause cause dayOf problemOf choicesOf outcome floorOf reportWith wordsOf ending respond answer
 computed c = answer c
 
 pub data Case : Type 0 where

@@ -1,6 +1,7 @@
 -- What the letter demands of a planner, a type for each of its sentences and in its order. A proof of a sentence is a theorem whose type is the
 -- sentence's name: of the written run (`written`) in proofs/ of this crate, of what the code of `plan` returns in proofs/ of crate `planner`.
--- What document 01 says beside the run's definition is in `Document01`; what demands 1 and 2 say of files is in crate `job_format`.
+-- What document 01 says beside the run's definition is in `Document01`, what request A.3 adds in `Budget`; what demands 1 and 2 say of files
+-- is in crate `job_format`.
 use mathlib.Core.Path.{_≡_}
 use mathlib.Core.List.{[]}
 use mathlib.Core.Logic.{_⊎_, _≢_, _↔_}
@@ -16,7 +17,7 @@ use Rattle.answer.specs.declared.Job.{Job}
 use Rattle.answer.specs.declared.Report.{Report}
 use Rattle.answer.specs.Checks.{cause}
 use Rattle.answer.specs.Answer.{dayOf, answer}
-use Rattle.answer.specs.Ends.{NextDoesNotFit, ComesTo, FullAt, RefusedAt, orderIn, Ended}
+use Rattle.answer.specs.Ends.{Finishes, NextDoesNotFit, ComesTo, FullAt, RefusedAt, orderIn, Ended}
 
 -- A planner as its callers see it: which answers it gives to a call. An answer is the report and the words that the pool holds afterwards.
 abbrev pub Planner : Type 1
@@ -32,7 +33,7 @@ written c a = a ≡ answer c
 abbrev pub EveryCallIsAnswered : Planner → Type 0
 EveryCallIsAnswered P = (c : Call) → (a : Answer) × P c a
 
--- .. and ends with an order or with a numbered refusal.
+-- .. and ends with an order or with a numbered refusal; or, since request A.3, where the budget stopped it.
 abbrev pub EveryCallEnds : Planner → Type 0
 EveryCallEnds P = (c : Call) (a : Answer) → P c a → Ended c a
 
@@ -54,7 +55,8 @@ RunIsWritten P = (c : Call) (a : Answer) → P c a → a ≡ answer c
 abbrev pub CountsBalance : Planner → Type 0
 CountsBalance P = (c : Call) (a : Answer) → P c a → a .report .generated ≡ a .report .branched + a .report .eliminated + a .report .active
 
--- Number 7 has one cause, which always brings it: the run comes to a step that would leave more nodes to keep than there are records.
+-- Number 7 has one cause, which always brings it: the run comes to a step that the budget allows and that would leave more nodes to keep than
+-- there are records.
 abbrev pub FullIff : Planner → Type 0
 FullIff P = (c : Call) (a : Answer) → P c a → (a .report .number ≡ 7) ↔ ComesTo c NextDoesNotFit
 
@@ -67,7 +69,7 @@ pub record OneTable (a b : Call) : Type 0 where
 -- They report equal costs.
 abbrev pub OneCost : Planner → Type 0
 OneCost P =
-    (a b : Call) (x y : Answer) → P a x → P b y → OneTable a b → x .report .number ≡ 0 → y .report .number ≡ 0
+    (a b : Call) (x y : Answer) → P a x → P b y → OneTable a b → Finishes (x .report) → Finishes (y .report)
     → x .report .cost ≡ y .report .cost
 
 -- The cost is that of the order reported with it, and each of the n! orders of the stops costs at least as much.
@@ -78,7 +80,7 @@ pub record Cheapest (c : Call) (r : Report) : Type 0 where
   pub least : (y : Node) → In y (orders (c .job .n)) → r .cost ≤ dayOf c .cost y
 
 abbrev pub CheapestOfAll : Planner → Type 0
-CheapestOfAll P = (c : Call) (a : Answer) → P c a → a .report .number ≡ 0 → Cheapest c (a .report)
+CheapestOfAll P = (c : Call) (a : Answer) → P c a → Finishes (a .report) → Cheapest c (a .report)
 
 -- The list of the orders has n! entries, none twice, and these are the orders of the n stops.
 pub record AllOrders (n : ℕ) : Type 0 where
@@ -95,7 +97,7 @@ OrdersAreAll = (n : ℕ) → AllOrders n
 abbrev pub AsClose : Job → Job → Type 0
 AsClose a b = (a .bound ≡ b .bound) ⊎ ((2 ≤ a .selection) × (b .bound ≤ a .bound))
 
--- A stands to B as the letter asks.
+-- A stands to B as the letter asks, and request A.3 of the budgets.
 pub record Favours (a b : Call) : Type 0 where
   -- one table
   pub n : a .job .n ≡ b .job .n
@@ -112,10 +114,12 @@ pub record Favours (a b : Call) : Type 0 where
   pub bound : AsClose (a .job) (b .job)
   -- a pool that is at least as large
   pub pool : length (b .pool) ≤ length (a .pool)
+  -- and a budget that is
+  pub budget : b .budget ≤ a .budget
 
 -- what A's report owes to B's
 pub record NoWorse (a b : Report) : Type 0 where
-  pub finishes : a .number ≡ 0
+  pub finishes : Finishes a
   pub branched : a .branched ≤ b .branched
   pub generated : a .generated ≤ b .generated
   pub most : a .most ≤ b .most
@@ -123,4 +127,4 @@ pub record NoWorse (a b : Report) : Type 0 where
 -- Where B finishes and the checks let A pass, its pool of whole records included, A finishes, with no higher counts.
 abbrev pub FavouredFinishes : Planner → Type 0
 FavouredFinishes P =
-    (a b : Call) (x y : Answer) → P a x → P b y → Favours a b → cause a ≡ 0 → y .report .number ≡ 0 → NoWorse (x .report) (y .report)
+    (a b : Call) (x y : Answer) → P a x → P b y → Favours a b → cause a ≡ 0 → Finishes (y .report) → NoWorse (x .report) (y .report)

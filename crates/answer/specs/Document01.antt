@@ -17,15 +17,15 @@ use Rattle.orders.specs.Orders.{Node, complete, children}
 use Rattle.answer.specs.Call.{Call, callOf, Answer}
 use Rattle.answer.specs.Checks.{cause}
 use Rattle.answer.specs.Answer.{problemOf, choicesOf, StateOf}
-use Rattle.answer.specs.Ends.{made, FinishTestHolds, Ends, ComesTo}
+use Rattle.answer.specs.Ends.{Finishes, made, FinishTestHolds, Ends, ComesTo}
 use Rattle.answer.specs.Demands.{Planner, OneTable}
 
 -- THE REPORT, THE POOL, ONE RUN
 
--- Number 0 comes when, and only when, the run comes to a state where a node is chosen of which the finish test holds; so a finished run is
--- never refused.
+-- Number 0 with mark 0 comes when, and only when, the run comes to a state where a node is chosen of which the finish test holds; so a finished
+-- run is never refused, nor stopped.
 abbrev pub FinishedIff : Planner → Type 0
-FinishedIff P = (c : Call) (a : Answer) → P c a → (a .report .number ≡ 0) ↔ ComesTo c FinishTestHolds
+FinishedIff P = (c : Call) (a : Answer) → P c a → Finishes (a .report) ↔ ComesTo c FinishTestHolds
 
 -- `branched` is how many steps the run made to the state that ended it.
 abbrev pub BranchedAreSteps : Planner → Type 0
@@ -35,7 +35,7 @@ BranchedAreSteps P = (c : Call) (a : Answer) → P c a → (end : ComesTo c Ends
 -- it, leaves the same words.
 abbrev pub ContentsPlayNoPart : Planner → Type 0
 ContentsPlayNoPart P =
-    (c : Call) (pool : List ℕ) (x y : Answer) → P c x → P (callOf (c .job) (c .table) (c .start) pool) y → length pool ≡ length (c .pool)
+    (c : Call) (pool : List ℕ) (x y : Answer) → P c x → P (callOf (c .job) (c .table) (c .start) (c .budget) pool) y → length pool ≡ length (c .pool)
     → (x .report ≡ y .report) × (cause c ≡ 0 → x .pool ≡ y .pool)
 
 -- At every state of every run each generated node was branched, was eliminated or is active.

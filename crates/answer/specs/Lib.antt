@@ -6,3 +6,5 @@ pub mod OwnCases
 pub mod Ends
 pub mod Demands
 pub mod Document01
+pub mod Budget
+pub mod BudgetCases

@@ -12,11 +12,16 @@ pub struct Job {
     pub bound: u32,
 }
 
-// What the planner answers: number 0 with a cost and an order, or the number of a refusal; and the counts of the run.
+// What the planner answers: the number of a refusal, or 0; and the counts of the run. Number 0 alone does not say that the order is a cheapest
+// one: with mark 0 it is, with mark 1 the budget stopped the run, and the order is the best that was known (request A.3).
 #[repr(C)]
 pub struct Report {
     pub number: u32,
+    // 1 if the budget stopped the run
+    pub mark: u32,
     pub cost: u32,
+    // of a stopped run: no order costs less
+    pub floor: u32,
     // zeros past n
     pub order: [u8; ORDER_PLACES],
     pub branched: u64,

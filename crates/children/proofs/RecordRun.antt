@@ -100,4 +100,5 @@ module _ {d : Setting} {t : Table} (rows : Rows d t) where
     selection = refl;
     rules = refl;
     bound = λ x p. refl;
+    budget = refl;
   }

@@ -4,7 +4,7 @@
 --   choice-selection, choice-rules           the caller's choices are the setting's
 --   given-known, given-valid                 a starting order is a complete node of the tree, and a partial order
 --   encode-size, order-words                 the record of a node has its size; that of an order has its cost and its words
---   call-rows, call-problem, call-choices    a call's problem and choices are those of its job's setting and its table's rows
+--   call-rows, call-problem, call-choices    a call's problem and choices are those of its setting and its table's rows
 --   call-words                               and its words are those of such nodes' records
 use mathlib.Core.Path.{_≡_, refl, ap, sym, subst}
 use mathlib.Core.List.{List, [], _∷_, _++_, map}
@@ -79,6 +79,10 @@ module _ (d : Setting) (t : Table) where
   unfolding encodeOf encode
   encode-size x = refl
 
+  pub encode-bound : (x : Node) → encodeOf d t x .bound ≡ choicesOf d t .bound x
+  unfolding encodeOf encode choicesOf choices
+  encode-bound x = refl
+
 module _ {d : Setting} {t : Table} (ok : Rows d t) where
   pub setting-lawful : Lawful (tree (problemOf d t)) (size (d .n)) (d .n)
   unfolding problemOf
@@ -100,7 +104,7 @@ module _ {d : Setting} {t : Table} (ok : Rows d t) where
   order-words x o = (bound-exact (rows-walk (d .n) t) (d .bound) (ok .bound) x (order-complete (d .n) x o), refl, refl)
 
 module _ (c : Call) {t : Table} (e : t ≡ rows (c .job .n) (c .table)) where
-  pub call-rows : Passes c → Rows (settingOf (c .job)) t
+  pub call-rows : Passes c → Rows (settingOf (c .job) (c .budget)) t
   call-rows ok = record {
     some = ok .some;
     few = ok .few;
@@ -108,19 +112,19 @@ module _ (c : Call) {t : Table} (e : t ≡ rows (c .job .n) (c .table)) where
     bound = ok .bound;
   }
 
-  pub call-problem : problemOf (settingOf (c .job)) t ≡ callProblem c
+  pub call-problem : problemOf (settingOf (c .job) (c .budget)) t ≡ callProblem c
   unfolding problemOf callProblem dayOf
   call-problem = ap (λ (u : Table). problem (c .job .n) (dayOn (c .job .n) u)) e
 
-  pub call-choices : choicesOf (settingOf (c .job)) t ≡ callChoices c
+  pub call-choices : choicesOf (settingOf (c .job) (c .budget)) t ≡ callChoices c
   unfolding choicesOf callChoices dayOf
-  call-choices = ap (λ (u : Table). choices (dayOn (c .job .n) u) (c .job .selection) (c .job .rules) (c .job .bound)) e
+  call-choices = ap (λ (u : Table). choices (dayOn (c .job .n) u) (c .job .selection) (c .job .rules) (c .job .bound) (c .budget)) e
 
   -- a pool that has the records of the nodes to keep, and empty ones behind, has the call's words
   pub call-words :
       (s : State Node) (w : List ℕ) → length w ≡ length (c .pool) → length w % recordWords ≡ 0
       → records w
-      ≡ map (encodeOf (settingOf (c .job)) t) (held (c .job .rules) s)
+      ≡ map (encodeOf (settingOf (c .job) (c .budget)) t) (held (c .job .rules) s)
       ++ replicate (length (records w) - length (held (c .job .rules) s)) emptyRecord
       → w ≡ wordsOf c s
   unfolding wordsOf poolWords dayOf encodeOf

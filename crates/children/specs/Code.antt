@@ -1,7 +1,7 @@
 -- A setting and a table's rows as a problem on records, and what the functions of this crate compute. `proofs/` shows that it is the
 -- problem of their day, node by node. These definitions are the code's own: a reader of the promise needs none of them.
 --   Rows                              what a run asks of both
---   settingOf, jobOf                  the setting of a job, and the job of a setting
+--   settingOf, jobOf                  the setting of a job and a budget, and the job of a setting
 --   problemOf, choicesOf, encodeOf    the problem and the caller's choices on nodes, and the record of a node
 --   childrenOf, rootOf                the children of a record, in ascending stop order, and the record of e
 --   recProblem, recChoices            the same problem and choices on records
@@ -37,8 +37,8 @@ use Rattle.children.specs.declared.spot.Spot.{Spot}
 abbrev pub Table : Type 0
 Table = List (List ℕ)
 
-abbrev pub settingOf : Job → Setting
-settingOf job = record { n = job .n; selection = job .selection; rules = job .rules; bound = job .bound }
+abbrev pub settingOf : Job → ℕ → Setting
+settingOf job budget = record { n = job .n; selection = job .selection; rules = job .rules; bound = job .bound; budget = budget }
 
 abbrev pub jobOf : Setting → Job
 jobOf d = record { n = d .n; selection = d .selection; rules = d .rules; bound = d .bound }
@@ -54,7 +54,7 @@ unfoldable pub problemOf : Setting → Table → Problem Node
 problemOf d t = problem (d .n) (dayOn (d .n) t)
 
 unfoldable pub choicesOf : Setting → Table → Choices Node
-choicesOf d t = choices (dayOn (d .n) t) (d .selection) (d .rules) (d .bound)
+choicesOf d t = choices (dayOn (d .n) t) (d .selection) (d .rules) (d .bound) (d .budget)
 
 unfoldable pub encodeOf : Setting → Table → Node → Record
 encodeOf d t x = encode (d .n) (dayOn (d .n) t) (d .bound) x
@@ -91,7 +91,7 @@ recProblem d t = record {
 }
 
 unfoldable pub recChoices : Setting → Choices Record
-recChoices d = record { selection = d .selection; rules = d .rules; bound = λ x. x .bound }
+recChoices d = record { selection = d .selection; rules = d .rules; bound = λ x. x .bound; budget = d .budget }
 
 pub record Encoded (d : Setting) (t : Table) (b : Record) : Type 0 where
   pub node : Node

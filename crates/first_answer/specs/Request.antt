@@ -15,6 +15,7 @@ use Rattle.stops.specs.Legs.{Legs, cost}
 use Rattle.answer.specs.Call.{Call, Answer}
 use Rattle.answer.specs.declared.Job.{Job}
 use Rattle.answer.specs.Checks.{cause₅, tableCause, jobCause}
+use Rattle.answer.specs.Ends.{Finishes}
 use Rattle.answer.specs.Demands.{Planner}
 use Rattle.first_answer.specs.Nearest.{cheapest}
 use Rattle.first_answer.specs.Exchanges.{exchanged, Settles, settled, lowered, improved}
@@ -99,4 +100,4 @@ PassesAsStart =
 -- a run over its table that finishes, however it was started, costs no more
 abbrev pub PlanNoDearer : Planner → Type 0
 PlanNoDearer P =
-    (c : Call) (a : Answer) (r : FirstOrder) → P c a → a .report .number ≡ 0 → Given (c .job .n) (c .table) r → a .report .cost ≤ r .cost
+    (c : Call) (a : Answer) (r : FirstOrder) → P c a → Finishes (a .report) → Given (c .job .n) (c .table) r → a .report .cost ≤ r .cost

@@ -15,10 +15,16 @@ use job_file::writer::Written;
 
 // `planner::plan` for C: a slice is a pointer and a length.
 #[no_mangle]
-pub extern "C" fn gondamuy_plan(job: Job, table: &[u32], start: &[u8], pool: &mut [u32]) -> Report
-    ensures { λ r. ⌜ Promised (callOf job (now (table .entry)) (now (start .entry)) (now (pool .entry))) r (now (pool .exit)) ⌝ }
+pub extern "C" fn gondamuy_plan(
+    job: Job,
+    table: &[u32],
+    start: &[u8],
+    budget: u64,
+    pool: &mut [u32],
+) -> Report
+    ensures { λ r. ⌜ Promised (callOf job (now (table .entry)) (now (start .entry)) budget (now (pool .entry))) r (now (pool .exit)) ⌝ }
 {
-    planner::plan(job, table, start, pool)
+    planner::plan(job, table, start, budget, pool)
 }
 
 // `job_file::reader::read` for C.

@@ -1,14 +1,16 @@
 -- The tree of partial orders, for any problem whose children and completeness are those of this crate, whatever its costs and its
--- dominance: sizes rise by one up to n, where just the complete nodes stand; a complete node leaves no stop; and a node weighs more
--- than its children together.
+-- dominance: sizes rise by one up to n, where just the complete nodes stand; a complete node leaves no stop; a node weighs more than its
+-- children together; and with more stops there are no fewer nodes (`nodes-rise`).
 use mathlib.Core.Path.{_≡_, ap, sym, _∙_, subst}
 use mathlib.Core.List.{List, [], _∷_}
-use Prim.Native.Nat.{ℕ, zero, suc, _+_, _*_, _-_, _<_}
+use mathlib.Core.Logic.{_⊎_, inl, inr}
+use Prim.Native.Nat.{ℕ, zero, suc, _+_, _*_, _-_, _≤_, _<_}
+use native.Mathlib.Nat.{suc-mul}
 use native.Mathlib.Omega.{arith}
 use lib.Dec.{T, eqb, eqb→eq, eqb-refl}
 use lib.ListN.{length}
 use Rattle.lists.specs.Lists.{In, sum}
-use Rattle.lists.proofs.Tests.{to-true, to-false, ne-neqb}
+use Rattle.lists.proofs.Tests.{to-true, to-false, ne-neqb, ordered}
 use Rattle.lists.proofs.Empty.{in-nonempty, no-members}
 use Rattle.lists.proofs.Numbers.{sum-same, sum-const, sum-map}
 use Rattle.search.specs.Problem.{Problem}
@@ -48,6 +50,15 @@ child-size n x c m = let (s, i, e) = child-extends n x c m in ap (size n) e ∙ 
 nodes-below : (m : ℕ) → m * nodes (m - 1) < nodes m
 nodes-below zero = omega arith
 nodes-below (suc m) = let e : suc m - 1 ≡ m = omega arith in rw e (omega arith)
+
+-- more stops, more nodes
+pub nodes-rise : (j m : ℕ) → j ≤ m → nodes j ≤ nodes m
+nodes-rise j zero h = let e : j ≡ 0 = omega arith in rw e (omega arith)
+nodes-rise j (suc m) h = cases (ordered j m) (nodes-rise j m)
+  where
+    cases : (j ≤ m) ⊎ (m < j) → (j ≤ m → nodes j ≤ nodes m) → nodes j ≤ nodes (suc m)
+    cases (inl low) again = omega (arith, again low, suc-mul m (nodes m))
+    cases (inr high) again = let e : j ≡ suc m = omega arith in rw e (omega arith)
 
 children-weigh : (n : ℕ) (x : Node) → sum (λ y. nodes (n - size n y)) (children n x) ≡ length (left n x) * nodes (length (left n x) - 1)
 unfolding children

@@ -2,6 +2,7 @@
 --   text-fits                     a text is within its array
 --   file-refused, job-printed     a file that the reader refuses, and one whose job is planned
 --   long-output, short-output     input longer than the longest job, and the others
+--   never-stopped                 no run of the program is stopped by its budget
 use mathlib.Core.Path.{_≡_, refl, ap, sym, _∙_}
 use mathlib.Core.List.{List}
 use mathlib.Core.Logic.{_≢_}
@@ -9,19 +10,21 @@ use Prim.Native.Nat.{ℕ, zero, suc, _≤_, _<_}
 use lib.ListN.{length, take, replicate}
 use borrow.Author.Tests.{lt-ltb, le-ltb}
 use Rattle.lists.proofs.Padded.{padded-longer}
-use Rattle.sizes.specs.Sizes.{longest}
+use Rattle.sizes.specs.Sizes.{longest, noBudget}
 use Rattle.answer.specs.Call.{Answer, callOf}
 use Rattle.answer.specs.declared.Report.{Report}
+use Rattle.answer.specs.Answer.{answer}
+use Rattle.answer.proofs.Budget.{no-run-reaches}
 use Rattle.job_format.specs.Contents.{Contents, contentsOf, area}
 use Rattle.job_format.specs.Reader.{read}
 use Rattle.job_file.specs.Promise.{returned, contentsFrom}
 use Rattle.job_file.specs.declared.reader.Reading.{Reading as Returned}
 use Rattle.job_file.proofs.Returns.{Accepted}
 use Rattle.planner.specs.Promise.{Promised}
-use Rattle.report_format.specs.Printed.{refusedLine, printed}
+use Rattle.report_format.specs.Printed.{refusedLine, printedBy, printed}
 use Rattle.printing.specs.Promise.{textPlaces, textOf}
 use Rattle.printing.specs.declared.Text.{Text}
-use Rattle.plan.specs.Output.{poolLength, callBy, answered, output}
+use Rattle.plan.specs.Output.{poolLength, callBy, answered, output, NeverStopped}
 use Rattle.plan.specs.Cases
 
 pub text-fits : (t : Text) (xs : List ℕ) → t ≡ textOf xs → t .length ≤ length (t .bytes)
@@ -44,7 +47,7 @@ file-refused file r e h =
 -- the report of the call that the code makes of what the reader returned
 pub job-printed :
     (file : List ℕ) (r : Returned) → Accepted file r → (count : ℕ) → count ≡ area (r .job .n) → (report : Report) (left : List ℕ)
-    → Promised (callOf (r .job) (take count (r .table)) (take (r .stops) (r .start)) (replicate poolLength 0)) report left
+    → Promised (callOf (r .job) (take count (r .table)) (take (r .stops) (r .start)) noBudget (replicate poolLength 0)) report left
     → printed (r .job .n) report ≡ answered (read file .number) (read file .contents)
 unfolding answered callBy contentsFrom contentsOf
 job-printed file r acc count square report left promised =
@@ -59,3 +62,10 @@ long-output input h = rw (lt-ltb longest (length input) h)
 pub short-output : (input : List ℕ) → length input ≤ longest → answered (read input .number) (read input .contents) ≡ output input
 unfolding output
 short-output input h = rw (le-ltb longest (length input) h)
+
+pub never-stopped : NeverStopped
+unfolding callBy callOf printed
+never-stopped c =
+    let r : Report = answer (callBy c) .report in
+    let unmarked : r .mark ≡ 0 = no-run-reaches (callBy c) (answer (callBy c)) refl .1 refl in
+    (unmarked, ap (λ (m : ℕ). printedBy (r .number) m (c .job .n) r) unmarked)

@@ -11,12 +11,12 @@ use Rattle.answer.specs.Cases.{computed, tableT}
 use Rattle.job_format.specs.Bytes.{word, wordAt}
 use Rattle.job_format.specs.Reader.{trailerFrom, trailerIn, wordsIn, contentsBy, contentsIn, misplaced, fileCause, refusal, readingBy, read}
 use Rattle.report_format.specs.Text.{ascii, decimal, spaced, line}
-use Rattle.report_format.specs.Printed.{refusedLine, sevenLines, printedBy, printed}
+use Rattle.report_format.specs.Printed.{refusedLine, answerLines, countLines, sevenLines, printedBy, printed}
 use Rattle.plan.specs.Output.{callBy, answered, output}
 
 -- the file of case l, with every definition that the cases rest on open: the table, and the trailer as document 01 has it
 file-l : List ℕ
-unfolding computed tableT callOf word wordAt trailerFrom trailerIn wordsIn contentsBy contentsIn misplaced fileCause refusal readingBy read decimal spaced line refusedLine sevenLines printedBy printed callBy answered output
+unfolding computed tableT callOf word wordAt trailerFrom trailerIn wordsIn contentsBy contentsIn misplaced fileCause refusal readingBy read decimal spaced line refusedLine answerLines countLines sevenLines printedBy printed callBy answered output
 file-l =
     each word tableT
     ++ (0x00 ∷ 0x00 ∷ 0x00 ∷ 0x00 ∷ 0x40 ∷ 0x00 ∷ 0x00 ∷ 0x00 ∷ 0x03 ∷ 0x00 ∷ 0x00 ∷ 0x01 ∷ 0x01 ∷ [])

@@ -1,15 +1,16 @@
 -- What the program `plan` prints for every input: document 01, "Job file and program".
+use mathlib.Core.Path.{_≡_}
 use mathlib.Core.Bool.{Bool, true, false}
 use mathlib.Core.List.{List}
 use Prim.Native.Nat.{ℕ, zero, suc, _*_}
 use lib.Dec.{ltb}
 use lib.ListN.{length, replicate}
-use Rattle.sizes.specs.Sizes.{recordWords, longest}
+use Rattle.sizes.specs.Sizes.{recordWords, longest, noBudget}
 use Rattle.answer.specs.Call.{Call, callOf}
 use Rattle.answer.specs.Answer.{answer}
 use Rattle.job_format.specs.Contents.{Contents}
 use Rattle.job_format.specs.Reader.{read}
-use Rattle.report_format.specs.Printed.{refusedLine, printed}
+use Rattle.report_format.specs.Printed.{refusedLine, printedBy, printed}
 
 -- the program's pool: its records, and its words
 abbrev pub poolRecords : ℕ
@@ -18,9 +19,10 @@ poolRecords = 2_000
 abbrev pub poolLength : ℕ
 poolLength = poolRecords * recordWords
 
--- the call for what a file holds; what stands in the pool before a run plays no part
+-- the call for what a file holds; what stands in the pool before a run plays no part, and its budget is one that no run reaches (document 02,
+-- A.3)
 unfoldable pub callBy : Contents → Call
-callBy c = callOf (c .job) (c .table) (c .start) (replicate poolLength 0)
+callBy c = callOf (c .job) (c .table) (c .start) noBudget (replicate poolLength 0)
 
 -- what is printed for what the reader answers: a refusal, or the report of the job
 unfoldable pub answered : ℕ → Contents → List ℕ
@@ -34,3 +36,10 @@ outputBy false input = answered (read input .number) (read input .contents)
 
 unfoldable pub output : List ℕ → List ℕ
 output input = outputBy (ltb longest (length input)) input
+
+-- Document 02, A.3: the program never prints the text of a stopped run. Whatever a file holds, what is printed of its job is what is printed with
+-- mark 0: document 01's seven lines, or a refusal.
+abbrev pub NeverStopped : Type 0
+NeverStopped =
+    (c : Contents)
+    → (let r = answer (callBy c) .report in (r .mark ≡ 0) × (printed (c .job .n) r ≡ printedBy (r .number) 0 (c .job .n) r))

@@ -9,6 +9,7 @@ use printing::Text;
 use printing::refusal_text;
 use printing::report_text;
 use sizes::LONGEST;
+use sizes::NO_BUDGET;
 use sizes::RECORD_WORDS;
 
 // Bytes of the input that are looked at: one more than the longest job has.
@@ -35,7 +36,7 @@ fn answer(file: &[u8]) -> Text
     let table = reading.table;
     let start = reading.start;
     let mut pool = [0u32; POOL];
-    let report = plan(job, &table[..count], &start[..stops], &mut pool);
+    let report = plan(job, &table[..count], &start[..stops], NO_BUDGET, &mut pool);
     report_text(job.n, report)
 }
 

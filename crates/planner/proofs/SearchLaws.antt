@@ -28,7 +28,7 @@ use Rattle.planner.specs.declared.run.Turn.the-variants.{Go}
 
 pub run-begins :
     (c : Call) → Passes c → {t : Table} → t ≡ rows (c .job .n) (c .table) → {w : List ℕ} {r : Run}
-    → (let d = settingOf (c .job) in
+    → (let d = settingOf (c .job) (c .budget) in
     Shown d w r (recordsOf d t (start (problemOf d t) (given (c .start))))
     → Running d t (c .start) w r (start (problemOf d t) (given (c .start))))
 run-begins c ok e shown =

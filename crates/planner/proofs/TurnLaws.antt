@@ -1,16 +1,15 @@
 -- One turn of a run that goes on (`Running`): what comes next of its state is told by the records in the pool.
 --   turn-chooses, turn-loads, turn-ready    what `choose`, `load` and `step` require
---   turn-finishes, turn-full, turn-goes     each of the turn's three answers is what comes next of the state
+--   turn-finishes, turn-stops, turn-full, turn-goes    each of the turn's answers is what comes next of the state
 -- P and C are the problem and the choices of the run, Q and D the same on records, and S the state that the pool shows.
 use mathlib.Core.Path.{_≡_, refl, sym, _∙_, ap, subst}
 use mathlib.Core.Bool.{Bool, true, false, not, _&&_, _||_}
 use mathlib.Core.List.{List, [], _∷_, map}
-use mathlib.Core.Logic.{_⊎_, inl, inr, _≢_}
+use mathlib.Core.Logic.{_≢_}
 use mathlib.Core.Option.{Option·map}
-use Prim.Native.Nat.{ℕ, zero, suc, _+_, _^_, _≤_, _<_}
-use native.Mathlib.Nat.{suc-mul}
+use Prim.Native.Nat.{ℕ, suc, _+_, _^_, _≤_, _<_}
 use native.Mathlib.Omega.{arith}
-use lib.Dec.{T, leb, eqb}
+use lib.Dec.{T, leb, ltb, eqb}
 use lib.ListN.{length, getD, take, length-map}
 use lib.Seq.{getD-take}
 use borrow.Author.Tests.{eq-eqb, ne-eqb, eqb-false, lt-ltb, le-ltb}
@@ -19,11 +18,11 @@ use Rattle.sizes.specs.Sizes.{mostStops}
 use Rattle.lists.specs.Lists.{In, dropAt}
 use Rattle.lists.proofs.Members.{in-map}
 use Rattle.lists.proofs.Empty.{in-nonempty}
-use Rattle.lists.proofs.Tests.{both-false, ordered}
+use Rattle.lists.proofs.Tests.{both-false}
 use Rattle.search.specs.Problem.{Problem, Choices, State, upper}
 use Rattle.search.specs.Selection.{chosen, selectBy, select, empty, finishes}
 use Rattle.search.specs.Step.{on}
-use Rattle.search.specs.Run.{Next, finish, overflow, go, unless, fitting, decide, next}
+use Rattle.search.specs.Run.{Next, finish, halt, overflow, go, unless, ifAllowed, fitting, decide, next}
 use Rattle.search.proofs.Plain.{tree, planOf, cutOf}
 use Rattle.search.proofs.Outcome.{steps-reached}
 use Rattle.search.proofs.Optimal.{active-some}
@@ -32,6 +31,7 @@ use Rattle.search.proofs.Bounded.{Bounded}
 use Rattle.search.proofs.Mapped.{Maps, mapState, mapNext, ValidState, upper-maps}
 use Rattle.search.proofs.MappedRun.{next-maps, steps-valid, start-valid}
 use Rattle.orders.specs.Orders.{Node, Partial, size, nodes}
+use Rattle.orders.proofs.Tree.{nodes-rise}
 use Rattle.stops.specs.Code.{emptyRecord}
 use Rattle.stops.specs.declared.node_record.Record.{Record}
 use Rattle.records.specs.Code.{records}
@@ -46,23 +46,32 @@ use Rattle.step.specs.Code.{Ready, Shown, stepOf, Stepping}
 use Rattle.step.specs.declared.Run.{Run}
 use Rattle.step.specs.declared.After.the-variants.{Full as FullAfter, Go as GoAfter}
 use Rattle.planner.specs.Code.{recordsOf, Running, Turned}
-use Rattle.planner.specs.declared.run.Turn.the-variants.{Finish, Full, Go}
+use Rattle.planner.specs.declared.run.Turn.the-variants.{Finish, Stop, Full, Go}
 use Rattle.planner.proofs.StartLaws.{root-within}
 
 -- what comes next of a state, from what comes next of its image
 module _ {N M : Type 0} (f : N → M) where
   unmap-finish : (y : Next N) → mapNext f y ≡ finish → y ≡ finish
   unmap-finish finish e = refl
+  unmap-finish halt e = cc
   unmap-finish overflow e = cc
   unmap-finish (go s) e = cc
 
+  unmap-halt : (y : Next N) → mapNext f y ≡ halt → y ≡ halt
+  unmap-halt finish e = cc
+  unmap-halt halt e = refl
+  unmap-halt overflow e = cc
+  unmap-halt (go s) e = cc
+
   unmap-overflow : (y : Next N) → mapNext f y ≡ overflow → y ≡ overflow
   unmap-overflow finish e = cc
+  unmap-overflow halt e = cc
   unmap-overflow overflow e = refl
   unmap-overflow (go s) e = cc
 
   unmap-go : (y : Next N) (s′ : State M) → mapNext f y ≡ go s′ → (s : State N) × (y ≡ go s) × (mapState f s ≡ s′)
   unmap-go finish s′ e = absurd (let z : _≡_ {A = ℕ} 0 1 = cc in omega arith)
+  unmap-go halt s′ e = absurd (let z : _≡_ {A = ℕ} 0 1 = cc in omega arith)
   unmap-go overflow s′ e = absurd (let z : _≡_ {A = ℕ} 0 1 = cc in omega arith)
   unmap-go (go s) s′ e = (s, refl, cc)
 
@@ -70,15 +79,6 @@ module _ {N M : Type 0} (f : N → M) where
 alone : {A : Type 0} (xs : List A) (m : ℕ) → m ≡ suc (length xs) → empty xs ≡ eqb m 1
 alone [] m e = sym (eq-eqb m 1 e)
 alone (x ∷ xs) m e = sym (ne-eqb m 1 (λ h. omega arith))
-
--- more stops, more nodes
-nodes-rise : (j m : ℕ) → j ≤ m → nodes j ≤ nodes m
-nodes-rise j zero h = let e : j ≡ 0 = omega arith in rw e (omega arith)
-nodes-rise j (suc m) h = cases (ordered j m) (nodes-rise j m)
-  where
-    cases : (j ≤ m) ⊎ (m < j) → (j ≤ m → nodes j ≤ nodes m) → nodes j ≤ nodes (suc m)
-    cases (inl low) again = omega (arith, again low, suc-mul m (nodes m))
-    cases (inr high) again = let e : j ≡ suc m = omega arith in rw e (omega arith)
 
 module _
     {d : Setting} {t : Table} {first w : List ℕ} {r : Run} {s : State Node} (running : Running d t first w r s)
@@ -158,7 +158,7 @@ module _
 
     -- What comes next of S under Q and D is what comes next of s under P and C, mapped (next-shown). So it is enough to follow the turn
     -- on records, as the code does: the selection picks b at place i (shown-selects), the finish test on b is the code's
-    -- (shown-finishes), and the step is `stepOf`. Only what `step` requires asks for the nodes behind the records: b is a
+    -- (shown-finishes), and so is the budget's; then the step is `stepOf`. Only what `step` requires asks for the nodes behind the records: b is a
     -- partial order's, no active bound is above U under rule 1, and the counts are small.
     next-shown : next Q D capacity S ≡ mapNext f (next P C capacity s)
     unfolding recordsOf
@@ -217,11 +217,11 @@ module _
                   )),
             )
 
-        shown-next : next Q D capacity S ≡ unless ends (fitting Q D capacity (stepOf d t i b S))
-        unfolding next decide stepOf
-        shown-next = rw (shown-selects, shown-finishes)
+        shown-next : next Q D capacity S ≡ unless ends (ifAllowed (ltb (r .branched) (d .budget)) (fitting Q D capacity (stepOf d t i b S)))
+        unfolding next decide stepOf recChoices
+        shown-next = rw (shown-selects, shown-finishes, running .shows .branched)
 
-        -- The three answers, by the finish test's result and what the step gave.
+        -- The four answers, by the finish test's result, the budget and what the step gave.
         module _ {q : Bool} (tested : q ≡ ends) where
           pub turn-finishes : q ≡ true → Turned d t w w s Finish
           turn-finishes e = (unmap-finish f _ (sym next-shown ∙ shown-next ∙ rw (← tested, e)), refl)
@@ -229,6 +229,9 @@ module _
           module _ (goes : q ≡ false) where
             goes-on : ends ≡ false
             goes-on = sym tested ∙ goes
+
+            pub turn-stops : d .budget ≤ r .branched → Turned d t w w s Stop
+            turn-stops spent = (unmap-halt f _ (sym next-shown ∙ shown-next ∙ rw (goes-on, le-ltb (r .branched) (d .budget) spent)), refl)
 
             pub turn-ready : Ready d t w i b r
             turn-ready = record {
@@ -244,15 +247,18 @@ module _
               room = shown-room;
             }
 
-            pub turn-full : {w′ : List ℕ} → Stepping d t i b w w′ (recordsOf d t s) FullAfter → Turned d t w w′ s Full
-            unfolding fitting recChoices
-            turn-full (over, same) =
-                (unmap-overflow f _ (sym next-shown ∙ shown-next ∙ rw (goes-on, lt-ltb _ _ over)), same)
+            module _ (allowed : r .branched < d .budget) where
+              put-to-pool : next Q D capacity S ≡ fitting Q D capacity (stepOf d t i b S)
+              put-to-pool = shown-next ∙ rw (goes-on, lt-ltb (r .branched) (d .budget) allowed)
 
-            pub turn-goes :
-                {w′ : List ℕ} {r′ : Run} → Stepping d t i b w w′ (recordsOf d t s) (GoAfter r′) → Turned d t w w′ s (Go r′)
-            unfolding fitting recChoices recordsOf
-            turn-goes {w′} {r′} (fits, shown) =
-                let (s′, e, same) =
-                unmap-go f (next P C capacity s) (stepOf d t i b S) (sym next-shown ∙ shown-next ∙ rw (goes-on, le-ltb _ _ fits)) in
-                (s′, e, subst (Shown d w′ r′) (sym same) shown)
+              pub turn-full : {w′ : List ℕ} → Stepping d t i b w w′ (recordsOf d t s) FullAfter → Turned d t w w′ s Full
+              unfolding fitting recChoices
+              turn-full (over, same) = (unmap-overflow f _ (sym next-shown ∙ put-to-pool ∙ rw (lt-ltb _ _ over)), same)
+
+              pub turn-goes :
+                  {w′ : List ℕ} {r′ : Run} → Stepping d t i b w w′ (recordsOf d t s) (GoAfter r′) → Turned d t w w′ s (Go r′)
+              unfolding fitting recChoices recordsOf
+              turn-goes {w′} {r′} (fits, shown) =
+                  let (s′, e, same) =
+                  unmap-go f (next P C capacity s) (stepOf d t i b S) (sym next-shown ∙ put-to-pool ∙ rw (le-ltb _ _ fits)) in
+                  (s′, e, subst (Shown d w′ r′) (sym same) shown)

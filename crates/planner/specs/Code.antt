@@ -3,28 +3,34 @@
 --   recordsOf    a state with each node as its record
 --   Running      the run goes on at a state, which the pool and the counts show
 --   Turned       what a turn gives
---   reported     the report of a run that has ended
+--   reported, placesOf, finishedBy, fullBy, stoppedBy    the report of a run that has ended, and by how it ended
 --   Ended        what is returned and left in the pool is what the call's run ends with
 use mathlib.Core.Path.{_≡_}
+use mathlib.Core.Bool.{cond}
 use mathlib.Core.List.{List, [], map}
 use mathlib.Core.Logic.{_⊎_}
 use mathlib.Core.Option.{Option·map}
 use Prim.Native.Nat.{ℕ, _≤_, _<_}
-use lib.ListN.{length}
+use lib.Dec.{eqb}
+use lib.ListN.{length, replicate}
+use Rattle.sizes.specs.Sizes.{orderPlaces, aboveEveryCost}
+use Rattle.lists.specs.Lists.{from, padded}
 use Rattle.search.specs.Problem.{State, start}
-use Rattle.search.specs.Run.{Next, Steps, finish, overflow, go, next}
+use Rattle.search.specs.Run.{Next, Steps, finish, halt, overflow, go, next}
 use Rattle.orders.specs.Orders.{Node, Order}
 use Rattle.stops.specs.declared.node_record.Record.{Record}
+use Rattle.records.specs.Records.{stopAt}
 use Rattle.records.specs.Code.{records}
 use Rattle.answer.specs.Call.{Call, Answer}
 use Rattle.answer.specs.declared.Report.{Report}
 use Rattle.answer.specs.Answer.{given, outcome, ending}
 use Rattle.children.specs.Code.{Table, Rows, problemOf, choicesOf, encodeOf}
+use Rattle.children.specs.declared.best.Best.{Best}
 use Rattle.children.specs.declared.setting.Setting.{Setting}
 use Rattle.step.specs.Code.{Shown}
 use Rattle.step.specs.declared.Run.{Run}
 use Rattle.planner.specs.declared.run.Turn.{Turn}
-use Rattle.planner.specs.declared.run.Turn.the-variants.{Finish, Full, Refused, Go}
+use Rattle.planner.specs.declared.run.Turn.the-variants.{Finish, Stop, Full, Refused, Go}
 
 unfoldable pub recordsOf : Setting → Table → State Node → State Record
 recordsOf d t s = record {
@@ -48,19 +54,22 @@ pub record Running (d : Setting) (t : Table) (first : List ℕ) (w : List ℕ) (
 abbrev pub nextOf : Setting → Table → List ℕ → State Node → Next Node
 nextOf d t w s = next (problemOf d t) (choicesOf d t) (length (records w)) s
 
--- a turn as the written run has it: the run is finished, or the pool is full, or the selection is none that there is, and the pool is as it
--- was; or the pool shows the next state
+-- a turn as the written run has it: the run is finished, or the budget is spent, or the pool is full, or the selection is none that there is,
+-- and the pool is as it was; or the pool shows the next state
 abbrev pub Turned : Setting → Table → List ℕ → List ℕ → State Node → Turn → Type 0
 Turned d t w w′ s Finish = (nextOf d t w s ≡ finish) × (w′ ≡ w)
+Turned d t w w′ s Stop = (nextOf d t w s ≡ halt) × (w′ ≡ w)
 Turned d t w w′ s Full = (nextOf d t w s ≡ overflow) × (w′ ≡ w)
 Turned d t w w′ s (Refused number) = ((3 < d .selection) × (number ≡ 4)) × (w′ ≡ w)
 Turned d t w w′ s (Go r) = (s′ : State Node) × (nextOf d t w s ≡ go s′) × Shown d w′ r (recordsOf d t s′)
 
--- with a number, a cost and an order's places
-unfoldable pub reported : ℕ → ℕ → List ℕ → Run → Report
-reported number cost order r = record {
+-- with a number, a mark, a cost, a floor and an order's places
+unfoldable pub reported : ℕ → ℕ → ℕ → ℕ → List ℕ → Run → Report
+reported number mark cost floor order r = record {
   number = number;
+  mark = mark;
   cost = cost;
+  floor = floor;
   order = order;
   branched = r .branched;
   generated = r .generated;
@@ -68,6 +77,22 @@ reported number cost order r = record {
   active = r .active;
   most = r .most;
 }
+
+-- the n stops that the words of U's order say
+unfoldable pub placesOf : ℕ → Best → List ℕ
+placesOf n best = padded orderPlaces (map (stopAt (best .first) (best .second)) (from 0 n))
+
+unfoldable pub finishedBy : ℕ → Run → Report
+finishedBy n r = reported 0 0 (r .best .upper) 0 (placesOf n (r .best)) r
+
+unfoldable pub fullBy : Run → Report
+fullBy r = reported 7 0 0 0 (replicate orderPlaces 0) r
+
+-- while no order is known, U is above every cost
+unfoldable pub stoppedBy : ℕ → ℕ → Run → Report
+stoppedBy n floor r =
+    cond (eqb (r .best .upper) aboveEveryCost) (reported 0 1 0 floor (replicate orderPlaces 0) r)
+    (reported 0 1 (r .best .upper) floor (placesOf n (r .best)) r)
 
 abbrev pub Ended : Call → Report → List ℕ → Type 0
 Ended c q pool = _≡_ {A = Answer} (record { report = q; pool = pool }) (ending c (outcome c))

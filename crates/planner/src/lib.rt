@@ -1,13 +1,15 @@
-// The planner: `plan` is open to a caller; the functions of `run` are this crate's own, and what they require `plan` meets.
+// The planner: `plan` is open to a caller; the functions of `run` and `report` are this crate's own, and what they require `plan` meets.
 // specs/Answer of crate `answer` says what `plan` answers; specs/Code is the code's own.
 ghost use mathlib.Core.Path.{_≡_};
+ghost use Prim.Native.Nat.{ℕ};
 ghost use Rattle.answer.specs.Call.{callOf};
 ghost use Rattle.answer.specs.Checks.{cause};
 ghost use Rattle.planner.specs.Promise.{Promised};
 
+mod report;
 mod run;
 
-use crate::run::refused;
+use crate::report::refused;
 use crate::run::search;
 use answer::Job;
 use answer::Report;
@@ -15,9 +17,9 @@ use checks::job_cause;
 use children::setting::Setting;
 use sizes::RECORD_WORDS;
 
-// The number of the first of causes 1 to 6 that applies to a call, 0 if none does.
+// The number of the first of causes 1 to 6 that applies to a call, 0 if none does; whatever its budget.
 fn cause_of(job: Job, table: &[u32], start: &[u8], pool: &[u32]) -> u32
-    ensures { λ r. ⌜ r ≡ cause (callOf job (now (table .entry)) (now (start .entry)) (now (pool .entry))) ⌝ }
+    ensures { λ r. ⌜ ((budget : ℕ) → r ≡ cause (callOf job (now (table .entry)) (now (start .entry)) budget (now (pool .entry)))) ⌝ }
 {
     let number = job_cause(job, table, start);
     if number != 0 {
@@ -32,9 +34,10 @@ fn cause_of(job: Job, table: &[u32], start: &[u8], pool: &[u32]) -> u32
     0
 }
 
-// Puts the stops 1 to n into the cheapest order. The report and the pool's words are what document 01's run gives, over all inputs.
-pub fn plan(job: Job, table: &[u32], start: &[u8], pool: &mut [u32]) -> Report
-    ensures { λ r. ⌜ Promised (callOf job (now (table .entry)) (now (start .entry)) (now (pool .entry))) r (now (pool .exit)) ⌝ }
+// Puts the stops 1 to n into the cheapest order, with as many branchings as the budget has at most. The report and the pool's words are what
+// document 01's run with the budget of request A.3 gives, over all inputs. An order is a cheapest one where number and mark are both 0.
+pub fn plan(job: Job, table: &[u32], start: &[u8], budget: u64, pool: &mut [u32]) -> Report
+    ensures { λ r. ⌜ Promised (callOf job (now (table .entry)) (now (start .entry)) budget (now (pool .entry))) r (now (pool .exit)) ⌝ }
 {
     let number = cause_of(job, table, start, pool);
     if number != 0 {
@@ -45,6 +48,7 @@ pub fn plan(job: Job, table: &[u32], start: &[u8], pool: &mut [u32]) -> Report
         selection: job.selection,
         rules: job.rules,
         bound: job.bound,
+        budget: budget,
     };
     search(setting, table, start, pool)
 }

@@ -1,4 +1,4 @@
-// The run: one turn after another until the finish test ends it or the pool is full.
+// The run: one turn after another until the finish test ends it, the budget is spent or the pool is full.
 ghost use mathlib.Core.Path.{_≡_};
 ghost use mathlib.Core.Bool.{not, _&&_, _||_};
 ghost use mathlib.Core.List.{List, []};
@@ -11,22 +11,26 @@ ghost use Rattle.search.specs.Problem.{State, start};
 ghost use Rattle.orders.specs.Orders.{Node, Order};
 ghost use Rattle.records.specs.Code.{records};
 ghost use Rattle.selection.specs.Code.{Chosen};
-ghost use Rattle.answer.specs.Call.{callOf, refusal};
+ghost use Rattle.answer.specs.Call.{callOf};
 ghost use Rattle.answer.specs.Checks.{cause};
 ghost use Rattle.answer.specs.Answer.{given};
 ghost use Rattle.children.specs.Code.{jobOf, Rows, problemOf};
 ghost use Rattle.step.specs.Code.{Shown};
-ghost use Rattle.planner.specs.Code.{Running, Turned, Ended, recordsOf, reported};
+ghost use Rattle.planner.specs.Code.{Running, Turned, Ended, recordsOf};
+use crate::report::finished;
+use crate::report::full;
+use crate::report::refused;
+use crate::report::stopped;
 use answer::Report;
 use children::best::started;
 use children::family::root;
 use children::setting::Setting;
 use pool::settle::settle;
 use records::load;
-use records::order::stops_of;
 use records::store;
 use selection::Place;
 use selection::choose;
+use selection::floor;
 use sizes::ORDER_PLACES;
 use sizes::PLACES;
 use sizes::RECORD_WORDS;
@@ -42,6 +46,7 @@ const FAMILY_WORDS: usize = ORDER_PLACES * RECORD_WORDS;
 // What comes next of a state.
 pub enum Turn {
     Finish,
+    Stop,
     Full,
     Refused(u32),
     Go(Run),
@@ -64,7 +69,7 @@ fn finishes(setting: Setting, b: Record, upper: u32, active: usize) -> bool
     active == 1
 }
 
-// The turn of the node at i, which the selection picked: the finish test, the step. `kids` has the slots for its children.
+// The turn of the node at i, which the selection picked: the finish test, the budget, the step. `kids` has the slots for its children.
 fn turn_at(
     setting: Setting,
     t: [[u32; PLACES]; PLACES],
@@ -80,6 +85,9 @@ fn turn_at(
     let best = r.best;
     if finishes(setting, b, best.upper, r.active) {
         return Turn::Finish;
+    }
+    if setting.budget <= r.branched {
+        return Turn::Stop;
     }
     let after = step(setting, t, w, i, b, r, kids);
     let After::Go(next) = after else {
@@ -124,42 +132,10 @@ fn begun(setting: Setting, t: [[u32; PLACES]; PLACES], start: &[u8], w: &mut [u3
     }
 }
 
-// A refusal: its number, and zeros.
-pub fn refused(number: u32) -> Report
-    ensures { λ r. ⌜ r ≡ refusal number ⌝ }
-{
-    Report {
-        number: number,
-        cost: 0,
-        order: [0u8; ORDER_PLACES],
-        branched: 0,
-        generated: 0,
-        eliminated: 0,
-        active: 0,
-        most: 0,
-    }
-}
-
-// The report of a run that has ended.
-fn ended(number: u32, cost: u32, order: [u8; ORDER_PLACES], r: Run) -> Report
-    ensures { λ q. ⌜ q ≡ reported number cost order r ⌝ }
-{
-    Report {
-        number: number,
-        cost: cost,
-        order: order,
-        branched: r.branched,
-        generated: r.generated,
-        eliminated: r.eliminated,
-        active: r.active as u64,
-        most: r.most,
-    }
-}
-
 // The run of a call that every check let pass. The slots for a node's children are made once, and lent to each turn.
 pub fn search(setting: Setting, table: &[u32], start: &[u8], w: &mut [u32]) -> Report
-    requires { ⌜ cause (callOf (jobOf setting) (now table) (now start) (now w)) ≡ 0 ⌝ }
-    ensures { λ q. ⌜ Ended (callOf (jobOf setting) (now (table .entry)) (now (start .entry)) (now (w .entry))) q (now (w .exit)) ⌝ }
+    requires { ⌜ cause (callOf (jobOf setting) (now table) (now start) (setting .budget) (now w)) ≡ 0 ⌝ }
+    ensures { λ q. ⌜ Ended (callOf (jobOf setting) (now (table .entry)) (now (start .entry)) (setting .budget) (now (w .entry))) q (now (w .exit)) ⌝ }
 {
     let t = rows(setting.n as usize, table);
     let capacity = w.len() / RECORD_WORDS;
@@ -173,17 +149,16 @@ pub fn search(setting: Setting, table: &[u32], start: &[u8], w: &mut [u32]) -> R
             }
             Turn::Finish => {
                 settle(w, capacity, r.active, r.far);
-                let best = r.best;
-                return ended(
-                    0,
-                    best.upper,
-                    stops_of(setting.n, best.first, best.second),
-                    r,
-                );
+                return finished(setting.n, r);
+            }
+            Turn::Stop => {
+                let least = floor(w, r.active);
+                settle(w, capacity, r.active, r.far);
+                return stopped(setting.n, least, r);
             }
             Turn::Full => {
                 settle(w, capacity, r.active, r.far);
-                return ended(7, 0, [0u8; ORDER_PLACES], r);
+                return full(r);
             }
             Turn::Refused(number) => {
                 return refused(number);

@@ -1,17 +1,17 @@
 -- What the functions of this crate compute between one another. These definitions are the code's own: a reader of the promises needs none of
 -- them.
---   Put                        some bytes written into a buffer from a place on, the others as they were, and the place behind them
---   mostDigits                 how many digits a value of 64 bits has at most
---   decimalRoom                how many bytes one takes at most, printed: a space and its digits
---   lineRoom                   .. and a line of some: its name, the values and the line's end
---   answerLines, countLines    the first two of the seven lines, and the other five
---   answerRoom, countsRoom     how many bytes these take at most
+--   Put                       some bytes written into a buffer from a place on, the others as they were, and the place behind them
+--   mostDigits                how many digits a value of 64 bits has at most
+--   decimalRoom               how many bytes one takes at most, printed: a space and its digits
+--   lineRoom                  .. and a line of some: its name, the values and the line's end
+--   answerRoom, countsRoom    how many bytes the lines of an order and of the counts take at most
 use mathlib.Core.Path.{_≡_}
-use mathlib.Core.List.{List, [], _∷_, _++_}
+use mathlib.Core.List.{List}
 use Prim.Native.Nat.{ℕ, _+_, _*_}
 use lib.ListN.{length}
 use lib.Seq.{sets}
-use Rattle.report_format.specs.Text.{ascii, line}
+use Rattle.sizes.specs.Sizes.{orderPlaces}
+use Rattle.report_format.specs.Text.{ascii}
 
 pub record Put (before : List ℕ) (place : ℕ) (bytes after : List ℕ) (end : ℕ) : Type 0 where
   pub written : after ≡ sets before place bytes
@@ -26,19 +26,8 @@ decimalRoom = mostDigits + 1
 abbrev pub lineRoom : List ℕ → ℕ → ℕ
 lineRoom name count = length name + decimalRoom * count + 1
 
-unfoldable pub answerLines : ℕ → List ℕ → List ℕ
-answerLines cost stops = line "cost" (cost ∷ []) ++ line "order" stops
-
-abbrev pub answerRoom : ℕ → ℕ
-answerRoom count = lineRoom (ascii "cost") 1 + lineRoom (ascii "order") count
-
-unfoldable pub countLines : ℕ → ℕ → ℕ → ℕ → ℕ → List ℕ
-countLines branched generated eliminated active most =
-    line "branched" (branched ∷ [])
-    ++ line "generated" (generated ∷ [])
-    ++ line "eliminated" (eliminated ∷ [])
-    ++ line "active" (active ∷ [])
-    ++ line "most" (most ∷ [])
+abbrev pub answerRoom : ℕ
+answerRoom = lineRoom (ascii "cost") 1 + lineRoom (ascii "order") orderPlaces
 
 -- 37 bytes of names, and 22 for each number and its line's end
 abbrev pub countsRoom : ℕ

@@ -5,9 +5,9 @@ use lib.ListN.{length}
 use Rattle.lists.specs.Lists.{padded}
 use Rattle.printing.specs.declared.Text.{Text}
 
--- Places for a text. The longest has seven lines: 46 bytes of names, 22 numbers of at most 21 bytes with their spaces, and the lines' ends.
+-- Places for a text. The longest has nine lines: 55 bytes of names, 24 numbers of at most 21 bytes with their spaces, and the lines' ends.
 abbrev pub textPlaces : ℕ
-textPlaces = 515
+textPlaces = 568
 
 unfoldable pub textOf : List ℕ → Text
 textOf bytes = record { bytes = padded textPlaces bytes; length = length bytes }

@@ -12,8 +12,8 @@ use crate::put::put_line;
 use answer::Report;
 use records::order::places;
 
-// Places for a text: the longest has seven lines, with sixteen stops and numbers of twenty digits.
-pub const TEXT: usize = 515;
+// Places for a text: the longest has nine lines, with sixteen stops and numbers of twenty digits.
+pub const TEXT: usize = 568;
 
 // A text: its bytes, with zeros behind them, and how many they are.
 pub struct Text {

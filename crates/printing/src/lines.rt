@@ -1,12 +1,12 @@
-// The seven lines of a report.
+// The lines of a report: of its order, of its counts, and those that only a stopped run has.
 ghost use mathlib.Core.Path.{_≡_};
 ghost use Prim.Native.Nat.{_+_, _*_, _≤_};
-ghost use lib.ListN.{length};
+ghost use lib.ListN.{length, getD};
 ghost use Rattle.sizes.specs.Sizes.{orderPlaces};
 ghost use Rattle.report_format.specs.Text.{ascii, spaced, line};
-ghost use Rattle.report_format.specs.Printed.{sevenLines};
+ghost use Rattle.report_format.specs.Printed.{answerLines, countLines, knownLines, stoppedLines, printedBy};
 ghost use Rattle.printing.specs.Promise.{textPlaces};
-ghost use Rattle.printing.specs.Code.{Put, decimalRoom, lineRoom, answerLines, answerRoom, countLines, countsRoom};
+ghost use Rattle.printing.specs.Code.{Put, decimalRoom, lineRoom, answerRoom, countsRoom};
 use crate::put::put_bytes;
 use crate::put::put_decimal;
 use crate::put::put_line;
@@ -44,49 +44,60 @@ fn put_order(buffer: &mut [u8], at: usize, stops: &[u8]) -> usize
     end + 1
 }
 
-// Writes the lines of the cost and the order.
-fn put_answer(buffer: &mut [u8], cost: u32, stops: &[u8]) -> usize
-    requires { ⌜ answerRoom (length (now stops)) ≤ length (now buffer) ⌝ }
-    ensures { λ r. ⌜ Put (now (buffer .entry)) 0 (answerLines cost (now (stops .entry))) (now (buffer .exit)) r × (r ≤ answerRoom (length (now (stops .entry)))) ⌝ }
+// Writes the lines of an order: the cost, and so many of its stops.
+fn put_answer(buffer: &mut [u8], count: usize, r: Report) -> usize
+    requires { ⌜ (count ≤ orderPlaces) × (answerRoom ≤ length (now buffer)) ⌝ }
+    ensures { λ q. ⌜ Put (now (buffer .entry)) 0 (answerLines count r) (now (buffer .exit)) q × (q ≤ answerRoom) ⌝ }
 {
-    let at = put_line(buffer, 0, b"cost", cost as u64);
-    put_order(buffer, at, stops)
+    let order = r.order;
+    let at = put_line(buffer, 0, b"cost", r.cost as u64);
+    put_order(buffer, at, &order[..count])
+}
+
+// Writes the lines of the best order that a stopped run knows: nothing where it knows none.
+fn put_known(buffer: &mut [u8], count: usize, r: Report) -> usize
+    requires { ⌜ (count ≤ orderPlaces) × (answerRoom ≤ length (now buffer)) ⌝ }
+    ensures { λ q. ⌜ Put (now (buffer .entry)) 0 (knownLines (getD (r .order) 0 0) count r) (now (buffer .exit)) q × (q ≤ answerRoom) ⌝ }
+{
+    let order = r.order;
+    if order[0] == 0 {
+        return 0;
+    }
+    put_answer(buffer, count, r)
 }
 
 // Writes the lines of the five counts.
-fn put_counts(
-    buffer: &mut [u8],
-    at: usize,
-    branched: u64,
-    generated: u64,
-    eliminated: u64,
-    active: u64,
-    most: u64,
-) -> usize
+fn put_counts(buffer: &mut [u8], at: usize, r: Report) -> usize
     requires { ⌜ at + countsRoom ≤ length (now buffer) ⌝ }
-    ensures { λ r. ⌜ Put (now (buffer .entry)) at (countLines branched generated eliminated active most) (now (buffer .exit)) r × (r ≤ at + countsRoom) ⌝ }
+    ensures { λ q. ⌜ Put (now (buffer .entry)) at (countLines r) (now (buffer .exit)) q × (q ≤ at + countsRoom) ⌝ }
 {
-    let a = put_line(buffer, at, b"branched", branched);
-    let b = put_line(buffer, a, b"generated", generated);
-    let c = put_line(buffer, b, b"eliminated", eliminated);
-    let d = put_line(buffer, c, b"active", active);
-    put_line(buffer, d, b"most", most)
+    let a = put_line(buffer, at, b"branched", r.branched);
+    let b = put_line(buffer, a, b"generated", r.generated);
+    let c = put_line(buffer, b, b"eliminated", r.eliminated);
+    let d = put_line(buffer, c, b"active", r.active);
+    put_line(buffer, d, b"most", r.most)
 }
 
-// Writes the seven lines of a report, with so many stops of its order.
+// Writes the lines of a stopped run.
+fn put_stopped(buffer: &mut [u8], count: usize, r: Report) -> usize
+    requires { ⌜ (count ≤ orderPlaces) × (textPlaces ≤ length (now buffer)) ⌝ }
+    ensures { λ q. ⌜ Put (now (buffer .entry)) 0 (stoppedLines count r) (now (buffer .exit)) q × (q ≤ textPlaces) ⌝ }
+{
+    let a = put_known(buffer, count, r);
+    let b = put_counts(buffer, a, r);
+    let c = put_line(buffer, b, b"mark", r.mark as u64);
+    put_line(buffer, c, b"floor", r.floor as u64)
+}
+
+// Writes the lines of a report with number 0, with so many stops of its order.
 pub fn put_lines(buffer: &mut [u8], count: usize, r: Report) -> usize
     requires { ⌜ (count ≤ orderPlaces) × (textPlaces ≤ length (now buffer)) ⌝ }
-    ensures { λ q. ⌜ Put (now (buffer .entry)) 0 (sevenLines count r) (now (buffer .exit)) q × (q ≤ textPlaces) ⌝ }
+    ensures { λ q. ⌜ Put (now (buffer .entry)) 0 (printedBy 0 (r .mark) count r) (now (buffer .exit)) q × (q ≤ textPlaces) ⌝ }
 {
-    let order = r.order;
-    let at = put_answer(buffer, r.cost, &order[..count]);
-    put_counts(
-        buffer,
-        at,
-        r.branched,
-        r.generated,
-        r.eliminated,
-        r.active,
-        r.most,
-    )
+    let mark = r.mark;
+    if mark != 0 {
+        return put_stopped(buffer, count, r);
+    }
+    let at = put_answer(buffer, count, r);
+    put_counts(buffer, at, r)
 }

@@ -2,9 +2,9 @@
 --   Tree    what is searched: a problem, with `price` and `withDead`
 --   Plan    what compared jobs share: one selection by rank with a side, and the dominance rules
 --   Cut     what compared jobs may differ in: rule 1, the bound, the budget
--- The places for document 02: `allows` (A.3: another branching is allowed after so many), `price` and `early` (A.8: what a bound is
--- held against; a bound can end the run at all), `withDead` (A.9: a count with the dead children of b added), `children` (A.6).
--- In document 01 every number is allowed, the price of a cost is the cost, a bound can end the run, and there are no dead children.
+-- `allows` is the budget of document 02, A.3: whether another branching is allowed after so many. The places for later requests: `price`
+-- and `early` (A.8: what a bound is held against; a bound can end the run at all), `withDead` (A.9: a count with the dead children of b
+-- added), `children` (A.6). As yet the price of a cost is the cost, a bound can end the run, and there are no dead children.
 -- Definitions only; laws are in `Laws`.
 use mathlib.Core.Path.{_≡_}
 use mathlib.Core.Bool.{Bool, true, false, not, _&&_, _||_, cond}

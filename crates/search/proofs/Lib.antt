@@ -23,3 +23,4 @@ pub mod MappedStep
 pub mod MappedRun
 pub mod Bounded
 pub mod Within
+pub mod Budget

@@ -17,7 +17,7 @@ use Rattle.lists.proofs.Map.{least-map}
 use Rattle.search.specs.Problem.{Problem, Choices, State, upper}
 use Rattle.search.specs.Selection.{Choice, nothing, chosen, behind, orElse, earliest, latest, selectBy, select, empty, finishes}
 use Rattle.search.specs.Step.{replace, learn}
-use Rattle.search.specs.Run.{Next, finish, overflow, go, Outcome, finished, full, unfinished}
+use Rattle.search.specs.Run.{Next, finish, halt, overflow, go, Outcome, finished, stopped, full, unfinished}
 use Rattle.search.proofs.Learn.{taught}
 
 pub record Maps
@@ -34,6 +34,7 @@ pub record Maps
   pub selection : D .selection ≡ C .selection
   pub rules : D .rules ≡ C .rules
   pub bound : (x : N) → Valid x → D .bound (f x) ≡ C .bound x
+  pub budget : D .budget ≡ C .budget
 
 module _ {N M : Type 0} (f : N → M) where
   abbrev pub mapChoice : Choice N → Choice M
@@ -52,11 +53,13 @@ module _ {N M : Type 0} (f : N → M) where
 
   abbrev pub mapNext : Next N → Next M
   mapNext finish = finish
+  mapNext halt = halt
   mapNext overflow = overflow
   mapNext (go s) = go (mapState s)
 
   abbrev pub mapOutcome : Outcome N → Outcome M
   mapOutcome (finished s) = finished (mapState s)
+  mapOutcome (stopped s) = stopped (mapState s)
   mapOutcome (full s) = full (mapState s)
   mapOutcome (unfinished s) = unfinished (mapState s)
 

@@ -12,7 +12,7 @@ use lib.ListN.{length, length-map}
 use Rattle.search.specs.Problem.{Problem, Choices, State, start}
 use Rattle.search.specs.Selection.{Choice, nothing, chosen, select, finishes}
 use Rattle.search.specs.Step.{on, step}
-use Rattle.search.specs.Run.{withBranched, held, Next, finish, overflow, go, unless, goUnless, fitting, decide, next, follow, run, Stepped, Steps, none, more}
+use Rattle.search.specs.Run.{withBranched, held, Next, finish, halt, overflow, go, unless, ifAllowed, goUnless, fitting, decide, next, follow, run, Stepped, Steps, none, more}
 use Rattle.search.proofs.Mapped.{Maps, mapChoice, mapState, mapNext, mapOutcome, ValidChoice, ValidBest, ValidState, select-valid, select-maps, finishes-maps}
 use Rattle.search.proofs.MappedStep.{step-valid, step-maps}
 
@@ -41,15 +41,20 @@ module _
             finishes-maps maps (s .best) b rest (valid .best) (picked .0),
             step-maps maps s b rest valid (picked .0) (picked .1),
             held-maps (step P C s b rest),
+            length-map (s .branched) f,
+            maps .budget,
           )
-          (cases (finishes P C (s .best) b rest) (ltb capacity (length (held (C .rules) (step P C s b rest)))))
+          (cases (finishes P C (s .best) b rest) (ltb (length (s .branched)) (C .budget))
+          (ltb capacity (length (held (C .rules) (step P C s b rest)))))
         where
           cases :
-              (ends over : Bool)
-              → unless ends (goUnless over (mapState f (step P C s b rest))) ≡ mapNext f (unless ends (goUnless over (step P C s b rest)))
-          cases true over = refl
-          cases false true = refl
-          cases false false = refl
+              (ends allowed over : Bool)
+              → unless ends (ifAllowed allowed (goUnless over (mapState f (step P C s b rest))))
+              ≡ mapNext f (unless ends (ifAllowed allowed (goUnless over (step P C s b rest))))
+          cases true allowed over = refl
+          cases false false over = refl
+          cases false true true = refl
+          cases false true false = refl
 
       pub next-maps : (s : State N) → ValidState Valid P s → next Q D capacity (mapState f s) ≡ mapNext f (next P C capacity s)
       unfolding next
@@ -60,6 +65,7 @@ module _
       -- Where a run goes on, the state that it goes on with is valid.
       abbrev ValidNext : Next N → Type 0
       ValidNext finish = Unit {0}
+      ValidNext halt = Unit {0}
       ValidNext overflow = Unit {0}
       ValidNext (go s) = ValidState Valid P s
 
@@ -67,12 +73,14 @@ module _
       unfolding decide fitting
       decide-valid s nothing valid picked = tt
       decide-valid s (chosen b rest) valid picked =
-          cases (finishes P C (s .best) b rest) (ltb capacity (length (held (C .rules) (step P C s b rest))))
+          cases (finishes P C (s .best) b rest) (ltb (length (s .branched)) (C .budget))
+          (ltb capacity (length (held (C .rules) (step P C s b rest))))
         where
-          cases : (ends over : Bool) → ValidNext (unless ends (goUnless over (step P C s b rest)))
-          cases true over = tt
-          cases false true = tt
-          cases false false = step-valid maps s b rest valid (picked .0) (picked .1)
+          cases : (ends allowed over : Bool) → ValidNext (unless ends (ifAllowed allowed (goUnless over (step P C s b rest))))
+          cases true allowed over = tt
+          cases false false over = tt
+          cases false true true = tt
+          cases false true false = step-valid maps s b rest valid (picked .0) (picked .1)
 
       pub next-valid : (s s′ : State N) → ValidState Valid P s → next P C capacity s ≡ go s′ → ValidState Valid P s′
       unfolding next
@@ -103,6 +111,7 @@ module _
               → follow Q D capacity (run Q D capacity fuel) (mapState f s) (mapNext f n)
               ≡ mapOutcome f (follow P C capacity (run P C capacity fuel) s n)
           cases finish v again = refl
+          cases halt v again = refl
           cases overflow v again = refl
           cases (go s′) v again = again s′ (v s′ refl)
 

@@ -99,15 +99,6 @@ module _
         climb lawful s v within covered (reached-sound s r) (suc limit) (k .by) (omega arith) (k .live)
         (covers-good lawful v (k .by) (t .problem .root) (k .covers) g)
 
-    -- The floor: some active node's bound is at most the price of any order that costs at most the upper cost.
-    pub floor-holds :
-        (s : State N) → Reached t p c pool (start (t .problem) best₀) s → (y : N) → T (t .problem .complete y)
-        → Leads (t .problem) (t .problem .root) y → t .problem .cost y ≤ upper (t .problem) (s .best)
-        → (x : N) × In x (s .active) × (c .bound x ≤ t .price (t .problem .cost y))
-    floor-holds s r y whole leads within =
-        let (x, m, g) = reached-alive s r (t .problem .cost y) within (leaf-good (t .problem .root) y whole leads) in
-        (x, m, good-bound lawful bounds (t .problem .cost y) x g)
-
     -- An ended run has no active node x that is good at some v below the upper cost. Such an x is not complete, or it would have been
     -- learnt from. By the way the run ended: there is no active node; or the chosen node b is complete, and then costs at most v, though
     -- it was learnt from (least bound), or all active nodes are complete (FIFO, LIFO); or b's bound reaches the price of the upper cost,
@@ -191,6 +182,24 @@ module _
           (s : State N) → Reached t p c pool (start (t .problem) best₀) s
           → (x : N) × In x (s .active) × Good (t .problem) (upper (t .problem) (s .best)) x
       live-some s r = reached-alive s r (upper (t .problem) (s .best)) (omega arith) (root-good solvable (s .best) (reached-known s r))
+
+      -- The floor: some active node's bound is at most the price of any order. Of an order dearer than the upper cost it is, for some active node's
+      -- is at most the price of the upper cost.
+      pub floor-holds :
+          (s : State N) → Reached t p c pool (start (t .problem) best₀) s → (y : N) → T (t .problem .complete y)
+          → Leads (t .problem) (t .problem .root) y → (x : N) × In x (s .active) × (c .bound x ≤ t .price (t .problem .cost y))
+      floor-holds s r y whole leads = at (ordered (t .problem .cost y) (upper (t .problem) (s .best)))
+        where
+          at :
+              (t .problem .cost y ≤ upper (t .problem) (s .best)) ⊎ (upper (t .problem) (s .best) < t .problem .cost y)
+              → (x : N) × In x (s .active) × (c .bound x ≤ t .price (t .problem .cost y))
+          at (inl within) =
+              let (x, m, g) = reached-alive s r (t .problem .cost y) within (leaf-good (t .problem .root) y whole leads) in
+              (x, m, good-bound lawful bounds (t .problem .cost y) x g)
+          at (inr dearer) =
+              let (x, m, g) = live-some s r in
+              let rises = lawful .rises (upper (t .problem) (s .best)) (t .problem .cost y) (omega arith) in
+              (x, m, omega (arith, rises, good-bound lawful bounds (upper (t .problem) (s .best)) x g))
 
       -- the active set is never empty
       pub active-some : (s : State N) → Reached t p c pool (start (t .problem) best₀) s → (x : N) × In x (s .active)

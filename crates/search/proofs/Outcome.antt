@@ -1,7 +1,8 @@
 -- What the outcomes of a run mean.
 --   Ended, search-ended             the general run: the state that stands is reached, and its verdict is the outcome's
---   next-stepped, next-overflows    what comes next of a state, as a step or as a step that does not fit
---   full-means, overflow-full       the pool is called full when, and only when, some steps come to such a state: the first of them
+--   next-stepped, next-halts, next-overflows    what comes next of a state, as a step, a budget that is spent or a step that does not fit
+--   full-means, overflow-full       the pool is called full when, and only when, some steps come to a step that does not fit: the first
+--   stopped-means, halt-stopped     the run is stopped when, and only when, some steps come to a state where the budget is spent
 --   finished-means, finish-finished, finish-whatever-pool    the run is finished just at the state that the finish test ends, in any pool
 --   steps-reached, reached-steps    what is proved of reached states is true of the states of the written run
 use mathlib.Core.Path.{_≡_, refl, ap, sym, _∙_, subst}
@@ -9,14 +10,14 @@ use mathlib.Core.Bool.{Bool, true, false, not}
 use mathlib.Core.List.{List}
 use Prim.Native.Nat.{ℕ, zero, suc, _≤_, _<_}
 use native.Mathlib.Omega.{arith}
-use lib.Dec.{T, ltb, ltb→lt, nltb→le, not-T}
+use lib.Dec.{T, ltb, ltb→lt, lt→ltb, nltb→le, not-T}
 use lib.ListN.{length}
 use Rattle.lists.specs.Lists.{sum}
 use Rattle.lists.proofs.Tests.{tests, to-true, to-false}
 use Rattle.search.specs.Problem.{Problem, Choices, State}
 use Rattle.search.specs.Selection.{Choice, nothing, chosen, select, finishes}
 use Rattle.search.specs.Step.{step}
-use Rattle.search.specs.Run.{held, Next, finish, overflow, go, Outcome, finished, full, unfinished, unless, goUnless, fitting, decide, next, follow, run, Stepped, Steps, none, more, Overflows}
+use Rattle.search.specs.Run.{held, Next, finish, halt, overflow, go, Outcome, finished, stopped, full, unfinished, unless, ifAllowed, goUnless, fitting, decide, next, follow, run, Stepped, Steps, none, more, Halts, Overflows}
 use Rattle.search.proofs.General.{Tree, Plan, Cut, Verdict, stop, pause, refuse, onward, Result, done, paused, overfull, stuck, verdict, obey, search, Reached, here, then}
 use Rattle.search.proofs.Laws.{Weighs}
 use Rattle.search.proofs.Plain.{tree, planOf, cutOf, verdictOf, next-is-verdict}
@@ -51,6 +52,7 @@ module _ {N : Type 0} (P : Problem N) (C : Choices N) (capacity : ℕ) where
   -- what comes next of a state says how it comes
   abbrev Says : State N → Next N → Type 0
   Says s finish = Unit {0}
+  Says s halt = Halts P C capacity s
   Says s overflow = Overflows P C capacity s
   Says s (go s′) = Stepped P C capacity s s′
 
@@ -61,36 +63,60 @@ module _ {N : Type 0} (P : Problem N) (C : Choices N) (capacity : ℕ) where
       at : (c : Choice N) → select P C (s .active) ≡ c → Says s (decide P C capacity s c)
       at nothing e = tt
       at (chosen b rest) e =
-          cases (finishes P C (s .best) b rest) (ltb capacity kept) (λ h. h) (ltb→lt capacity kept) (nltb→le capacity kept)
+          cases (finishes P C (s .best) b rest) (ltb made (C .budget)) (ltb capacity kept) (λ h. h) (ltb→lt made (C .budget))
+          (nltb→le made (C .budget)) (ltb→lt capacity kept) (nltb→le capacity kept)
         where
+          made : ℕ
+          made = length (s .branched)
+
           kept : ℕ
           kept = length (held (C .rules) (step P C s b rest))
 
           cases :
-              (f o : Bool) → (T (not f) → T (not (finishes P C (s .best) b rest))) → (T o → capacity < kept) → (T (not o) → kept ≤ capacity)
-              → Says s (unless f (goUnless o (step P C s b rest)))
-          cases true o goes over fits = tt
-          cases false true goes over fits = record { b = b; rest = rest; selects = e; goes = goes tt; outnumber = over tt }
-          cases false false goes over fits = record { b = b; rest = rest; selects = e; goes = goes tt; fits = fits tt; steps = refl }
+              (f a o : Bool) → (T (not f) → T (not (finishes P C (s .best) b rest))) → (T a → made < C .budget) → (T (not a) → C .budget ≤ made)
+              → (T o → capacity < kept) → (T (not o) → kept ≤ capacity) → Says s (unless f (ifAllowed a (goUnless o (step P C s b rest))))
+          cases true a o goes allows spent over fits = tt
+          cases false false o goes allows spent over fits = record { b = b; rest = rest; selects = e; goes = goes tt; spent = spent tt }
+          cases false true true goes allows spent over fits =
+              record { b = b; rest = rest; selects = e; goes = goes tt; allows = allows tt; outnumber = over tt }
+          cases false true false goes allows spent over fits =
+              record { b = b; rest = rest; selects = e; goes = goes tt; allows = allows tt; fits = fits tt; steps = refl }
 
   pub next-stepped : {s s′ : State N} → next P C capacity s ≡ go s′ → Stepped P C capacity s s′
   next-stepped {s} e = subst (Says s) e (next-says s)
 
+  pub next-halts : {s : State N} → next P C capacity s ≡ halt → Halts P C capacity s
+  next-halts {s} e = subst (Says s) e (next-says s)
+
   pub next-overflows : {s : State N} → next P C capacity s ≡ overflow → Overflows P C capacity s
   next-overflows {s} e = subst (Says s) e (next-says s)
 
-  -- a step that the finish test lets through is put to the pool
+  -- a step that the finish test lets through and the budget allows is put to the pool
   goes-next :
       (s : State N) (b : N) (rest : List N) → select P C (s .active) ≡ chosen b rest → T (not (finishes P C (s .best) b rest))
-      → next P C capacity s ≡ fitting P C capacity (step P C s b rest)
+      → length (s .branched) < C .budget → next P C capacity s ≡ fitting P C capacity (step P C s b rest)
   unfolding next decide
-  goes-next s b rest e h = rw (e, to-false (finishes P C (s .best) b rest) h)
+  goes-next s b rest e h k =
+      rw (
+        e,
+        to-false (finishes P C (s .best) b rest) h,
+        to-true (ltb (length (s .branched)) (C .budget)) (lt→ltb (length (s .branched)) (C .budget) k),
+      )
+
+  pub halts-next : {s : State N} → Halts P C capacity s → next P C capacity s ≡ halt
+  unfolding next decide
+  halts-next {s} h =
+      rw (
+        h .selects,
+        to-false (finishes P C (s .best) (h .b) (h .rest)) (h .goes),
+        to-false (ltb (length (s .branched)) (C .budget)) (not-T (ltb (length (s .branched)) (C .budget)) (λ o. omega (arith, tests, h .spent))),
+      )
 
   stepped-next : {s s′ : State N} → Stepped P C capacity s s′ → next P C capacity s ≡ go s′
   unfolding fitting
   stepped-next {s} h =
       rw (
-        goes-next s (h .b) (h .rest) (h .selects) (h .goes),
+        goes-next s (h .b) (h .rest) (h .selects) (h .goes) (h .allows),
         to-false (ltb capacity (length (held (C .rules) (step P C s (h .b) (h .rest)))))
             (not-T (ltb capacity (length (held (C .rules) (step P C s (h .b) (h .rest))))) (λ o. omega (arith, tests))),
         h .steps,
@@ -100,7 +126,7 @@ module _ {N : Type 0} (P : Problem N) (C : Choices N) (capacity : ℕ) where
   unfolding fitting
   overflows-next {s} h =
       rw (
-        goes-next s (h .b) (h .rest) (h .selects) (h .goes),
+        goes-next s (h .b) (h .rest) (h .selects) (h .goes) (h .allows),
         to-true (ltb capacity (length (held (C .rules) (step P C s (h .b) (h .rest))))) (omega (arith, tests)),
       )
 
@@ -111,17 +137,22 @@ module _ {N : Type 0} (P : Problem N) (C : Choices N) (capacity : ℕ) where
     where
       at : (c : Choice N) → decide P C capacity s c ≡ finish → decide P C r s c ≡ finish
       at nothing e = refl
-      at (chosen b rest) e = cases (finishes P C (s .best) b rest) (ltb capacity (length (held (C .rules) (step P C s b rest)))) e
+      at (chosen b rest) e =
+          cases (finishes P C (s .best) b rest) (ltb (length (s .branched)) (C .budget))
+          (ltb capacity (length (held (C .rules) (step P C s b rest)))) e
         where
           cases :
-              (f o : Bool) → unless f (goUnless o (step P C s b rest)) ≡ finish → unless f (fitting P C r (step P C s b rest)) ≡ finish
-          cases true o e = refl
-          cases false true e = cc
-          cases false false e = cc
+              (f a o : Bool) → unless f (ifAllowed a (goUnless o (step P C s b rest))) ≡ finish
+              → unless f (ifAllowed a (fitting P C r (step P C s b rest))) ≡ finish
+          cases true a o e = refl
+          cases false false o e = cc
+          cases false true true e = cc
+          cases false true false e = cc
 
   -- What an outcome says of the state that the run began at.
   abbrev Means : State N → Outcome N → Type 0
   Means s (finished e) = Steps P C capacity s e × (next P C capacity e ≡ finish)
+  Means s (stopped e) = Steps P C capacity s e × Halts P C capacity e
   Means s (full e) = Steps P C capacity s e × Overflows P C capacity e
   Means s (unfinished e) = Steps P C capacity s e
 
@@ -134,11 +165,15 @@ module _ {N : Type 0} (P : Problem N) (C : Choices N) (capacity : ℕ) where
           (n : Next N) → next P C capacity s′ ≡ n → Says s′ n → ((s″ : State N) → Steps P C capacity s s″ → Means s (run P C capacity fuel s″))
           → Means s (follow P C capacity (run P C capacity fuel) s′ n)
       cases finish e h again = (r, e)
+      cases halt e h again = (r, h)
       cases overflow e h again = (r, h)
       cases (go s″) e h again = again s″ (more r h)
 
   pub finished-means : (fuel : ℕ) (s e : State N) → run P C capacity fuel s ≡ finished e → Steps P C capacity s e × (next P C capacity e ≡ finish)
   finished-means fuel s e q = subst (Means s) q (run-from fuel none)
+
+  pub stopped-means : (fuel : ℕ) (s e : State N) → run P C capacity fuel s ≡ stopped e → Steps P C capacity s e × Halts P C capacity e
+  stopped-means fuel s e q = subst (Means s) q (run-from fuel none)
 
   pub full-means : (fuel : ℕ) (s e : State N) → run P C capacity fuel s ≡ full e → Steps P C capacity s e × Overflows P C capacity e
   full-means fuel s e q = subst (Means s) q (run-from fuel none)
@@ -159,6 +194,7 @@ module _ {N : Type 0} (P : Problem N) (C : Choices N) (capacity : ℕ) where
           → ((s′ : State N) → EndsWith f s′ → run P C capacity f s′ ≡ run P C capacity f′ s′)
           → follow P C capacity (run P C capacity f) s n ≡ follow P C capacity (run P C capacity f′) s n
       cases finish ends again = refl
+      cases halt ends again = refl
       cases overflow ends again = refl
       cases (go s′) ends again = again s′ ends
 
@@ -181,6 +217,10 @@ module _ {N : Type 0} (P : Problem N) (C : Choices N) (capacity : ℕ) where
       unfolding run
       finish-finished h = stands ∙ ap (follow P C capacity (run P C capacity fuel) e) h
 
+      pub halt-stopped : Halts P C capacity e → run P C capacity fuel s ≡ stopped e
+      unfolding run
+      halt-stopped h = stands ∙ ap (follow P C capacity (run P C capacity fuel) e) (halts-next h)
+
       pub overflow-full : Overflows P C capacity e → run P C capacity fuel s ≡ full e
       unfolding run
       overflow-full h = stands ∙ ap (follow P C capacity (run P C capacity fuel) e) (overflows-next h)
@@ -198,5 +238,6 @@ module _ {N : Type 0} (P : Problem N) (C : Choices N) (capacity : ℕ) where
       where
         cases : (n : Next N) → Says s′ n → verdictOf n ≡ onward s″ → Stepped P C capacity s′ s″
         cases finish h e = absurd (let z : _≡_ {A = ℕ} 0 1 = cc in omega arith)
+        cases halt h e = absurd (let z : _≡_ {A = ℕ} 0 1 = cc in omega arith)
         cases overflow h e = absurd (let z : _≡_ {A = ℕ} 0 1 = cc in omega arith)
         cases (go s‴) h e = let q : s‴ ≡ s″ = cc in subst (Stepped P C capacity s′) q h

@@ -1,8 +1,8 @@
--- The run that document 01 writes (specs/) is the general run (`General`) at one instance: the price of a cost is the cost, there are
--- no dead children, every number of branchings is allowed, a bound can end the run, and the selection gives side and rank.
+-- The written run (specs/) is the general run (`General`) at one instance: the price of a cost is the cost, there are no dead children, a
+-- branching is allowed while fewer than the budget were made, a bound can end the run, and the selection gives side and rank.
 --   tree, planOf, cutOf    the instance
 --   step-is-move, finishes-is-ends, held-is-kept, next-is-verdict    the parts of the run are the general run's parts
---   search-is-run, run-is-search    so are the outcomes; no general run of this instance is `paused`
+--   search-is-run, run-is-search    so are the outcomes
 --   plan-manner, strict, adds    the laws that `Laws` asks of a plan and a tree, at this instance
 use mathlib.Core.Path.{_≡_, refl, ap, sym, _∙_}
 use mathlib.Core.Bool.{Bool, true, false, _||_, cond}
@@ -15,8 +15,8 @@ use lib.ListN.{length}
 use Rattle.search.specs.Problem.{Problem, Choices, State}
 use Rattle.search.specs.Selection.{Choice, nothing, chosen, select, finishes}
 use Rattle.search.specs.Step.{on, children₁, best₂, over₃, children₃, rest₃, dominated₄, children₄, dominated₅, children₅, dominated₆, rest₆, active₇, step}
-use Rattle.search.specs.Run.{held, Next, finish, overflow, go, Outcome, finished, full, unfinished, unless, goUnless, fitting, decide, next, follow, run}
-use Rattle.search.proofs.General.{Tree, Plan, Cut, taken, cap, over, kids, learnt, kids₃, others₃, kids₄, kids₅, others₆, move, ends, Verdict, stop, refuse, onward, Result, done, paused, overfull, stuck, stopIf, refuseIf, kept, verdictOn, verdict, obey, search}
+use Rattle.search.specs.Run.{held, Next, finish, halt, overflow, go, Outcome, finished, stopped, full, unfinished, unless, ifAllowed, goUnless, fitting, decide, next, follow, run}
+use Rattle.search.proofs.General.{Tree, Plan, Cut, taken, cap, over, kids, learnt, kids₃, others₃, kids₄, kids₅, others₆, move, ends, Verdict, stop, pause, refuse, onward, Result, done, paused, overfull, stuck, stopIf, allowedIf, refuseIf, kept, verdictOn, verdict, obey, search}
 use Rattle.search.proofs.Laws.{BoundLaws, Manner, least, stack, queue, Strict, Adds}
 use Rattle.search.proofs.PlainSelection.{lateBy, rankBy, waits, select-is-pick}
 
@@ -36,28 +36,31 @@ module _ {N : Type 0} where
   }
 
   abbrev pub cutOf : Choices N → Cut N
-  cutOf C = record { rule1 = on 1 (C .rules); bound = C .bound; allows = λ k. true }
+  cutOf C = record { rule1 = on 1 (C .rules); bound = C .bound; allows = λ k. ltb k (C .budget) }
 
   -- what comes next, and an outcome, in the words of the general run
   abbrev pub verdictOf : Next N → Verdict N
   verdictOf finish = stop
+  verdictOf halt = pause
   verdictOf overflow = refuse
   verdictOf (go s) = onward s
 
   abbrev pub resultOf : Outcome N → Result N
   resultOf (finished e) = done e
+  resultOf (stopped e) = paused e
   resultOf (full e) = overfull e
   resultOf (unfinished e) = stuck e
 
-  -- a result in the words of document 01, which knows no pause
+  -- a result in the words of the written run
   abbrev pub plainly : Result N → Outcome N
   plainly (done e) = finished e
-  plainly (paused e) = unfinished e
+  plainly (paused e) = stopped e
   plainly (overfull e) = full e
   plainly (stuck e) = unfinished e
 
   plainly-resultOf : (o : Outcome N) → plainly (resultOf o) ≡ o
   plainly-resultOf (finished e) = refl
+  plainly-resultOf (stopped e) = refl
   plainly-resultOf (full e) = refl
   plainly-resultOf (unfinished e) = refl
 
@@ -79,12 +82,13 @@ module _ {N : Type 0} (P : Problem N) (bound : N → ℕ) (laws : BoundLaws (tre
       go true false t h = omega arith
       go false z t h = absurd t
 
-  manner-by : (k rules : ℕ) → k ≤ 3 → Manner (tree P) (planOf P (record { selection = k; rules = rules; bound = bound })) bound
-  manner-by zero rules known = least tt (λ x y h. h) (λ b x v whole part h k. cost-le b x v whole h k)
-  manner-by (suc zero) rules known = least tt (λ x y h. h) (λ b x v whole part h k. cost-le b x v whole h k)
-  manner-by (suc (suc zero)) rules known = queue tt refl (λ x y. refl)
-  manner-by (suc (suc (suc zero))) rules known = stack tt waits-whole
-  manner-by (suc (suc (suc (suc k)))) rules known = absurd (omega arith)
+  manner-by : (k rules budget : ℕ) → k ≤ 3
+      → Manner (tree P) (planOf P (record { selection = k; rules = rules; bound = bound; budget = budget })) bound
+  manner-by zero rules budget known = least tt (λ x y h. h) (λ b x v whole part h k. cost-le b x v whole h k)
+  manner-by (suc zero) rules budget known = least tt (λ x y h. h) (λ b x v whole part h k. cost-le b x v whole h k)
+  manner-by (suc (suc zero)) rules budget known = queue tt refl (λ x y. refl)
+  manner-by (suc (suc (suc zero))) rules budget known = stack tt waits-whole
+  manner-by (suc (suc (suc (suc k)))) rules budget known = absurd (omega arith)
 
 module _ {N : Type 0} (P : Problem N) (C : Choices N) where
   pub step-is-move : (s : State N) (b : N) (rest : List N) → step P C s b rest ≡ move (tree P) (planOf P C) (cutOf C) s b rest
@@ -108,12 +112,15 @@ module _ {N : Type 0} (P : Problem N) (C : Choices N) where
     decide-is-verdictOn s nothing = refl
     decide-is-verdictOn s (chosen b rest) =
         rw (← finishes-is-ends, ← step-is-move, ← held-is-kept)
-        (cases (finishes P C (s .best) b rest) (ltb capacity (length (held (C .rules) (step P C s b rest)))))
+        (cases (finishes P C (s .best) b rest) (ltb (length (s .branched)) (C .budget)) (ltb capacity (length (held (C .rules) (step P C s b rest)))))
       where
-        cases : (f o : Bool) → stopIf f (refuseIf o (step P C s b rest)) ≡ verdictOf (unless f (goUnless o (step P C s b rest)))
-        cases true o = refl
-        cases false true = refl
-        cases false false = refl
+        cases :
+            (f a o : Bool)
+            → stopIf f (allowedIf a (refuseIf o (step P C s b rest))) ≡ verdictOf (unless f (ifAllowed a (goUnless o (step P C s b rest))))
+        cases true a o = refl
+        cases false false o = refl
+        cases false true true = refl
+        cases false true false = refl
 
     pub next-is-verdict :
         C .selection ≤ 3 → (s : State N) → verdict (tree P) (planOf P C) (cutOf C) capacity s ≡ verdictOf (next P C capacity s)
@@ -136,6 +143,7 @@ module _ {N : Type 0} (P : Problem N) (C : Choices N) where
             (n : Next N) → ((s′ : State N) → more s′ ≡ resultOf (run P C capacity fuel s′))
             → obey (tree P) (planOf P C) (cutOf C) capacity more s (verdictOf n) ≡ resultOf (follow P C capacity (run P C capacity fuel) s n)
         cases finish again = refl
+        cases halt again = refl
         cases overflow again = refl
         cases (go s′) again = again s′
 
@@ -159,4 +167,4 @@ module _ {N : Type 0} (P : Problem N) (C : Choices N) where
   strict early u v h = h
 
   pub plan-manner : C .selection ≤ 3 → BoundLaws (tree P) (C .bound) → Manner (tree P) (planOf P C) (C .bound)
-  plan-manner known laws = manner-by P (C .bound) laws (C .selection) (C .rules) known
+  plan-manner known laws = manner-by P (C .bound) laws (C .selection) (C .rules) (C .budget) known

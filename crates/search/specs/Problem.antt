@@ -25,6 +25,8 @@ pub record Choices (N : Type 0) : Type 0 where
   pub rules : ℕ
   -- the lower bound
   pub bound : N → ℕ
+  -- how many nodes may be branched (request A.3)
+  pub budget : ℕ
 
 -- What a run stands at between two steps. U is the cost of `best` (`upper`).
 pub record State (N : Type 0) : Type 0 where

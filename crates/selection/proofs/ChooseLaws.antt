@@ -18,15 +18,15 @@ use borrow.Author.Tests.{
   ltb-true,
   ltb-false,
 }
-use lib.Dec.{ltb, eqb}
+use lib.Dec.{T, ltb, eqb, eqb→eq}
 use lib.ListN.{length, getD, take, drop, length-append}
 use lib.Seq.{getD-append-seam, getD-take, length-take-le}
-use Rattle.lists.specs.Lists.{dropAt}
+use Rattle.lists.specs.Lists.{dropAt, least}
 use Rattle.sizes.specs.Sizes.{recordWords}
 use Rattle.lists.proofs.Tests.{compared, ordered}
 use Rattle.lists.proofs.Slices.{all-so-each}
 use Rattle.search.specs.Problem.{Problem}
-use Rattle.search.specs.Selection.{Choice, nothing, chosen}
+use Rattle.search.specs.Selection.{Choice, nothing, chosen, behind, earliest, selectBy}
 use Rattle.search.proofs.General.{beats, prefer, against, pick}
 use Rattle.search.proofs.Pick.{picked-of}
 use Rattle.search.proofs.PlainSelection.{select-is-pick, lateBy, rankBy}
@@ -232,3 +232,33 @@ module _ (w : List ℕ) (a : ℕ) (fits : a ≤ length (records w)) where
   chosen-latest n i l =
       chosen-leads n (records w) a 3 fits (omega arith) i _ l
       (λ P same k j. rw (same (getD (records w) k emptyRecord), records-at w k (omega arith)))
+
+-- the earliest node that passes a test passes it
+earliest-passes :
+    {N : Type 0} (test : N → Bool) (xs : List N) {b : N} {rest : List N} → earliest test xs ≡ chosen b rest → T (test b)
+earliest-passes test [] e = absurd (let z : _≡_ {A = ℕ} 0 1 = cc in omega arith)
+earliest-passes {N} test (x ∷ xs) {b} {rest} e = go (test x) refl (earliest test xs) (λ ys k. earliest-passes test xs k) e
+  where
+    go :
+        (t : Bool) → test x ≡ t → (c : Choice N) → ((ys : List N) → c ≡ chosen b ys → T (test b)) → cond t (chosen x xs) (behind x c) ≡ chosen b rest
+        → T (test b)
+    go true q c again k = let same : x ≡ b = cc in rw (← same, q) tt
+    go false q nothing again k = absurd (let z : _≡_ {A = ℕ} 0 1 = cc in omega arith)
+    go false q (chosen y ys) again k = let same : y ≡ b = cc in again ys (rw same)
+
+-- selection 0 picks a record of the least bound
+pub chosen-floor : (xs : List Record) (i : ℕ) → Chosen 0 xs 0 i → boundAt xs i ≡ least (λ x. x .bound) xs
+unfolding selectBy
+chosen-floor xs i h =
+    eqb→eq (boundAt xs i) (least (λ x. x .bound) xs)
+    (earliest-passes (λ x. eqb (x .bound) (least (λ y. y .bound) xs)) xs
+    (h .picks
+    (record {
+      root = emptyRecord;
+      children = λ x. [];
+      complete = λ x. eqb (x .size) 0;
+      cost = λ x. 0;
+      dominates = λ y z. false;
+      above = 0;
+    })
+    (λ x. refl)))

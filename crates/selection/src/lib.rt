@@ -1,13 +1,15 @@
-// Which active node is branched. `choose` is public for the crate above and not for hosts; what it requires, that crate meets.
+// Which active node is branched, and the least bound among the active nodes. `choose` and `floor` are public for the crate above and not for
+// hosts; what they require, that crate meets.
 ghost use mathlib.Core.Path.{_≡_};
 ghost use mathlib.Core.Bool.{false, cond};
 ghost use Prim.Native.Nat.{ℕ, _+_, _≤_, _<_};
 ghost use lib.ListN.{length, getD, take};
 ghost use lib.Seq.{slice};
-ghost use Rattle.lists.specs.Lists.{any};
+ghost use Rattle.lists.specs.Lists.{any, least};
 ghost use Rattle.stops.specs.Code.{emptyRecord};
 ghost use Rattle.records.specs.Code.{records, RunsTo};
 ghost use Rattle.selection.specs.Code.{Chose, Chosen, NextAhead, boundAt, isBelow};
+use records::bound_at;
 use sizes::RECORD_WORDS;
 
 // Where the chosen node stands, or the number of a refusal.
@@ -104,6 +106,14 @@ fn latest_open(w: &[u32], a: usize, n: u32) -> usize
         }
     }
     a - 1
+}
+
+// The least bound among the first a records.
+pub fn floor(w: &[u32], a: usize) -> u32
+    requires { ⌜ (0 < a) × (a ≤ length (records (now w))) ⌝ }
+    ensures { λ r. ⌜ r ≡ least (λ x. x .bound) (take a (records (now (w .entry)))) ⌝ }
+{
+    bound_at(w, least_bound(w, a, false))
 }
 
 // The place of the node that a selection picks among the first a records.

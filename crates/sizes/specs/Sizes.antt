@@ -1,4 +1,4 @@
--- The numbers that document 01 fixes, by name. Each is written here, and for the code in src/lib.rt, and nowhere else; what follows from
+-- The numbers that documents 01 and 02 fix, by name. Each is written here, and for the code in src/lib.rt, and nowhere else; what follows from
 -- another is reckoned from it.
 use Prim.Native.Nat.{ℕ, suc, _+_, _*_, _^_}
 
@@ -39,6 +39,10 @@ stopBase = 2 ^ stopBits
 
 abbrev pub wordStops : ℕ
 wordStops = 8
+
+-- Document 02, A.3: the largest 64-bit number, as a budget that no run reaches (proved in `answer`)
+abbrev pub noBudget : ℕ
+noBudget = 18_446_744_073_709_551_615
 
 -- "Job file and program": the bytes of the longest job file, which are those of its table, its starting order and its trailer
 abbrev pub longest : ℕ

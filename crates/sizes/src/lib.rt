@@ -1,4 +1,4 @@
-// The numbers that document 01 fixes, by name, as the code has them. specs/Sizes has the same for the definitions. What follows from
+// The numbers that documents 01 and 02 fix, by name, as the code has them. specs/Sizes has the same for the definitions. What follows from
 // another is reckoned from it.
 
 // Stops of a day.
@@ -31,6 +31,9 @@ pub const ABOVE_EVERY_COST: u32 = 4_294_967_295;
 
 // A limit on bounds that every bound keeps.
 pub const NO_LIMIT: u32 = 4_294_967_295;
+
+// A budget that no run reaches: the largest 64-bit number.
+pub const NO_BUDGET: u64 = 18_446_744_073_709_551_615;
 
 // Bytes of the longest job file: its table, its starting order and its trailer.
 pub const LONGEST: usize = 4 * TABLE_NUMBERS + ORDER_PLACES + 13;

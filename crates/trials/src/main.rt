@@ -22,6 +22,7 @@ use answer::Report;
 use first_order::first_order;
 use libc::STDOUT_FILENO;
 use planner::plan;
+use sizes::NO_BUDGET;
 use sizes::RECORD_WORDS;
 use std::num::wrapping_add_u64;
 
@@ -111,7 +112,7 @@ fn one(
 ) -> Tally
     requires { ⌜ n ≤ mostStops ⌝ }
 {
-    let r = plan(job_of(n, choice), table, start, pool);
+    let r = plan(job_of(n, choice), table, start, NO_BUDGET, pool);
     counted(t, judged(table, n, least, r), summed(t.sum, r))
 }
 

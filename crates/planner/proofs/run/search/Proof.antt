@@ -1,9 +1,9 @@
 -- `search` meets its contract. The invariant: the pool has the length it had, there is a slot for each stop's child, and the pool shows with r
--- a state of the run. The measure: the nodes that are not yet branched. `SearchLaws` has why the loop goes on and ends, `EndLaws` why its two answers are those of the
--- written run, and why no turn is refused.
+-- a state of the run. The measure: the nodes that are not yet branched. `SearchLaws` has why the loop goes
+-- on and ends, `EndLaws` why its answers are those of the written run, and why no turn is refused.
 use mathlib.Core.Path.{_≡_, refl, _∙_, subst}
 use mathlib.Core.List.{List}
-use Prim.Native.Nat.{ℕ, _-_, _*_}
+use Prim.Native.Nat.{ℕ, _-_, _*_, _≤_}
 use native.Mathlib.Omega.{arith}
 use lib.ListN.{length}
 use borrow.Author.Needs.{needs}
@@ -19,7 +19,7 @@ use Rattle.children.proofs.SettingLaws.{call-rows}
 use Rattle.planner.specs.Code.{Running, Turned}
 use Rattle.planner.specs.declared.run.Turn.{Turn}
 use Rattle.planner.proofs.SearchLaws.{run-begins, turn-keeps, turn-falls}
-use Rattle.planner.proofs.EndLaws.{Stands, settle-ready, finish-answers, full-answers, never-refused}
+use Rattle.planner.proofs.EndLaws.{Stands, settle-ready, floor-ready, finish-answers, stop-answers, full-answers, never-refused}
 use Rattle.planner.proofs.run.search.Statement.{statement}
 use Rattle.planner.proofs.run.search.Tie as tie
 
@@ -44,11 +44,14 @@ began c = c .before .before .before
 abbrev head : tie.After-take-turn Inv-loop μ-loop → tie.At-loop Inv-loop μ-loop
 head c = c .before .before .before
 
--- and the turn, seen from where its answer is known to be the end, a full pool, a refusal, or the next state
+-- and the turn, seen from where its answer is known to be the end, a spent budget, a full pool, a refusal, or the next state
 abbrev finish : tie.After-enum-told Inv-loop μ-loop → tie.After-take-turn Inv-loop μ-loop
 finish c = c .before .before .before .before .before
 
-abbrev full : tie.After-enum-told2 Inv-loop μ-loop → tie.After-take-turn Inv-loop μ-loop
+abbrev stop : tie.After-enum-told2 Inv-loop μ-loop → tie.After-take-turn Inv-loop μ-loop
+stop c = c .before .before .before .before .before
+
+abbrev full : tie.After-enum-told3 Inv-loop μ-loop → tie.After-take-turn Inv-loop μ-loop
 full c = c .before .before .before .before .before
 
 abbrev refusal : tie.After-next2 Inv-loop μ-loop → tie.After-take-turn Inv-loop μ-loop
@@ -58,11 +61,14 @@ abbrev further : tie.After-next Inv-loop μ-loop → tie.After-take-turn Inv-loo
 further c = c .before .before .before .before .before
 
 -- where the pool is settled, seen from the report
-abbrev settled : tie.After-ended Inv-loop μ-loop → tie.After-settle Inv-loop μ-loop
-settled c = c .before .before .before .before .before
+abbrev settled : tie.After-finished Inv-loop μ-loop → tie.After-settle Inv-loop μ-loop
+settled c = c .before .before .before
 
-abbrev settled2 : tie.After-ended2 Inv-loop μ-loop → tie.After-settle2 Inv-loop μ-loop
+abbrev settled2 : tie.After-stopped Inv-loop μ-loop → tie.After-settle2 Inv-loop μ-loop
 settled2 c = c .before .before .before
+
+abbrev settled3 : tie.After-full Inv-loop μ-loop → tie.After-settle3 Inv-loop μ-loop
+settled3 c = c .before .before .before
 
 -- the pool after the turn
 abbrev pool : tie.After-take-turn Inv-loop μ-loop → List ℕ
@@ -70,7 +76,7 @@ pool c = c .take-turn .last .1 .1 .0
 
 -- the call that the arguments make up
 abbrev call : tie.Start Inv-loop μ-loop → Call
-call c = let a = c .args in callOf (jobOf (a .setting)) (a .table .now) (a .start .now) (a .w .now)
+call c = let a = c .args in callOf (jobOf (a .setting)) (a .table .now) (a .start .now) (a .setting .budget) (a .w .now)
 
 ok : (c : tie.Start Inv-loop μ-loop) → Passes (call c)
 ok c = passes (call c) (c .pre)
@@ -139,12 +145,10 @@ settle-requires : tie.Need-settle-requires Inv-loop μ-loop
 unfolding callOf recordsIn
 settle-requires c κs = let turn = finish (c .before) in settle-ready (stands (head turn)) (pool turn) (kept turn)
 
-stops-of-requires : tie.Need-stops-of-requires Inv-loop μ-loop
+-- as many stops as there may be
+few : (c : tie.After-take-turn Inv-loop μ-loop) → entry (tabled (began (head c))) .args .setting .n ≤ mostStops
 unfolding callOf
-stops-of-requires c κs =
-    let settle = c .before .before .before in
-    let turn = finish (settle .before .before) in
-    ok (entry (tabled (began (head turn)))) .few
+few c = ok (entry (tabled (began (head c)))) .few
 
 same-length : tie.Need-same-length Inv-loop μ-loop
 unfolding callOf
@@ -163,42 +167,70 @@ returns c =
     (stands (head turn))
     (turned turn _ (told .enum-told .given .1))
     (record { kept = s .settle .kept .0; layout = s .settle .ensures })
-    (c .before .stops-of .result)
-    (c .before .stops-of .ensures)
     _
-    (c .ended .ensures)
+    (c .finished .ensures)
+
+floor-requires : tie.Need-floor-requires Inv-loop μ-loop
+floor-requires c κs = let turn = stop (c .before) in floor-ready (stands (head turn)) (pool turn) (kept turn)
 
 settle-requires-2 : tie.Need-settle-requires-2 Inv-loop μ-loop
 unfolding callOf recordsIn
-settle-requires-2 c κs = let turn = full (c .before) in settle-ready (stands (head turn)) (pool turn) (kept turn)
+settle-requires-2 c κs = let turn = stop (c .before .before .before) in settle-ready (stands (head turn)) (pool turn) (kept turn)
 
 same-length-2 : tie.Need-same-length-2 Inv-loop μ-loop
 unfolding callOf
 same-length-2 c =
     let s = settled2 c in
-    let turn = full (s .before .before) in
+    let turn = stop (s .before .before .before .before) in
     s .settle2 .kept .0 ∙ kept turn ∙ stands (head turn) .long
 
 returns-2 : tie.Need-returns-2 Inv-loop μ-loop
 unfolding callOf recordsIn stands
 returns-2 c =
     let s = settled2 c in
-    let told = s .before .before in
-    let turn = full told in
-    full-answers
+    let least = s .before .before in
+    let told = least .before .before in
+    let turn = stop told in
+    stop-answers
     (stands (head turn))
     (turned turn _ (told .enum-told2 .given .1))
     (record { kept = s .settle2 .kept .0; layout = s .settle2 .ensures })
     _
-    (c .ended2 .ensures)
+    (least .floor .ensures)
+    _
+    (c .stopped .ensures)
+
+settle-requires-3 : tie.Need-settle-requires-3 Inv-loop μ-loop
+unfolding callOf recordsIn
+settle-requires-3 c κs = let turn = full (c .before) in settle-ready (stands (head turn)) (pool turn) (kept turn)
 
 same-length-3 : tie.Need-same-length-3 Inv-loop μ-loop
 unfolding callOf
-same-length-3 c = let turn = refusal (c .before .before) in kept turn ∙ stands (head turn) .long
+same-length-3 c =
+    let s = settled3 c in
+    let turn = full (s .before .before) in
+    s .settle3 .kept .0 ∙ kept turn ∙ stands (head turn) .long
 
 returns-3 : tie.Need-returns-3 Inv-loop μ-loop
-unfolding callOf stands
+unfolding callOf recordsIn stands
 returns-3 c =
+    let s = settled3 c in
+    let told = s .before .before in
+    let turn = full told in
+    full-answers
+    (stands (head turn))
+    (turned turn _ (told .enum-told3 .given .1))
+    (record { kept = s .settle3 .kept .0; layout = s .settle3 .ensures })
+    _
+    (c .full .ensures)
+
+same-length-4 : tie.Need-same-length-4 Inv-loop μ-loop
+unfolding callOf
+same-length-4 c = let turn = refusal (c .before .before) in kept turn ∙ stands (head turn) .long
+
+returns-4 : tie.Need-returns-4 Inv-loop μ-loop
+unfolding callOf stands
+returns-4 c =
     let told = c .before .before in
     let turn = refusal told in
     absurd (never-refused (stands (head turn)) (turned turn _ (told .next2 .given .1)))
@@ -220,16 +252,21 @@ search-spec =
     loop-again
     (λ c. search needs)
     settle-requires
-    stops-of-requires
-    (λ c κs. search needs)
+    (λ c κs. few (finish (c .before .before .before .before)))
     same-length
     returns
     (λ c. search needs)
+    floor-requires
     settle-requires-2
-    (λ c κs. search needs)
+    (λ c κs. few (stop (c .before .before .before .before .before .before)))
     same-length-2
     returns-2
     (λ c. search needs)
+    settle-requires-3
     (λ c κs. search needs)
     same-length-3
-    returns-3)
+    returns-3
+    (λ c. search needs)
+    (λ c κs. search needs)
+    same-length-4
+    returns-4)

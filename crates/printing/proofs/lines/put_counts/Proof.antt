@@ -1,7 +1,7 @@
 -- `put_counts` meets its contract: five lines, one behind the other.
 use native.Mathlib.Omega.{arith}
 use Rattle.report_format.specs.Text.{line}
-use Rattle.printing.specs.Code.{countLines}
+use Rattle.report_format.specs.Printed.{countLines}
 use Rattle.printing.proofs.PutLaws.{put-then}
 use borrow.Author.Needs.{needs}
 use Rattle.printing.proofs.lines.put_counts.Statement.{statement}

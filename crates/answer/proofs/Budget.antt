@@ -1,0 +1,137 @@
+-- Request A.3 of the written run, as far as it speaks of one call.
+--   stopped-as-written, otherwise-zero, marked-iff, exact-budget    when the mark comes, and what stands beside it
+--   order-shown, best-between                                       the order shown, the floor and the best of all orders
+--   no-run-reaches                                                  the largest 64-bit number
+use mathlib.Core.Path.{_≡_, refl, sym, _∙_, ap}
+use mathlib.Core.Logic.{_⊎_, inl, inr}
+use mathlib.Core.Option.{Option}
+use Prim.Native.Nat.{ℕ, _≤_, _<_}
+use native.Mathlib.Omega.{arith}
+use lib.ListN.{length, take}
+use Rattle.sizes.specs.Sizes.{mostStops, orderPlaces, noBudget}
+use Rattle.lists.specs.Lists.{padded}
+use Rattle.lists.proofs.Numbers.{least-le}
+use Rattle.search.specs.Problem.{State}
+use Rattle.search.proofs.Plain.{tree, planOf, cutOf}
+use Rattle.search.proofs.Optimal.{floor-holds}
+use Rattle.search.proofs.Bounded.{Bounded, counts-bounded}
+use Rattle.search.proofs.Budget.{exact-budget as budget-branched}
+use Rattle.orders.specs.Orders.{Node, size, Order}
+use Rattle.orders.proofs.Tree.{nodes-rise}
+use Rattle.orders.proofs.Order.{order-complete, order-leads}
+use Rattle.orders.proofs.Orders.{orders-in}
+use Rattle.days.specs.Days.{problem, choices}
+use Rattle.records.specs.Records.{recordsIn}
+use Rattle.answer.specs.Call.{Call, Answer, refusal}
+use Rattle.answer.specs.declared.Report.{Report}
+use Rattle.answer.specs.Checks.{cause}
+use Rattle.answer.specs.Answer.{dayOf, problemOf, choicesOf, given, StateOf, stopsOf, costOf, floorOf, reportWith, ending}
+use Rattle.answer.specs.Ends.{ComesTo, StoppedAt, orderIn, Ended, planned, halted, filled, refused}
+use Rattle.answer.specs.Demands.{written}
+use Rattle.answer.specs.Budget.{MarkedIff, StoppedAsWritten, OtherwiseZero, ExactBudget, ShowsOrder, OrderShown, NoneShown, Shown, Between, NoRunReaches}
+use Rattle.answer.proofs.Passes.{Passes, passes}
+use Rattle.answer.proofs.Instance.{weight, call-weighs, root-light, call-lawful, bound-laws, selection-small, call-solvable, start-known, state-reached}
+use Rattle.answer.proofs.Known.{BestKnown, unknown, known, best-known}
+use Rattle.answer.proofs.Ends.{stopped-answer}
+use Rattle.answer.proofs.Demand1.{call-ends}
+use Rattle.answer.proofs.Demand3.{padded-front}
+
+abbrev Zero : Report → Type 0
+Zero r = (r .mark ≡ 0) × (r .floor ≡ 0)
+
+-- The budget stopped the run, or mark and floor are 0.
+stopped-or-zero : (c : Call) (a : Answer) → written c a → StoppedAt c a ⊎ Zero (a .report)
+unfolding refusal reportWith
+stopped-or-zero c a e = go (call-ends c a e)
+  where
+    go : Ended c a → StoppedAt c a ⊎ Zero (a .report)
+    go (planned f o) = inr (rw (f .reported) (refl, refl))
+    go (halted f) = inl f
+    go (filled f) = inr (rw (f .reported) (refl, refl))
+    go (refused f) = inr (rw (f .reported) (refl, refl))
+
+pub stopped-as-written : StoppedAsWritten written
+stopped-as-written c a e m = go (stopped-or-zero c a e)
+  where
+    go : StoppedAt c a ⊎ Zero (a .report) → StoppedAt c a
+    go (inl f) = f
+    go (inr z) = absurd (omega arith)
+
+pub otherwise-zero : OtherwiseZero written
+unfolding reportWith
+otherwise-zero c a e h = go (stopped-or-zero c a e)
+  where
+    go : StoppedAt c a ⊎ Zero (a .report) → Zero (a .report)
+    go (inl f) = absurd (h (rw (f .reported)))
+    go (inr z) = z
+
+pub marked-iff : MarkedIff written
+unfolding ending reportWith
+marked-iff c a e = (λ m. stopped-as-written c a e m .comes, λ h. ap (λ (x : Answer). x .report .mark) (e ∙ stopped-answer c h))
+
+pub exact-budget : ExactBudget written
+unfolding reportWith choicesOf choices
+exact-budget c a e m =
+    let f : StoppedAt c a = stopped-as-written c a e m in
+    rw (f .reported) (budget-branched (problemOf c) (choicesOf c) (recordsIn (c .pool)) (given (c .start)) (f .comes .steps) (f .comes .there))
+
+-- by the order known where the run stopped
+pub order-shown : Shown written
+unfolding reportWith problemOf problem padded
+order-shown c a e m =
+    let f : StoppedAt c a = stopped-as-written c a e m in
+    rw (f .reported) (at (floorOf c (f .comes .state)) (f .comes .state) (f .comes .state .best) (best-known c (f .comes .passed) (f .comes .steps)))
+  where
+    at :
+        (floor : ℕ) (s : State Node) (best : Option Node) → BestKnown c best
+        → OrderShown c (reportWith 0 1 (costOf (problemOf c) best) floor (stopsOf best) s)
+        ⊎ NoneShown (reportWith 0 1 (costOf (problemOf c) best) floor (stopsOf best) s)
+    at floor s best unknown = inr (refl, refl)
+    at floor s best (known x o) =
+        let front : take (c .job .n) (padded orderPlaces x) ≡ x = padded-front (c .job .n) x o in
+        inl (record { is-order = rw front o; zeros-past-n = ap (padded orderPlaces) (sym front); cost-is-its = ap (dayOf c .cost) (sym front) })
+
+-- At every state of a run the floor is at most what any order costs, for some active node's bound is.
+floor-below : (c : Call) → cause c ≡ 0 → (s : State Node) → StateOf c s → (y : Node) → Order (c .job .n) y → floorOf c s ≤ dayOf c .cost y
+unfolding floorOf problemOf problem
+floor-below c passed s steps y o =
+    let ok : Passes c = passes c passed in
+    let (x, m, low) =
+    floor-holds (tree (problemOf c)) (planOf (problemOf c) (choicesOf c)) (cutOf (choicesOf c)) (recordsIn (c .pool)) (size (c .job .n)) (c .job .n)
+    (call-lawful c ok) (bound-laws c ok) (given (c .start)) (start-known c ok) (call-solvable c ok) s (state-reached c ok steps) y
+    (order-complete (c .job .n) y o) (order-leads (c .job .n) (problemOf c) (λ z. refl) y o) in
+    omega (arith, least-le (choicesOf c .bound) (s .active) x m)
+
+pub best-between : Between written
+unfolding reportWith
+best-between c a e m v best = (floor, λ shows. at shows (order-shown c a e m))
+  where
+    floor : a .report .floor ≤ v
+    floor =
+        let f : StoppedAt c a = stopped-as-written c a e m in
+        rw (f .reported, best .costs) (floor-below c (f .comes .passed) (f .comes .state) (f .comes .steps) (best .order) (best .is-order))
+
+    at : ShowsOrder (a .report) → OrderShown c (a .report) ⊎ NoneShown (a .report) → v ≤ a .report .cost
+    at shows (inl o) = rw (o .cost-is-its) (best .least (orderIn c (a .report)) (orders-in (c .job .n) (orderIn c (a .report)) (o .is-order)))
+    at shows (inr z) = absurd (shows (z .0))
+
+-- A run branches no more nodes than there are, and of the most stops there are far fewer.
+few-branched : (c : Call) {Q : Call → State Node → Type 0} (h : ComesTo c Q) → length (h .state .branched) < noBudget
+few-branched c h =
+    let ok : Passes c = passes c (h .passed) in
+    let counts : Bounded (weight c (problemOf c .root)) (h .state) =
+    counts-bounded (problemOf c) (choicesOf c) (recordsIn (c .pool)) (call-weighs c) (given (c .start)) (selection-small c ok) (h .steps) in
+    omega (arith, root-light c, nodes-rise (c .job .n) mostStops (ok .few))
+
+pub no-run-reaches : NoRunReaches written
+unfolding refusal reportWith
+no-run-reaches c a e = (few, λ whole. otherwise-zero c a e (λ m. omega (arith, few, exact-budget c a e m)) .0)
+  where
+    at : Ended c a → a .report .branched < noBudget
+    at (planned f o) = rw (f .reported) (few-branched c (f .comes))
+    at (halted f) = rw (f .reported) (few-branched c (f .comes))
+    at (filled f) = rw (f .reported) (few-branched c (f .comes))
+    at (refused f) = rw (f .reported) (omega arith)
+
+    few : a .report .branched < noBudget
+    few = at (call-ends c a e)
