@@ -2,6 +2,9 @@
 
 use std::str::{FromStr, Split};
 
+/// Digits of a 64-bit number in hexadecimal.
+const HEX_DIGITS: usize = 16;
+
 pub struct Words<'a>(std::iter::Peekable<Split<'a, char>>);
 
 impl<'a> Words<'a> {
@@ -22,6 +25,11 @@ impl<'a> Words<'a> {
         }
     }
 
+    /// Takes the next word if it is this one, and says whether it was.
+    pub fn take_if(&mut self, told: &str) -> bool {
+        self.0.next_if_eq(&told).is_some()
+    }
+
     /// Takes the next word, which is to be a number in plain digits, no more of them than it needs.
     pub fn number<T: FromStr + ToString>(&mut self) -> Result<T, String> {
         let word = self.next();
@@ -38,6 +46,34 @@ impl<'a> Words<'a> {
             numbers.push(self.number()?);
         }
         Ok(numbers)
+    }
+
+    /// Takes a name and a number.
+    pub fn number_of<T: FromStr + ToString>(&mut self, name: &str) -> Result<T, String> {
+        self.word(name)?;
+        self.number()
+    }
+
+    /// Takes a name and the numbers that stand behind it.
+    pub fn numbers_of<T: FromStr + ToString>(&mut self, name: &str) -> Result<Vec<T>, String> {
+        self.word(name)?;
+        self.numbers()
+    }
+
+    /// As `numbers_of`, which are to be N.
+    pub fn array_of<T: FromStr + ToString, const N: usize>(&mut self, name: &str) -> Result<[T; N], String> {
+        let numbers = self.numbers_of(name)?;
+        numbers.try_into().map_err(|numbers: Vec<T>| format!("{} numbers behind `{name}`", numbers.len()))
+    }
+
+    /// Takes a name and a 64-bit number in hexadecimal, all its digits and the lower-case ones.
+    pub fn hex_of(&mut self, name: &str) -> Result<u64, String> {
+        self.word(name)?;
+        let word = self.next();
+        match u64::from_str_radix(word, 16) {
+            Ok(number) if format!("{number:0HEX_DIGITS$x}") == word => Ok(number),
+            _ => Err(format!("`{word}` in the place of {HEX_DIGITS} hexadecimal digits")),
+        }
     }
 
     /// No word is left.

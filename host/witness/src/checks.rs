@@ -9,6 +9,9 @@ use crate::words::WORDS;
 /// What a leg may cost at most.
 pub const DEAREST_LEG: u32 = 1_000_000;
 
+/// The largest budget, which no run reaches.
+pub const LARGEST_BUDGET: u64 = u64::MAX;
+
 /// What a caller hands in beside the pool.
 #[derive(Clone, Copy)]
 pub struct Request<'a> {
@@ -18,6 +21,8 @@ pub struct Request<'a> {
     pub rules: u64,
     pub bound: u64,
     pub start: &'a [u32],
+    /// Branchings to be made at most; no check looks at it.
+    pub budget: u64,
 }
 
 pub fn check(request: &Request, pool_words: usize) -> Result<Job, u32> {
@@ -35,7 +40,7 @@ pub fn check_job(request: &Request) -> Result<Job, u32> {
     let rules = rules(request.rules).ok_or(4u32)?;
     let bound = bound(request.bound).ok_or(4u32)?;
     let start = starting_order(legs.n, request.start).ok_or(5u32)?;
-    Ok(Job { legs, selection, rules, bound, start })
+    Ok(Job { legs, selection, rules, bound, start, budget: request.budget })
 }
 
 /// Refusals 1 to 3, which look at n and the table alone.

@@ -1,7 +1,7 @@
 //! A second reader and writer of job files (document 01, "Job file and
 //! program").
 
-use crate::checks::{check_job, n_allowed, Request};
+use crate::checks::{check_job, n_allowed, Request, LARGEST_BUDGET};
 
 const TRAILER: usize = 13;
 
@@ -20,6 +20,7 @@ pub struct Contents {
 }
 
 impl Contents {
+    /// With the largest budget, as a file holds none.
     pub fn request(&self) -> Request<'_> {
         Request {
             n: self.n,
@@ -28,6 +29,7 @@ impl Contents {
             rules: self.rules,
             bound: self.bound,
             start: &self.start,
+            budget: LARGEST_BUDGET,
         }
     }
 }
@@ -78,7 +80,7 @@ pub fn read(file: &[u8]) -> Result<Contents, u32> {
 }
 
 /// Writes a job's file at the front of the buffer and returns its length, or
-/// the first number of 1 to 5 and 10 that applies.
+/// the first number of 1 to 5 and 10 that applies. The budget isn't written.
 pub fn write(job: &Request, buffer: &mut [u8]) -> Result<usize, u32> {
     check_job(job)?;
     let file = bytes(job);

@@ -1,16 +1,17 @@
-//! A second planner, written from document 01 and request A.1 of document 02
-//! alone, in plain lists and literal passes, and a second reader and writer of
-//! job files, which follow document 01's text. They serve as witnesses beside
-//! the proved ones.
+//! A second planner, written from document 01 and requests A.1 and A.3 of
+//! document 02 alone, in plain lists and literal passes, and a second reader
+//! and writer of job files, which follow document 01's text. They serve as
+//! witnesses beside the proved ones. Request A.2 changes no answer, so there
+//! is nothing of it here.
 //!
 //! In reading order: `legs` (table and cost of an order), `node` (partial
-//! orders, bounds, dominance), `checks` (refusals 1 to 6), `run` (the run and
-//! refusal 7), `words` (report and pool), `first_order` (request A.1's call),
-//! `enumerate` (all n! orders), `job_file` (reader and writer), `program` (what
-//! `plan` prints).
+//! orders, bounds, dominance), `checks` (refusals 1 to 6), `run` (the run,
+//! request A.3's budget and refusal 7), `words` (report and pool),
+//! `first_order` (request A.1's call), `enumerate` (all n! orders), `job_file`
+//! (reader and writer), `program` (what `plan` prints).
 //!
 //! Where the texts leave a choice, this planner takes these, 1 to 12 from
-//! document 01 and the rest from request A.1:
+//! document 01, 13 to 16 from request A.1 and the rest from request A.3:
 //!
 //! 1. Selection, rules, bound and n come in as 64-bit numbers and stops of the
 //!    starting order as 32-bit ones, so that every refusal can be provoked.
@@ -43,6 +44,28 @@
 //!     whole order. An exchange that leaves the cost the same isn't made.
 //! 16. The first order's call takes n and the table and nothing else, with n
 //!     as in 1 and checks as in 2. Its order has the report's sixteen places.
+//! 17. Every 64-bit number is a budget: none is refused, and the checks come
+//!     first whatever it is. The first order's call takes none.
+//! 18. The budget stops a run that is not finished and has made as many
+//!     branchings. A run that finishes on its last branching, or with budget 0
+//!     before any, has mark 0; a run whose next step has neither a branching
+//!     nor records left is stopped, not full.
+//! 19. A refused step is no branching, and a run that is full below its budget
+//!     is refused as before, with mark and floor 0.
+//! 20. The best known is U with its order, so a starting order too until a
+//!     cheaper one is found. "None" is a U above every cost. An order that
+//!     costs 0 is told from none by its stops.
+//! 21. The floor is over all active nodes, b and complete ones among them, by
+//!     the bound that the job chose, whether an order is known or not.
+//! 22. Counts and pool are those of the state that the run stopped in, in
+//!     which b is active still.
+//! 23. A stopped run has number 0 and yet didn't finish: what is said of runs
+//!     that finish isn't said of it. So job A is held against job B only where
+//!     B finishes, which takes a budget of at least B's branchings.
+//! 24. Runs "of one job" have the same table, choices and starting order, and
+//!     may have different pools.
+//! 25. Job files and the lines of `plan` stay as they were. The reader's and
+//!     the writer's checks don't ask for a budget.
 
 pub mod checks;
 pub mod enumerate;
@@ -54,10 +77,10 @@ pub mod program;
 pub mod run;
 pub mod words;
 
-pub use checks::Request;
+pub use checks::{Request, LARGEST_BUDGET};
 pub use first_order::{first_order, FirstOrder};
 pub use run::State;
-pub use words::{Report, WORDS};
+pub use words::{Report, STOPPED, WORDS};
 
 /// The whole call: checks, run, report, and the pool's words afterwards.
 pub fn plan(request: &Request, pool: &mut [u32]) -> Report {

@@ -1,14 +1,15 @@
 //! Reads a job as plain text (see `jobtext`) from standard input and prints
 //! the report and the pool's words, six to a line. On the command line stands
-//! the number of records in the pool; with the word `trace` behind it, the
-//! state at the start and after each step is printed first.
+//! the number of records in the pool; behind it there may be `budget` and a
+//! number of branchings (without it the largest), then `trace`: the state at
+//! the start and after each step is printed first.
 
 use std::io::{Read, Write};
 use std::process::ExitCode;
 
 use witness::job_file::Contents;
 use witness::node::Node;
-use witness::{plan_watched, Report, State, WORDS};
+use witness::{plan_watched, Report, Request, State, LARGEST_BUDGET, WORDS};
 
 const MOST_RECORDS: usize = 1_000_000;
 
@@ -22,20 +23,43 @@ fn main() -> ExitCode {
     }
 }
 
+/// What the command line asks for.
+struct Asked {
+    records: usize,
+    budget: u64,
+    traced: bool,
+}
+
+impl Asked {
+    fn parse(words: &[&str]) -> Option<Asked> {
+        let (records, rest) = words.split_first()?;
+        let records = records.parse().ok().filter(|&records| records <= MOST_RECORDS)?;
+        let (budget, rest) = match rest {
+            ["budget", budget, rest @ ..] => (budget.parse().ok()?, rest),
+            _ => (LARGEST_BUDGET, rest),
+        };
+        match rest {
+            [] => Some(Asked { records, budget, traced: false }),
+            ["trace"] => Some(Asked { records, budget, traced: true }),
+            _ => None,
+        }
+    }
+}
+
 fn answer() -> Result<(), String> {
     let arguments: Vec<String> = std::env::args().skip(1).collect();
-    let records: usize = match arguments.first().map(|word| word.parse()) {
-        Some(Ok(records)) if records <= MOST_RECORDS => records,
-        _ => return Err(format!("the number of records, {MOST_RECORDS} at most, is the first argument")),
+    let words: Vec<&str> = arguments.iter().map(String::as_str).collect();
+    let Some(Asked { records, budget, traced }) = Asked::parse(&words) else {
+        return Err(format!("usage: witness RECORDS [budget BRANCHINGS] [trace], with {MOST_RECORDS} records at most"));
     };
-    let traced = arguments.get(1).is_some_and(|word| word == "trace");
     let mut input = String::new();
     std::io::stdin().read_to_string(&mut input).map_err(|fault| fault.to_string())?;
     let parsed = jobtext::parse(&input).map_err(|fault| fault.to_string())?;
     let job = Contents::from(&parsed.job);
     let mut pool = vec![0u32; records * WORDS];
     let mut lines = Vec::new();
-    let report = plan_watched(&job.request(), &mut pool, &mut |state| {
+    let request = Request { budget, ..job.request() };
+    let report = plan_watched(&request, &mut pool, &mut |state| {
         if traced {
             lines.push(state_text(state));
         }
@@ -47,10 +71,10 @@ fn answer() -> Result<(), String> {
 }
 
 fn report_text(report: &Report) -> String {
-    let Report { number, cost, order, branched, generated, eliminated, active, most } = report;
+    let Report { number, mark, cost, floor, order, branched, generated, eliminated, active, most } = report;
     let order = joined(order);
     format!(
-        "number {number}\ncost {cost}\norder {order}\nbranched {branched}\n\
+        "number {number}\nmark {mark}\ncost {cost}\nfloor {floor}\norder {order}\nbranched {branched}\n\
          generated {generated}\neliminated {eliminated}\nactive {active}\nmost {most}\n"
     )
 }

@@ -1,4 +1,5 @@
-//! The run (document 01, "One run") and the full pool ("The pool").
+//! The run (document 01, "One run"), the budget (request A.3 of document 02)
+//! and the full pool ("The pool").
 
 use std::rc::Rc;
 
@@ -33,6 +34,8 @@ pub struct Job {
     pub bound: Bound,
     /// Empty if none is given.
     pub start: Vec<Place>,
+    /// Of branchings.
+    pub budget: u64,
 }
 
 /// U and its order.
@@ -40,6 +43,7 @@ pub struct Job {
 pub struct Upper {
     /// None stands above every cost.
     pub cost: Option<u32>,
+    /// Empty beside None.
     pub order: Vec<Place>,
 }
 
@@ -76,11 +80,14 @@ pub struct State {
 #[derive(Clone, Copy, PartialEq, Eq, Debug)]
 pub enum End {
     Finished,
+    /// The budget was spent.
+    Stopped,
     Full,
 }
 
-/// From the start to the finish test that ends it, or to the first step whose
-/// nodes to keep outnumber the records; then the state before that step.
+/// From the start to the finish test that ends it, to the step for which no
+/// branching is left, or to the first step whose nodes to keep outnumber the
+/// records; in the last two the state before that step.
 pub fn run(job: &Job, records: usize, watch: &mut dyn FnMut(&State)) -> (State, End) {
     let mut state = State::start(job);
     loop {
@@ -88,6 +95,9 @@ pub fn run(job: &Job, records: usize, watch: &mut dyn FnMut(&State)) -> (State, 
         let b = state.select(job);
         if state.is_finished(job, b) {
             return (state, End::Finished);
+        }
+        if state.branchings() == job.budget {
+            return (state, End::Stopped);
         }
         let next = state.step(job, b);
         if next.to_keep(job.rules) > records {
@@ -111,6 +121,11 @@ impl State {
             eliminated: 0,
             most: 1,
         }
+    }
+
+    /// How many branchings were made.
+    pub fn branchings(&self) -> u64 {
+        self.branched.len() as u64
     }
 
     /// The nodes that the pool must hold.
@@ -142,7 +157,8 @@ impl State {
         }
     }
 
-    fn least_bound(&self) -> u32 {
+    /// Among the active nodes.
+    pub fn least_bound(&self) -> u32 {
         self.active.iter().map(|y| y.bound).min().unwrap()
     }
 

@@ -1,11 +1,15 @@
-//! The report ("The report") and the pool's words ("The pool").
+//! The report ("The report", with mark and floor from request A.3 of document
+//! 02) and the pool's words ("The pool").
 
 use crate::legs::{Place, MOST_STOPS};
 use crate::node::Node;
-use crate::run::{End, State};
+use crate::run::{End, State, Upper};
 
 /// Words in a record.
 pub const WORDS: usize = 6;
+
+/// The mark of a run that its budget stopped.
+pub const STOPPED: u32 = 1;
 
 /// Bits of a stop in a word of the order, and stops in such a word.
 const STOP_BITS: usize = 4;
@@ -14,7 +18,11 @@ const WORD_STOPS: usize = 8;
 #[derive(Clone, Copy, PartialEq, Eq, Debug, Default)]
 pub struct Report {
     pub number: u32,
+    /// `STOPPED`, or 0.
+    pub mark: u32,
     pub cost: u32,
+    /// Of a stopped run the least bound that is active, of others 0.
+    pub floor: u32,
     /// Zeros past n.
     pub order: [u32; MOST_STOPS],
     pub branched: u64,
@@ -32,7 +40,7 @@ impl Report {
 
     pub fn of(state: &State, end: End) -> Report {
         let mut report = Report {
-            branched: state.branched.len() as u64,
+            branched: state.branchings(),
             generated: state.generated,
             eliminated: state.eliminated,
             active: state.active.len() as u64,
@@ -42,11 +50,22 @@ impl Report {
         match end {
             End::Full => report.number = 7,
             End::Finished => {
-                report.cost = state.upper.cost.expect("a finished run has an order");
-                report.order = in_places(&state.upper.order);
+                assert!(state.upper.cost.is_some(), "a finished run has an order");
+                report.show(&state.upper);
+            }
+            End::Stopped => {
+                report.mark = STOPPED;
+                report.floor = state.least_bound();
+                report.show(&state.upper);
             }
         }
         report
+    }
+
+    /// U and its order, or zeros if there is none yet.
+    fn show(&mut self, best: &Upper) {
+        self.cost = best.cost.unwrap_or(0);
+        self.order = in_places(&best.order);
     }
 
     /// Branched, generated, eliminated, active, most.

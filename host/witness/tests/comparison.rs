@@ -1,12 +1,13 @@
-//! Demand 3: job A, given no less than job B, finishes in every pool that B
-//! finishes in and counts no more.
+//! Demand 3 with request A.3's budgets: job A, given no less than job B,
+//! finishes in every pool that B finishes in and counts no more.
 
 mod common;
 
-use common::{for_each_table, Job};
+use common::{choices, for_each_table, Job};
 use samples::Random;
 use witness::enumerate::least_cost;
 use witness::legs::Legs;
+use witness::{Report, LARGEST_BUDGET, STOPPED};
 
 /// Two orders, the cheaper one first.
 fn two_orders(random: &mut Random, job: &Job) -> (Vec<u32>, Vec<u32>) {
@@ -40,19 +41,53 @@ fn pair(random: &mut Random, n: usize, table: &[u32]) -> (Job, Job) {
     (a, b)
 }
 
+/// What B reports where it finishes: in so many records and with as large a
+/// budget as it branches, and with no less of either.
+fn report_of_b(b: &Job, records: usize, least: u32) -> Report {
+    let (of_b, _) = b.run(records);
+    assert_eq!((of_b.number, of_b.mark, of_b.cost), (0, 0, least), "{b:?}");
+    if records > 1 {
+        assert_eq!(b.run(records - 1).0.number, 7, "{b:?}");
+    }
+    assert_eq!(b.within(of_b.branched).run(records).0, of_b, "{b:?}");
+    if of_b.branched > 0 {
+        assert_eq!(b.within(of_b.branched - 1).run(records).0.mark, STOPPED, "{b:?}");
+    }
+    of_b
+}
+
+/// B's budget may be any from its branchings on, and A's any from B's on.
 fn check_pair(a: &Job, b: &Job, least: u32) {
     let enough = b.keeps().into_iter().max().unwrap();
-    let (of_b, _) = b.run(enough);
-    assert_eq!((of_b.number, of_b.cost), (0, least), "{b:?}");
-    if enough > 1 {
-        assert_eq!(b.run(enough - 1).0.number, 7, "{b:?}");
-    }
+    let of_b = report_of_b(b, enough, least);
     for records in [enough, enough + 1, enough + 5, 2 * enough] {
-        let (of_a, _) = a.run(records);
-        assert_eq!((of_a.number, of_a.cost), (0, least), "{a:?} {b:?}");
-        assert!(of_a.branched <= of_b.branched, "{a:?} {b:?}");
-        assert!(of_a.generated <= of_b.generated, "{a:?} {b:?}");
-        assert!(of_a.most <= of_b.most, "{a:?} {b:?}");
+        for budget in [of_b.branched, LARGEST_BUDGET] {
+            let (of_a, _) = a.within(budget).run(records);
+            assert_eq!((of_a.number, of_a.mark, of_a.cost), (0, 0, least), "{a:?} {b:?}");
+            assert!(of_a.branched <= of_b.branched, "{a:?} {b:?}");
+            assert!(of_a.generated <= of_b.generated, "{a:?} {b:?}");
+            assert!(of_a.most <= of_b.most, "{a:?} {b:?}");
+        }
+    }
+}
+
+/// Two jobs that share the table and nothing else: where both finish, their
+/// costs are equal. How often they did.
+fn finish_both(random: &mut Random, n: usize, table: &[u32]) -> u32 {
+    let mut finished = Vec::new();
+    for _ in 0..2 {
+        let choice = random.pick(&choices());
+        let start: Vec<u32> = if random.below(2) == 0 { Vec::new() } else { random.order(n) };
+        let job = Job::new(n, table, choice, &start).within(random.below(40));
+        let (report, _) = job.run(1 + random.below(40) as usize);
+        finished.extend((report.number == 0 && report.mark == 0).then_some(report.cost));
+    }
+    match finished[..] {
+        [one, other] => {
+            assert_eq!(one, other, "{table:?}");
+            1
+        }
+        _ => 0,
     }
 }
 
@@ -86,6 +121,29 @@ fn pairs_of_five_stops() {
 #[test]
 fn pairs_of_six_stops() {
     check_pairs(26, 6, 1, 40);
+}
+
+#[test]
+fn costs_of_runs_that_finish() {
+    let mut both = 0;
+    for n in 1..=4 {
+        for_each_table(&mut Random(28), n, 100, |random, table| both += finish_both(random, n, table));
+    }
+    println!("both of two runs finished {both} times");
+    assert!(both > 500);
+}
+
+/// With a smaller budget than B's, A may be stopped where B finishes.
+#[test]
+fn smaller_budgets_may_stop_a() {
+    let mut stopped = 0;
+    for_each_table(&mut Random(29), 4, 20, |random, table| {
+        let (a, b) = pair(random, 4, table);
+        let (of_b, _) = b.run(65);
+        let smaller = of_b.branched.saturating_sub(1);
+        stopped += (a.within(smaller).run(65).0.mark == STOPPED) as u32;
+    });
+    assert!(stopped > 10);
 }
 
 /// With the bounds the other way round the comparison does fail, so that the

@@ -6,6 +6,7 @@ mod common;
 use common::T;
 use witness::job_file::{read, write, Contents, LONGEST};
 use witness::program::output;
+use witness::Request;
 
 fn a() -> Contents {
     Contents { n: 3, table: T.to_vec(), selection: 0, rules: 1, bound: 1, start: Vec::new() }
@@ -26,6 +27,18 @@ fn case_l() {
     assert_eq!(read(&file), Ok(a()));
     let lines = "cost 13\norder 1 2 3\nbranched 3\ngenerated 7\neliminated 3\nactive 1\nmost 4\n";
     assert_eq!(output(&file), lines);
+}
+
+/// A file holds no budget: it is the same whatever the budget is, and its job comes with the largest.
+#[test]
+fn no_budget_in_a_file() {
+    let mut buffer = vec![0; LONGEST];
+    let job = a();
+    for budget in [0, 5, u64::MAX] {
+        let length = write(&Request { budget, ..job.request() }, &mut buffer).unwrap();
+        assert_eq!(buffer[..length], file(&job));
+        assert_eq!(read(&buffer[..length]).unwrap().request().budget, u64::MAX);
+    }
 }
 
 /// One stop, a million out and 258 back, with its order.

@@ -2,21 +2,9 @@
 
 mod common;
 
-use common::{ample, choices, counts_of, for_each_job, read_pool, Job};
+use common::{ample, choices, counts_of, for_each_job, read_pool, told_words, Job};
 use samples::{Random, KINDS};
-use witness::words::record;
 use witness::{plan_watched, State, WORDS};
-
-/// The pool's words that document 01 gives for a state.
-fn told_words(job: &Job, state: &State, records: usize) -> Vec<u32> {
-    let mut words: Vec<u32> = state.active.iter().flat_map(|y| record(y)).collect();
-    if job.rule(4) {
-        words.extend(state.branched.iter().flat_map(|y| record(y)));
-    }
-    assert!(words.len() <= records * WORDS);
-    words.resize(records * WORDS, 0);
-    words
-}
 
 fn check_size(job: &Job, states: &[State], keeps: &[usize], records: usize) {
     let refused = keeps.iter().position(|&k| k > records);
@@ -35,6 +23,7 @@ fn check_size(job: &Job, states: &[State], keeps: &[usize], records: usize) {
     assert_eq!(report.generated, parts, "{job:?}");
     if refused.is_some() {
         assert_eq!((report.cost, report.order), (0, [0; 16]), "{job:?}");
+        assert_eq!((report.mark, report.floor), (0, 0), "{job:?}");
     } else {
         assert_eq!(report, job.run(ample(job.n)).0, "{job:?}");
     }

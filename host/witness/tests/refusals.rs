@@ -5,7 +5,7 @@ mod common;
 
 use common::T;
 use samples::Random;
-use witness::{plan, Report, Request};
+use witness::{plan, Report, Request, LARGEST_BUDGET};
 
 /// A call on table T that passes every check, to be spoiled in places.
 #[derive(Clone)]
@@ -16,19 +16,20 @@ struct Call {
     rules: u64,
     bound: u64,
     start: Vec<u32>,
+    budget: u64,
     pool: Vec<u32>,
 }
 
 fn good() -> Call {
     let pool = (0..96).map(|i| 0xA5A5_0000 + i).collect();
     let (table, start) = (T.to_vec(), vec![2, 3, 1]);
-    Call { n: 3, table, selection: 3, rules: 15, bound: 1, start, pool }
+    Call { n: 3, table, selection: 3, rules: 15, bound: 1, start, budget: LARGEST_BUDGET, pool }
 }
 
 fn number(call: &Call) -> u32 {
     let mut pool = call.pool.clone();
-    let Call { n, ref table, selection, rules, bound, ref start, .. } = *call;
-    let report = plan(&Request { n, table, selection, rules, bound, start }, &mut pool);
+    let Call { n, ref table, selection, rules, bound, ref start, budget, .. } = *call;
+    let report = plan(&Request { n, table, selection, rules, bound, start, budget }, &mut pool);
     if (1..=6).contains(&report.number) {
         let bare = Report { number: report.number, ..Report::default() };
         assert_eq!(report, bare, "all else is zero");
@@ -172,13 +173,14 @@ fn spoil(call: &mut Call, number: u32, random: &mut Random) {
     }
 }
 
-/// All 63 sets of causes: the lowest number is the answer.
+/// All 63 sets of causes: the lowest number is the answer, whatever the budget.
 #[test]
 fn lowest_number_of_several() {
     let mut random = Random(41);
     for causes in 1u32..64 {
-        for _ in 0..40 {
+        for round in 0..40 {
             let mut call = good();
+            call.budget = [0, 1, 1 << 32, LARGEST_BUDGET][round % 4];
             for cause in (1..=6).filter(|c| causes >> (c - 1) & 1 == 1) {
                 spoil(&mut call, cause, &mut random);
             }

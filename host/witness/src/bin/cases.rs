@@ -2,7 +2,7 @@
 //! counts branched, generated, eliminated, active, most as the second planner
 //! finds them.
 
-use witness::{plan, Request, WORDS};
+use witness::{plan, Request, LARGEST_BUDGET, WORDS};
 
 const T: [u32; 16] = [0, 4, 7, 9, 5, 0, 2, 6, 3, 8, 0, 1, 6, 5, 4, 0];
 
@@ -38,7 +38,8 @@ fn main() {
     for case in &CASES {
         let mut pool = vec![0; case.records * WORDS];
         let [selection, rules, bound] = case.choices;
-        let request = Request { n: case.n, table: case.table, selection, rules, bound, start: case.start };
+        let (table, start, budget) = (case.table, case.start, LARGEST_BUDGET);
+        let request = Request { n: case.n, table, selection, rules, bound, start, budget };
         let report = plan(&request, &mut pool);
         let found = match report.number {
             0 => {

@@ -5,8 +5,8 @@
 use samples::{Random, KINDS};
 use witness::first_order::{best_exchange, nearest_stop_order};
 use witness::legs::{Legs, Place};
-use witness::words::in_places;
-use witness::{first_order, plan, plan_watched, FirstOrder, Report, Request, State, WORDS};
+use witness::words::{in_places, record};
+use witness::{first_order, plan, plan_watched, FirstOrder, Report, Request, State, LARGEST_BUDGET, WORDS};
 
 pub const T: [u32; 16] = [0, 4, 7, 9, 5, 0, 2, 6, 3, 8, 0, 1, 6, 5, 4, 0];
 
@@ -19,12 +19,19 @@ pub struct Job {
     pub rules: u64,
     pub bound: u64,
     pub start: Vec<u32>,
+    pub budget: u64,
 }
 
 impl Job {
+    /// With the largest budget.
     pub fn new(n: usize, table: &[u32], choices: [u64; 3], start: &[u32]) -> Job {
         let [selection, rules, bound] = choices;
-        Job { n, table: table.to_vec(), selection, rules, bound, start: start.to_vec() }
+        Job { n, table: table.to_vec(), selection, rules, bound, start: start.to_vec(), budget: LARGEST_BUDGET }
+    }
+
+    /// The same with another budget.
+    pub fn within(&self, budget: u64) -> Job {
+        Job { budget, ..self.clone() }
     }
 
     pub fn request(&self) -> Request<'_> {
@@ -35,6 +42,7 @@ impl Job {
             rules: self.rules,
             bound: self.bound,
             start: &self.start,
+            budget: self.budget,
         }
     }
 
@@ -172,6 +180,17 @@ pub fn counts_of(state: &State) -> [u64; 5] {
     [branched, state.generated, state.eliminated, active, state.most]
 }
 
+/// The pool's words that document 01 gives for a state.
+pub fn told_words(job: &Job, state: &State, records: usize) -> Vec<u32> {
+    let mut words: Vec<u32> = state.active.iter().flat_map(|y| record(y)).collect();
+    if job.rule(4) {
+        words.extend(state.branched.iter().flat_map(|y| record(y)));
+    }
+    assert!(words.len() <= records * WORDS);
+    words.resize(records * WORDS, 0);
+    words
+}
+
 /// The order that a record writes down; the record must be well formed.
 pub fn order_of(job: &Job, record: &[u32]) -> Vec<u32> {
     let size = record[0] as usize;
@@ -205,16 +224,21 @@ pub fn read_pool(job: &Job, report: &Report, pool: &[u32]) -> (Vec<Vec<u32>>, Ve
     (orders[..active].to_vec(), orders[active..].to_vec())
 }
 
-/// What every report of a finished run must satisfy.
-pub fn check_finished(job: &Job, report: &Report, pool: &[u32], least: u32) {
-    assert_eq!(report.number, 0, "{job:?}");
-    assert_eq!(report.cost, least, "{job:?}");
-    let order = &report.order[..job.n];
+/// The report shows a permutation of 1 to n, with its cost and zeros behind.
+pub fn check_order(job: &Job, report: &Report) {
+    let (order, rest) = report.order.split_at(job.n);
     let mut sorted = order.to_vec();
     sorted.sort();
     assert_eq!(sorted, (1..=job.n as u32).collect::<Vec<u32>>(), "{job:?}");
     assert_eq!(job.cost(order), report.cost, "{job:?}");
-    assert!(report.order[job.n..].iter().all(|&s| s == 0), "{job:?}");
+    assert!(rest.iter().all(|&s| s == 0), "{job:?}");
+}
+
+/// What every report of a finished run must satisfy.
+pub fn check_finished(job: &Job, report: &Report, pool: &[u32], least: u32) {
+    assert_eq!((report.number, report.mark, report.floor), (0, 0, 0), "{job:?}");
+    assert_eq!(report.cost, least, "{job:?}");
+    check_order(job, report);
     let parts = report.branched + report.eliminated + report.active;
     assert_eq!(report.generated, parts, "{job:?}");
     assert!(report.active <= report.most, "{job:?}");

@@ -1,4 +1,4 @@
-//! The files are parsed as a whole, and nothing else passes for a line.
+//! A01-first.txt is parsed as a whole, and nothing else passes for a line of it.
 
 use vectors::{first, First};
 
@@ -39,8 +39,8 @@ fn faulty_lines() {
     assert_eq!(fault("25", "x"), "`x` in the place of `=>`");
     assert_eq!(fault("cost 46", "46"), "`46` in the place of `cost`");
     assert_eq!(fault("order 1", "order 256"), "`256` in the place of a number");
-    assert_eq!(fault("order 1", "order"), "an order of 15 places");
-    assert_eq!(fault("order 1", "order 1 1"), "an order of 17 places");
+    assert_eq!(fault("order 1", "order"), "15 numbers behind `order`");
+    assert_eq!(fault("order 1", "order 1 1"), "17 numbers behind `order`");
     assert_eq!(First::parse(&format!("{LINE} ")).unwrap_err(), "`` behind the end");
     assert_eq!(First::parse("").unwrap_err(), "`` in the place of `n`");
     assert_eq!(First::parse("n").unwrap_err(), "`` in the place of a number");

@@ -1,0 +1,36 @@
+//! The first order (request A.1).
+
+use crate::words::Words;
+use crate::{lines, PLACES};
+
+/// A call for the first order and its answer.
+#[derive(Clone, Debug, PartialEq, Eq)]
+pub struct First {
+    pub n: u32,
+    /// Row by row, of any length.
+    pub table: Vec<u32>,
+    pub number: u32,
+    pub cost: u32,
+    /// Zeros past n.
+    pub order: [u8; PLACES],
+}
+
+impl First {
+    /// What a line says, or what is wrong with it.
+    pub fn parse(line: &str) -> Result<First, String> {
+        let words = &mut Words::of(line);
+        let n = words.number_of("n")?;
+        let table = words.numbers_of("table")?;
+        words.word("=>")?;
+        let number = words.number()?;
+        let cost = words.number_of("cost")?;
+        let order = words.array_of("order")?;
+        words.end()?;
+        Ok(First { n, table, number, cost, order })
+    }
+}
+
+/// The 200 calls of A01-first.txt.
+pub fn first() -> Vec<First> {
+    lines("A01-first.txt", include_str!("../A01-first.txt"), 200, First::parse)
+}

@@ -1,0 +1,158 @@
+//! A03-run.txt is parsed as a whole, and nothing else passes for a line of it.
+
+use vectors::{fnv1a, runs, Run};
+
+const LINE: &str =
+    "n 1 table 0 25 21 0 selection 3 rules 15 bound 1 start 1 budget 0 pool 2 and 5 fill 7 => 6 cost 46 \
+                    order 1 0 0 0 0 0 0 0 0 0 0 0 0 0 0 0 counts 1 2 3 4 5 mark 1 floor 9 words 00000000000000ff";
+
+fn one_stop() -> Run {
+    let mut order = [0; 16];
+    order[0] = 1;
+    Run {
+        n: 1,
+        table: vec![0, 25, 21, 0],
+        selection: 3,
+        rules: 15,
+        bound: 1,
+        start: vec![1],
+        budget: 0,
+        records: 2,
+        extra: 5,
+        fill: 7,
+        number: 6,
+        cost: 46,
+        order,
+        counts: [1, 2, 3, 4, 5],
+        mark: 1,
+        floor: 9,
+        words: 255,
+    }
+}
+
+fn changed(old: &str, new: &str) -> Result<Run, String> {
+    assert!(LINE.contains(old), "{old}");
+    Run::parse(&LINE.replacen(old, new, 1))
+}
+
+#[test]
+fn a_line_of_run() {
+    assert_eq!(Run::parse(LINE), Ok(one_stop()));
+    assert_eq!(one_stop().pool(), [7; 17]);
+    assert_eq!(changed("start 1", "start none"), Ok(Run { start: Vec::new(), ..one_stop() }));
+    assert_eq!(changed("start 1", "start 2 0 255"), Ok(Run { start: vec![2, 0, 255], ..one_stop() }));
+    assert_eq!(changed("budget 0", "budget most"), Ok(Run { budget: u64::MAX, ..one_stop() }));
+    assert_eq!(changed(" and 5", ""), Ok(Run { extra: 0, ..one_stop() }));
+    assert_eq!(changed("table 0 25 21 0", "table"), Ok(Run { table: Vec::new(), ..one_stop() }));
+    assert_eq!(changed("fill 7", "fill 4294967295"), Ok(Run { fill: u32::MAX, ..one_stop() }));
+}
+
+/// The first line of the file, and one that a budget stopped.
+#[test]
+fn lines_of_the_file() {
+    let first = &runs()[0];
+    assert_eq!((first.n, first.budget, first.records, first.extra, first.fill), (4, u64::MAX, 19, 0, u32::MAX));
+    assert_eq!((first.selection, first.rules, first.bound, first.start.len()), (2, 8, 1, 0));
+    assert_eq!((first.number, first.cost, &first.order[..5]), (0, 1, &[1, 3, 4, 2, 0][..]));
+    assert_eq!((first.counts, first.mark, first.floor), ([34, 58, 19, 5, 19], 0, 0));
+    assert_eq!(first.words, 0xddc8_f41e_d9a7_1b95);
+    let stopped = &runs()[1];
+    assert_eq!((stopped.budget, stopped.counts[0], stopped.mark, stopped.floor), (21, 21, 1, 2));
+}
+
+/// Answers of every number, every selection and sum of rules, both bounds,
+/// and stopped runs with an order and without one.
+#[test]
+fn the_calls_of_run() {
+    let calls = runs();
+    let some = |what: &dyn Fn(&Run) -> bool| calls.iter().any(what);
+    for number in 0..=7 {
+        assert!(some(&|call| call.number == number), "{number}");
+    }
+    for selection in 0..=4 {
+        assert!(some(&|call| call.selection == selection), "{selection}");
+    }
+    for rules in 0..=15 {
+        assert!(some(&|call| call.rules == rules), "{rules}");
+    }
+    for bound in 0..=2 {
+        assert!(some(&|call| call.bound == bound), "{bound}");
+    }
+    for mark in 0..=1 {
+        for start in [true, false] {
+            assert!(
+                some(&|call| (call.number, call.mark, call.start.is_empty()) == (0, mark, start)),
+                "{mark} {start}"
+            );
+        }
+    }
+    for shown in [true, false] {
+        assert!(some(&|call| call.mark == 1 && (call.order[0] != 0) == shown), "{shown}");
+    }
+    for budget in [0, 1, u64::MAX] {
+        assert!(some(&|call| call.budget == budget), "{budget}");
+    }
+}
+
+/// What is told of mark, floor and branchings together.
+#[test]
+fn stopped_runs_of_run() {
+    for call in runs() {
+        match call.mark {
+            0 => assert_eq!(call.floor, 0, "{call:?}"),
+            1 => assert_eq!((call.number, call.counts[0]), (0, call.budget), "{call:?}"),
+            _ => panic!("{call:?}"),
+        }
+    }
+}
+
+#[test]
+fn faulty_lines() {
+    let fault = |old, new| changed(old, new).unwrap_err();
+    assert_eq!(fault("n 1", "n"), "`table` in the place of a number");
+    assert_eq!(fault("25", "x"), "`x` in the place of `selection`");
+    assert_eq!(fault("21 0 selection", "21 4294967296 selection"), "`4294967296` in the place of a number");
+    assert_eq!(fault("selection 3", "selection -1"), "`-1` in the place of a number");
+    assert_eq!(fault("rules 15 ", ""), "`bound` in the place of `rules`");
+    assert_eq!(fault("start 1", "start"), "`budget` in the place of a number");
+    assert_eq!(fault("start 1", "start none 1"), "`1` in the place of `budget`");
+    assert_eq!(fault("start 1", "start 1 none"), "`none` in the place of `budget`");
+    assert_eq!(fault("start 1", "start None"), "`None` in the place of a number");
+    assert_eq!(fault("start 1", "start 256"), "`256` in the place of a number");
+    assert_eq!(fault("budget 0", "budget none"), "`none` in the place of a number");
+    assert_eq!(fault("budget 0", "budget most 1"), "`1` in the place of `pool`");
+    assert_eq!(fault("budget 0", "budget 18446744073709551616"), "`18446744073709551616` in the place of a number");
+    assert_eq!(fault("and 5", "and"), "`fill` in the place of a number");
+    assert_eq!(fault("and 5", "and 0"), "0 words in the place of a part of a record");
+    assert_eq!(fault("and 5", "and 6"), "6 words in the place of a part of a record");
+    assert_eq!(fault("=> 6", "=>"), "`cost` in the place of a number");
+}
+
+#[test]
+fn faulty_answers() {
+    let fault = |old, new| changed(old, new).unwrap_err();
+    assert_eq!(fault("order 1", "order"), "15 numbers behind `order`");
+    assert_eq!(fault("order 1", "order 1 1"), "17 numbers behind `order`");
+    assert_eq!(fault("counts 1", "counts"), "4 numbers behind `counts`");
+    assert_eq!(fault("counts 1", "counts 1 1"), "6 numbers behind `counts`");
+    assert_eq!(fault("mark 1 ", ""), "`floor` in the place of `mark`");
+    assert_eq!(fault("floor 9", "floor 09"), "`09` in the place of a number");
+    let digits = "00000000000000ff";
+    for wrong in
+        ["ff", "00000000000000FF", "000000000000000ff", "+0000000000000ff", "0x000000000000ff", "000000000000000g"]
+    {
+        assert_eq!(fault(digits, wrong), format!("`{wrong}` in the place of 16 hexadecimal digits"));
+    }
+    assert_eq!(Run::parse(&format!("{LINE} ")).unwrap_err(), "`` behind the end");
+    assert_eq!(Run::parse("").unwrap_err(), "`` in the place of `n`");
+}
+
+/// No byte at all, four bytes of the hash's published samples, and the pools that a refusal left alone.
+#[test]
+fn hashes() {
+    assert_eq!(fnv1a(&[]), 0xcbf2_9ce4_8422_2325);
+    assert_eq!(fnv1a(&[u32::from_le_bytes(*b"foob")]), 0xdd12_0e79_0c25_12af);
+    for call in runs().iter().filter(|call| (1..=6).contains(&call.number)) {
+        assert_eq!(fnv1a(&call.pool()), call.words, "{call:?}");
+    }
+}
