@@ -167,8 +167,8 @@ struct gondamuy_record {
  *
  * Before each branching it is asked first whether the search is finished, then whether the budget is spent, then
  * whether the pool holds what comes of it. So a search that finishes within its budget gives the same as without one,
- * and one whose budget is spent is never refused by 7. Of two stopped searches of one job the one with the larger
- * budget has no lower floor and, if the other shows an order, shows one that is no dearer.
+ * and one whose budget is spent is never refused by 7. Planned again with a larger budget and stopped again, the same
+ * job has a floor at least as high and, where an order was shown before, one at most as dear.
  */
 struct gondamuy_report gondamuy_plan(struct gondamuy_job job,
                                      const uint32_t *table, size_t table_len,
