@@ -106,7 +106,7 @@ impl Plan {
 pub struct Stopped {
     /// What every order costs at least: the least bound among the active nodes.
     pub floor: u32,
-    /// The cheapest order that the search, or its starting order, came upon; another may be cheaper.
+    /// The cheapest order that is known: the starting order, or one that the search came upon. Another may be cheaper.
     pub known: Option<KnownOrder>,
     /// What the search did; as many branchings as the budget has.
     pub counts: Counts,

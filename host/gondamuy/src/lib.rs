@@ -36,7 +36,8 @@ pub use raw::{words, Record};
 pub use refusal::Refusal;
 pub use sizes::*;
 
-/// Puts the stops 1 to n into the cheapest order, within a budget of branchings.
+/// Puts the stops 1 to n into the cheapest order, within a budget of branchings. **Only [`Planned::Finished`] is a
+/// cheapest order**; a search whose budget was spent before it finished is [`Planned::Stopped`].
 ///
 /// `table` has (n+1) squared legs, row by row; `start` is a starting order or empty; `budget` is how many nodes may be
 /// branched, 0 included, or [`NO_BUDGET`]; `pool` is lent for whole records of [`RECORD_WORDS`] words each, and what it
