@@ -1,6 +1,6 @@
 /* Writes the job file of document 01's case a (three stops, least bound first, rule 1, close), reads it back and plans
- * it; then plans case b (earliest first, no rules, plain) under three budgets, of which the first two stop it. A refusal
- * ends it with a status other than 0. */
+ * it; then plans case b (earliest first, no rules, plain) within three budgets, of which the first two stop it. A
+ * refusal ends it with a status other than 0. */
 #include <inttypes.h>
 #include <stdio.h>
 #include <stdlib.h>

@@ -155,8 +155,8 @@ fn within_each_budget(job: Job, table: &[u32], start: &[u8], pool: &mut [u32]) -
     unreachable!("every search ends");
 }
 
-/// The floor is no more than every order costs, and the known order is one and costs no less than the cheapest; with more
-/// branchings the floor never falls, and a known order is never lost for a dearer one.
+/// The floor is no more than every order costs, and the known order is one and costs no less than the cheapest; with
+/// more branchings the floor never falls, and a known order is never lost for a dearer one.
 #[test]
 fn held_to_all_orders() {
     let mut random = Random(91);

@@ -1,6 +1,6 @@
-//! The proved planner against the second planner: every field of the report and every word of the pool, over random jobs
-//! of many kinds. Half of them start from the first order of request A.1. Each is planned without a budget and, in the
-//! same pool, within one (request A.3), and the two reports are held to each other as well.
+//! The proved planner against the second planner: every field of the report and every word of the pool, over random
+//! jobs of many kinds. Half of them start from the first order of request A.1. Each is planned without a budget and, in
+//! the same pool, within one (request A.3), and the two reports are held to each other as well.
 
 mod common;
 

@@ -1,6 +1,6 @@
 //! Job files from plain text (see `jobtext`) and back, a first order for a text, and plans of either. What is written,
-//! read, made and planned goes through the proved writer and reader, the proved first order and the proved planner; this
-//! tool is not proved.
+//! read, made and planned goes through the proved writer and reader, the proved first order and the proved planner;
+//! this tool is not proved.
 //!
 //! ```text
 //! jobtool write < TEXT > FILE     the job file of a text

@@ -1,5 +1,5 @@
-//! `jobtool plan`: what the planner makes of a job, in words. What a finished search says and what a stopped one says have
-//! no line in common but that of the counts, and a stopped one calls no order cheapest.
+//! `jobtool plan`: what the planner makes of a job, in words. What a finished search says and what a stopped one says
+//! have no line in common but that of the counts, and a stopped one calls no order cheapest.
 
 use gondamuy::{plan_records, raw, read, Counts, Plan, Planned, Record, Refusal, Refused, Stopped, NO_BUDGET};
 use jobtext::Job;
