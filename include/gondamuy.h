@@ -1,14 +1,18 @@
 /* The proved stop-order planner, a first order for it to start from, and the proved reader and writer of job files, for
  * C on x86-64 Linux. Link with libgondamuy.a. docs/HOSTS.md has the same for people, with examples.
  *
+ * NUMBER 0 ALONE DOES NOT SAY "CHEAPEST". A search that its budget stopped comes back with number 0 and mark 1, and a
+ * cheaper order may be left. The order is a cheapest one where number and mark are both 0: gondamuy_is_finished.
+ *
  * Nothing is asked of the numbers and the bytes: whatever they are, each call ends and answers what it is asked for
  * (number 0) or a refusal (number 1 to 10). What is asked is what C asks of any pointer:
  *   - each points to as many elements as its length says, aligned as its type is;
  *   - pool and buffer, which are written to, overlap nothing else that the call is given;
  *   - with a length of 0 any pointer will do, a null one too.
  * A call uses nothing but its arguments and a few kilobytes of stack, keeps nothing between calls, and may run in
- * several threads at once over different pools and buffers. There is no bound on the time of gondamuy_plan. By a
- * theorem gondamuy_first_order makes at most as many exchanges as its nearest-stop order costs; no time is claimed.
+ * several threads at once over different pools and buffers. There is no bound on the time of gondamuy_plan; a budget
+ * bounds its branchings. By a theorem gondamuy_first_order makes at most as many exchanges as its nearest-stop order
+ * costs; no time is claimed.
  */
 #ifndef GONDAMUY_H
 #define GONDAMUY_H
@@ -21,7 +25,7 @@ extern "C" {
 #endif
 
 /* Raised with every change of a call, of a struct or of what a number means. */
-#define GONDAMUY_VERSION 3
+#define GONDAMUY_VERSION 4
 
 /* Sizes. */
 #define GONDAMUY_MOST_STOPS 16                                         /* stops of a day at most */
@@ -32,6 +36,9 @@ extern "C" {
 #define GONDAMUY_RECORD_WORDS 6                                        /* words in a record of the pool */
 #define GONDAMUY_LONGEST_FILE \
     (4 * GONDAMUY_TABLE_NUMBERS + GONDAMUY_ORDER_PLACES + 13)          /* 1,185: a buffer that every job's file fits */
+
+/* The budget of a search that is not to be stopped: by a theorem no search makes so many branchings. */
+#define GONDAMUY_NO_BUDGET UINT64_MAX
 
 /* Which waiting (active) node is branched next. */
 enum gondamuy_selection {
@@ -55,6 +62,12 @@ enum gondamuy_rules {
 enum gondamuy_bound {
     GONDAMUY_BOUND_PLAIN = 0, /* the legs flown */
     GONDAMUY_BOUND_CLOSE = 1  /* the legs flown and the cheapest legs to come */
+};
+
+/* Whether its budget stopped a search. Beside a refusal the mark is 0 too, so that mark 0 alone says nothing either. */
+enum gondamuy_mark {
+    GONDAMUY_NOT_STOPPED = 0, /* beside number 0: the search finished, and its order is a cheapest one */
+    GONDAMUY_STOPPED = 1      /* it did not finish, and another order may be cheaper than the one shown */
 };
 
 /* Why a call gave nothing, and what to do about it. */
@@ -90,10 +103,13 @@ struct gondamuy_job {
     uint32_t bound;     /* of enum gondamuy_bound */
 };
 
+/* What gondamuy_plan answers: see there, and read number and mark before anything else. */
 struct gondamuy_report {
     uint32_t number;    /* 0, or the number of the refusal: 1 to 7 */
-    uint32_t cost;
-    uint8_t order[GONDAMUY_ORDER_PLACES]; /* the stops as they are flown, zeros past n */
+    uint32_t mark;      /* of enum gondamuy_mark; 0 beside a refusal */
+    uint32_t cost;      /* of the order below */
+    uint32_t floor;     /* of a stopped search: no order costs less; 0 otherwise */
+    uint8_t order[GONDAMUY_ORDER_PLACES]; /* the stops as they are flown, zeros past n; all zeros if none is known */
     uint64_t branched;  /* nodes branched */
     uint64_t generated; /* the empty node and every child: branched + eliminated + active */
     uint64_t eliminated;
@@ -130,24 +146,47 @@ struct gondamuy_record {
     uint32_t second;    /* the others */
 };
 
-/* Puts the stops 1 to job.n into the cheapest order.
+/* Puts the stops 1 to job.n into the cheapest order, within a budget of branchings.
  *
  * table: (n+1)*(n+1) legs, row by row. Row i has what flying from place i to each place costs, at most
  * GONDAMUY_DEAREST_LEG, and 0 on the diagonal; home is place 0. start: an order of the n stops that is known
- * beforehand, or nothing. pool: words, six to a record; what they hold beforehand plays no part.
+ * beforehand, or nothing. budget: how many nodes may be branched, 0 included, or GONDAMUY_NO_BUDGET. pool: words, six
+ * to a record; what they hold beforehand plays no part.
  *
- * What comes back and what the pool then holds, by number; the lowest that applies is returned:
- *   0       A cheapest order, its cost, and the counts of the search. The pool holds the nodes that were left: the
- *           active ones, report.active records, earliest generated first; with rule 4 behind them the branched ones,
- *           report.branched records, earliest branched first; zeros behind.
- *   1 to 6  The number, and zeros in every other field. The pool is as it was.
- *   7       The number and the counts up to there; cost and order are zeros, since the search ran short. The pool
- *           holds, in the same layout, the nodes before the branching whose nodes it could not hold.
+ * What comes back and what the pool then holds, by number and mark; the lowest number that applies is returned:
+ *   0, mark 0  Finished: a cheapest order, its cost, and the counts of the search. The pool holds the nodes that were
+ *              left: the active ones, report.active records, earliest generated first; with rule 4 behind them the
+ *              branched ones, report.branched records, earliest branched first; zeros behind.
+ *   0, mark 1  Stopped: the budget was spent before the search finished, and report.branched is the budget. Every order
+ *              costs at least report.floor, the least bound among the active nodes. Cost and order are those of the
+ *              cheapest order that the search knows, so that a cheapest order costs at most that; they are zeros if it
+ *              knows none (gondamuy_shows_order). The pool holds the nodes there, in the same layout.
+ *   1 to 6     The number, and zeros in every other field. The pool is as it was.
+ *   7          The number and the counts up to there; all other fields are zeros, since the search ran short. The pool
+ *              holds, in the same layout, the nodes before the branching whose nodes it could not hold.
+ *
+ * Before each branching it is asked first whether the search is finished, then whether the budget is spent, then
+ * whether the pool holds what comes of it. So a search that finishes within its budget gives the same as without one,
+ * and one whose budget is spent is never refused by 7. Planned again with a larger budget and stopped again, the same
+ * job has a floor at least as high and, where an order was shown before, one at most as dear.
  */
 struct gondamuy_report gondamuy_plan(struct gondamuy_job job,
                                      const uint32_t *table, size_t table_len,
                                      const uint8_t *start, size_t start_len,
+                                     uint64_t budget,
                                      uint32_t *pool, size_t pool_len);
+
+/* Whether a search finished, so that its order is a cheapest one. */
+static inline int gondamuy_is_finished(const struct gondamuy_report *report)
+{
+    return report->number == GONDAMUY_NOT_REFUSED && report->mark == GONDAMUY_NOT_STOPPED;
+}
+
+/* Whether an order is shown. The cost does not tell: there are orders that cost 0. */
+static inline int gondamuy_shows_order(const struct gondamuy_report *report)
+{
+    return report->order[0] != 0;
+}
 
 /* Makes an order of the stops 1 to n to start from, where nobody has typed one (request A.1).
  *
@@ -192,9 +231,11 @@ struct gondamuy_written gondamuy_write(struct gondamuy_job job,
 static inline struct gondamuy_report gondamuy_plan_records(struct gondamuy_job job,
                                                            const uint32_t *table, size_t table_len,
                                                            const uint8_t *start, size_t start_len,
+                                                           uint64_t budget,
                                                            struct gondamuy_record *pool, size_t pool_len)
 {
-    return gondamuy_plan(job, table, table_len, start, start_len, (uint32_t *)pool, pool_len * GONDAMUY_RECORD_WORDS);
+    return gondamuy_plan(job, table, table_len, start, start_len, budget, (uint32_t *)pool,
+                         pool_len * GONDAMUY_RECORD_WORDS);
 }
 
 /* The layout that the library was built with: a compiler that lays out a struct in another way refuses these. */
@@ -209,15 +250,17 @@ GONDAMUY_FIELD(job, selection, 4);
 GONDAMUY_FIELD(job, rules, 8);
 GONDAMUY_FIELD(job, bound, 12);
 
-GONDAMUY_SIZE(report, 64);
+GONDAMUY_SIZE(report, 72);
 GONDAMUY_FIELD(report, number, 0);
-GONDAMUY_FIELD(report, cost, 4);
-GONDAMUY_FIELD(report, order, 8);
-GONDAMUY_FIELD(report, branched, 24);
-GONDAMUY_FIELD(report, generated, 32);
-GONDAMUY_FIELD(report, eliminated, 40);
-GONDAMUY_FIELD(report, active, 48);
-GONDAMUY_FIELD(report, most, 56);
+GONDAMUY_FIELD(report, mark, 4);
+GONDAMUY_FIELD(report, cost, 8);
+GONDAMUY_FIELD(report, floor, 12);
+GONDAMUY_FIELD(report, order, 16);
+GONDAMUY_FIELD(report, branched, 32);
+GONDAMUY_FIELD(report, generated, 40);
+GONDAMUY_FIELD(report, eliminated, 48);
+GONDAMUY_FIELD(report, active, 56);
+GONDAMUY_FIELD(report, most, 64);
 
 GONDAMUY_SIZE(first, 24);
 GONDAMUY_FIELD(first, number, 0);

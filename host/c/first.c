@@ -35,9 +35,9 @@ static uint32_t planned(const struct gondamuy_reading *reading, size_t legs, con
 {
     static struct gondamuy_record pool[RECORDS];
 
-    struct gondamuy_report report = gondamuy_plan_records(reading->job, reading->table, legs, start, stops, pool,
-                                                          RECORDS);
-    if (report.number == GONDAMUY_NOT_REFUSED)
+    struct gondamuy_report report = gondamuy_plan_records(reading->job, reading->table, legs, start, stops,
+                                                          GONDAMUY_NO_BUDGET, pool, RECORDS);
+    if (gondamuy_is_finished(&report))
         printf("plan from %s: cost %" PRIu32 ", branched %" PRIu64 ", most %" PRIu64 "\n", from, report.cost,
                report.branched, report.most);
     return report.number;

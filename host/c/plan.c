@@ -1,5 +1,6 @@
 /* Writes the job file of document 01's case a (three stops, least bound first, rule 1, close), reads it back and plans
- * it. A refusal ends it with a status other than 0. */
+ * it; then plans case b (earliest first, no rules, plain) within three budgets, of which the first two stop it. A
+ * refusal ends it with a status other than 0. */
 #include <inttypes.h>
 #include <stdio.h>
 #include <stdlib.h>
@@ -8,19 +9,42 @@
 
 #define RECORDS 2000
 
+static const uint32_t table[16] = {0, 4, 7, 9, 5, 0, 2, 6, 3, 8, 0, 1, 6, 5, 4, 0};
+static uint32_t pool[RECORDS * GONDAMUY_RECORD_WORDS];
+static const size_t words = sizeof pool / sizeof pool[0];
+
 static int refused(uint32_t number)
 {
     fprintf(stderr, "refused %" PRIu32 "\n", number);
     return EXIT_FAILURE;
 }
 
+/* What is known of case b after so many branchings, in words. Returns the report's number. */
+static uint32_t within(uint64_t budget)
+{
+    static const struct gondamuy_job case_b = {3, GONDAMUY_SELECTION_FIFO, GONDAMUY_RULES_NONE, GONDAMUY_BOUND_PLAIN};
+
+    struct gondamuy_report report = gondamuy_plan(case_b, table, 16, NULL, 0, budget, pool, words);
+    if (report.number != GONDAMUY_NOT_REFUSED)
+        return report.number;
+    printf("budget %" PRIu64 ": ", budget);
+    if (gondamuy_is_finished(&report))
+        printf("finished, cost %" PRIu32 ", ", report.cost);
+    else if (gondamuy_shows_order(&report))
+        printf("stopped, at least %" PRIu32 ", at most %" PRIu32 ": ", report.floor, report.cost);
+    else
+        printf("stopped, at least %" PRIu32 ", no order known\n", report.floor);
+    if (gondamuy_shows_order(&report))
+        printf("order %d %d %d\n", report.order[0], report.order[1], report.order[2]);
+    return report.number;
+}
+
 int main(void)
 {
-    static const uint32_t table[16] = {0, 4, 7, 9, 5, 0, 2, 6, 3, 8, 0, 1, 6, 5, 4, 0};
     static const struct gondamuy_job case_a = {3, GONDAMUY_SELECTION_LEAST_BOUND_EARLIEST, GONDAMUY_RULE_UPPER_COST,
                                                GONDAMUY_BOUND_CLOSE};
+    static const uint64_t budgets[3] = {0, 5, 10};
     static uint8_t file[GONDAMUY_LONGEST_FILE];
-    static uint32_t pool[RECORDS * GONDAMUY_RECORD_WORDS];
 
     struct gondamuy_written written = gondamuy_write(case_a, table, 16, NULL, 0, file, sizeof file);
     if (written.number != GONDAMUY_NOT_REFUSED)
@@ -29,13 +53,18 @@ int main(void)
     if (reading.number != GONDAMUY_NOT_REFUSED)
         return refused(reading.number);
     size_t places = reading.job.n + 1;
-    struct gondamuy_report report = gondamuy_plan(reading.job, reading.table, places * places,
-                                                  reading.start, reading.stops, pool, sizeof pool / sizeof pool[0]);
-    if (report.number != GONDAMUY_NOT_REFUSED)
+    struct gondamuy_report report = gondamuy_plan(reading.job, reading.table, places * places, reading.start,
+                                                  reading.stops, GONDAMUY_NO_BUDGET, pool, words);
+    if (!gondamuy_is_finished(&report))
         return refused(report.number);
     printf("bytes %zu\n", written.length);
     printf("cost %" PRIu32 "\n", report.cost);
     printf("order %d %d %d\n", report.order[0], report.order[1], report.order[2]);
     printf("branched %" PRIu64 "\n", report.branched);
+    for (size_t i = 0; i < sizeof budgets / sizeof budgets[0]; i++) {
+        uint32_t number = within(budgets[i]);
+        if (number != GONDAMUY_NOT_REFUSED)
+            return refused(number);
+    }
     return EXIT_SUCCESS;
 }

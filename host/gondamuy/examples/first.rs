@@ -6,7 +6,7 @@ use std::error::Error;
 use std::io::{self, Read};
 use std::process::ExitCode;
 
-use gondamuy::{first_order, plan_records, read, Record};
+use gondamuy::{first_order, plan_records, read, Record, NO_BUDGET};
 
 const RECORDS: usize = 150;
 
@@ -30,7 +30,7 @@ fn answer() -> Result<(), Box<dyn Error>> {
     let mut pool = [Record::default(); RECORDS];
     let starts = [("none", &[][..]), ("the file's order", contents.start()), ("the first order", first.order())];
     for (from, start) in starts {
-        let plan = plan_records(contents.job, contents.table(), start, &mut pool)?;
+        let plan = plan_records(contents.job, contents.table(), start, NO_BUDGET, &mut pool)?.finished()?;
         println!("plan from {from}: cost {}, branched {}, most {}", plan.cost, plan.counts.branched, plan.counts.most);
     }
     Ok(())

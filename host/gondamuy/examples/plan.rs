@@ -1,34 +1,61 @@
 //! Writes the job file of document 01's case a (three stops, least bound first, rule 1, close), reads it back and plans
-//! it. A refusal ends it with a status other than 0.
+//! it; then plans case b (earliest first, no rules, plain) within three budgets, of which the first two stop it. A
+//! refusal ends it with a status other than 0.
 
+use std::error::Error;
 use std::process::ExitCode;
 
-use gondamuy::{plan, read, write, Bound, Job, Refusal, Rules, Selection, LONGEST_FILE, RECORD_WORDS};
+use gondamuy::{
+    plan, read, write, Bound, Job, Planned, Refused, Rules, Selection, LONGEST_FILE, NO_BUDGET, RECORD_WORDS,
+};
 
 const RECORDS: usize = 2_000;
+const TABLE: [u32; 16] = [0, 4, 7, 9, 5, 0, 2, 6, 3, 8, 0, 1, 6, 5, 4, 0];
 
 fn main() -> ExitCode {
     match answer() {
         Ok(()) => ExitCode::SUCCESS,
-        Err(refusal) => {
-            eprintln!("{refusal}");
+        Err(fault) => {
+            eprintln!("{fault}");
             ExitCode::FAILURE
         }
     }
 }
 
-fn answer() -> Result<(), Refusal> {
-    let table = [0, 4, 7, 9, 5, 0, 2, 6, 3, 8, 0, 1, 6, 5, 4, 0];
+fn answer() -> Result<(), Box<dyn Error>> {
     let selection = Selection::LeastBoundEarliest;
     let case_a = Job { n: 3, selection, rules: Rules::UPPER_COST, bound: Bound::Close };
     let mut file = [0; LONGEST_FILE];
-    let length = write(case_a, &table, &[], &mut file)?;
+    let length = write(case_a, &TABLE, &[], &mut file)?;
     let contents = read(&file[..length])?;
     let mut pool = vec![0; RECORDS * RECORD_WORDS];
-    let plan = plan(contents.job, contents.table(), contents.start(), &mut pool)?;
+    let plan = plan(contents.job, contents.table(), contents.start(), NO_BUDGET, &mut pool)?.finished()?;
     println!("bytes {length}");
     println!("cost {}", plan.cost);
-    println!("order {} {} {}", plan.order()[0], plan.order()[1], plan.order()[2]);
+    println!("order {}", flown(plan.order()));
     println!("branched {}", plan.counts.branched);
+    for budget in [0, 5, 10] {
+        println!("budget {budget}: {}", within(budget, &mut pool)?);
+    }
     Ok(())
+}
+
+/// What is known of case b after so many branchings, in words.
+fn within(budget: u64, pool: &mut [u32]) -> Result<String, Refused> {
+    let case_b = Job { n: 3, selection: Selection::Fifo, rules: Rules::NONE, bound: Bound::Plain };
+    let words = match plan(case_b, &TABLE, &[], budget, pool)? {
+        Planned::Finished(plan) => format!("finished, cost {}, order {}", plan.cost, flown(plan.order())),
+        Planned::Stopped(stopped) => match stopped.known {
+            Some(known) => {
+                format!("stopped, at least {}, at most {}: order {}", stopped.floor, known.cost, flown(known.order()))
+            }
+            None => format!("stopped, at least {}, no order known", stopped.floor),
+        },
+    };
+    Ok(words)
+}
+
+fn flown(order: &[u8]) -> String {
+    let stops: Vec<String> = order.iter().map(|stop| stop.to_string()).collect();
+    stops.join(" ")
 }

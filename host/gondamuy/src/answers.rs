@@ -21,7 +21,66 @@ pub struct Counts {
     pub most: u64,
 }
 
-/// A cheapest order of the stops.
+/// What a search came to, one of two things: only a finished one has a [`Plan`], and only a plan is a cheapest order.
+///
+/// A stopped search has neither cost nor order of its own, so that what it knows cannot be taken for a plan:
+///
+/// ```compile_fail,E0609
+/// # use gondamuy::*;
+/// # let table = [0, 4, 7, 9, 5, 0, 2, 6, 3, 8, 0, 1, 6, 5, 4, 0];
+/// # let job = Job { n: 3, selection: Selection::Fifo, rules: Rules::NONE, bound: Bound::Plain };
+/// # let mut pool = [Record::default(); 20];
+/// let cost = plan_records(job, &table, &[], 5, &mut pool)?.cost; // no such field: of which of the two?
+/// # Ok::<(), Refused>(())
+/// ```
+#[derive(Clone, Copy, Debug, PartialEq, Eq)]
+pub enum Planned {
+    /// The search finished: a cheapest order.
+    Finished(Plan),
+    /// The budget was spent before that: what is known up to there.
+    Stopped(Stopped),
+}
+
+impl Planned {
+    /// The plan, or else the stopped search as an error.
+    pub fn finished(self) -> Result<Plan, Stopped> {
+        match self {
+            Planned::Finished(plan) => Ok(plan),
+            Planned::Stopped(stopped) => Err(stopped),
+        }
+    }
+}
+
+/// What a report says; one with a number other than 0 is refused.
+///
+/// # Panics
+///
+/// Where there is no such number or no such mark. No call answers that, but for one of another version of the library.
+impl TryFrom<raw::Report> for Planned {
+    type Error = Refused;
+
+    fn try_from(report: raw::Report) -> Result<Planned, Refused> {
+        let raw::Report { number, mark, cost, floor, order, branched, generated, eliminated, active, most } = report;
+        let counts = Counts { branched, generated, eliminated, active, most };
+        Refusal::check(number).map_err(|refusal| Refused { refusal, counts })?;
+        match mark {
+            raw::NOT_STOPPED => Ok(Planned::Finished(Plan { cost, counts, order })),
+            raw::STOPPED => {
+                let known = (!flown(&order).is_empty()).then_some(KnownOrder { cost, order });
+                Ok(Planned::Stopped(Stopped { floor, known, counts }))
+            }
+            _ => panic!("no search has the mark {mark}: the library is of another version"),
+        }
+    }
+}
+
+/// The stops of an order without the zeros behind them.
+fn flown(order: &[u8; ORDER_PLACES]) -> &[u8] {
+    let stops = order.iter().position(|&stop| stop == 0).unwrap_or(ORDER_PLACES);
+    &order[..stops]
+}
+
+/// A cheapest order of the stops: no order costs less.
 #[derive(Clone, Copy, Debug, PartialEq, Eq)]
 pub struct Plan {
     /// What it costs.
@@ -29,27 +88,67 @@ pub struct Plan {
     /// What the search did.
     pub counts: Counts,
     order: [u8; ORDER_PLACES],
-    stops: usize,
 }
 
 impl Plan {
     /// The stops as they are flown.
     pub fn order(&self) -> &[u8] {
-        &self.order[..self.stops]
+        flown(&self.order)
     }
+}
 
-    /// The answer that a report on a job of so many stops has.
-    pub(crate) fn of(report: raw::Report, stops: u32) -> Result<Plan, Refused> {
-        let raw::Report { number, cost, order, branched, generated, eliminated, active, most } = report;
-        let counts = Counts { branched, generated, eliminated, active, most };
-        match Refusal::check(number) {
-            Ok(()) => Ok(Plan { cost, counts, order, stops: stops as usize }),
-            Err(refusal) => Err(Refused { refusal, counts }),
+/// A search that its budget stopped (request A.3). Every order costs at least `floor`; a cheapest one costs at most
+/// what the known one does, if one is known.
+///
+/// A larger budget that stops the same search has no lower floor and, where the smaller one has a known order, one that
+/// is no dearer.
+#[derive(Clone, Copy, Debug, PartialEq, Eq)]
+pub struct Stopped {
+    /// What every order costs at least: the least bound among the active nodes.
+    pub floor: u32,
+    /// The cheapest order that is known: the starting order, or one that the search came upon. Another may be cheaper.
+    pub known: Option<KnownOrder>,
+    /// What the search did; as many branchings as the budget has.
+    pub counts: Counts,
+}
+
+impl Stopped {
+    /// How far off the known order is at most: what it costs above the floor. A cheapest order saves no more than that.
+    pub fn far_off(&self) -> Option<u32> {
+        self.known.map(|known| known.cost - self.floor)
+    }
+}
+
+/// What is known, and that the search was stopped.
+impl fmt::Display for Stopped {
+    fn fmt(&self, out: &mut fmt::Formatter) -> fmt::Result {
+        write!(out, "stopped by its budget of {}: no order costs less than {}", self.counts.branched, self.floor)?;
+        match self.known {
+            Some(known) => write!(out, ", and one that costs {} is known", known.cost),
+            None => write!(out, ", and no order is known"),
         }
     }
 }
 
-/// Why there is no plan. Where the pool is full, the search's counts up to there come along; they are zeros elsewhere.
+impl Error for Stopped {}
+
+/// The cheapest order that a stopped search knows, which need not be a cheapest order of the stops.
+#[derive(Clone, Copy, Debug, PartialEq, Eq)]
+pub struct KnownOrder {
+    /// What it costs.
+    pub cost: u32,
+    order: [u8; ORDER_PLACES],
+}
+
+impl KnownOrder {
+    /// The stops as they are flown, as [`plan`](crate::plan) takes a starting order.
+    pub fn order(&self) -> &[u8] {
+        flown(&self.order)
+    }
+}
+
+/// Why there is no answer. Where the pool is full, the search's counts up to there come along; elsewhere they are
+/// zeros.
 #[derive(Clone, Copy, Debug, PartialEq, Eq)]
 pub struct Refused {
     /// Why.
@@ -78,19 +177,18 @@ pub struct FirstOrder {
     /// What it costs.
     pub cost: u32,
     order: [u8; ORDER_PLACES],
-    stops: usize,
 }
 
 impl FirstOrder {
     /// The stops as they are flown, as [`plan`](crate::plan) and [`write`](crate::write) take a starting order.
     pub fn order(&self) -> &[u8] {
-        &self.order[..self.stops]
+        flown(&self.order)
     }
 
-    pub(crate) fn of(first: raw::FirstOrder, stops: u32) -> Result<FirstOrder, Refusal> {
+    pub(crate) fn of(first: raw::FirstOrder) -> Result<FirstOrder, Refusal> {
         let raw::FirstOrder { number, cost, order } = first;
         Refusal::check(number)?;
-        Ok(FirstOrder { cost, order, stops: stops as usize })
+        Ok(FirstOrder { cost, order })
     }
 }
 

@@ -68,6 +68,9 @@ pub enum Bound {
     Close = 1,
 }
 
+/// The budget of a search that is not to be stopped: by a theorem no search makes so many branchings.
+pub const NO_BUDGET: u64 = u64::MAX;
+
 /// What a caller chooses: how many stops, and how to search.
 #[derive(Clone, Copy, Debug, PartialEq, Eq, Hash)]
 pub struct Job {

@@ -2,17 +2,22 @@
 //! safe to call with anything.
 //!
 //! ```
-//! use gondamuy::{plan_records, Bound, Job, Record, Rules, Selection};
+//! use gondamuy::{plan_records, Bound, Job, Planned, Record, Rules, Selection, NO_BUDGET};
 //!
 //! // Three stops. Entry j of row i is the leg from place i to place j, and home is place 0.
 //! let table = [0, 4, 7, 9, 5, 0, 2, 6, 3, 8, 0, 1, 6, 5, 4, 0];
 //! let selection = Selection::LeastBoundEarliest;
 //! let job = Job { n: 3, selection, rules: Rules::UPPER_COST, bound: Bound::Close };
 //! let mut pool = vec![Record::default(); 2000];
-//! let plan = plan_records(job, &table, &[], &mut pool)?;
-//! assert_eq!((plan.cost, plan.order()), (13, &[1, 2, 3][..]));
+//! match plan_records(job, &table, &[], NO_BUDGET, &mut pool)? {
+//!     Planned::Finished(plan) => assert_eq!((plan.cost, plan.order()), (13, &[1, 2, 3][..])),
+//!     Planned::Stopped(_) => unreachable!("there is no budget to stop it"),
+//! }
 //! # Ok::<(), gondamuy::Refused>(())
 //! ```
+//!
+//! **A search that its budget stopped is no plan.** It is answered too, and not refused: what it knows is a
+//! [`Stopped`], and only what comes as [`Planned::Finished`] is a cheapest order.
 //!
 //! What is chosen has a type ([`Job`]); what is refused is an error with its number and its words ([`Refusal`]). Each
 //! call is one of module [`raw`], which has the plain numbers.
@@ -25,19 +30,24 @@ pub mod raw;
 mod refusal;
 mod sizes;
 
-pub use answers::{Contents, Counts, FirstOrder, Plan, Refused};
-pub use choices::{Bound, Job, Rules, Selection};
+pub use answers::{Contents, Counts, FirstOrder, KnownOrder, Plan, Planned, Refused, Stopped};
+pub use choices::{Bound, Job, Rules, Selection, NO_BUDGET};
 pub use raw::{words, Record};
 pub use refusal::Refusal;
 pub use sizes::*;
 
-/// Puts the stops 1 to n into the cheapest order.
+/// Puts the stops 1 to n into the cheapest order, within a budget of branchings. **Only [`Planned::Finished`] is a
+/// cheapest order**; a search whose budget was spent before it finished is [`Planned::Stopped`].
 ///
-/// `table` has (n+1) squared legs, row by row; `start` is a starting order or empty; `pool` is lent for whole records
-/// of [`RECORD_WORDS`] words each, and what it holds beforehand plays no part. Refused by 1 to 3 and 5 to 7, the lowest
-/// number that applies.
+/// `table` has (n+1) squared legs, row by row; `start` is a starting order or empty; `budget` is how many nodes may be
+/// branched, 0 included, or [`NO_BUDGET`]; `pool` is lent for whole records of [`RECORD_WORDS`] words each, and what it
+/// holds beforehand plays no part. Refused by 1 to 3 and 5 to 7, the lowest number that applies.
 ///
-/// Beside a plan the pool holds the nodes that were left: `counts.active` active ones, the earliest generated first;
+/// Before each branching it is asked first whether the search is finished, then whether the budget is spent, then
+/// whether the pool holds what comes of it. So a search that finishes within its budget gives the same as without one,
+/// and one whose budget is spent is never refused by 7.
+///
+/// Beside an answer the pool holds the nodes that were left: `counts.active` active ones, the earliest generated first;
 /// with [`Rules::BY_BRANCHED`] behind them `counts.branched` branched ones, the earliest branched first; zeros behind.
 /// Where it is full it holds, in the same layout, the nodes before the branching whose nodes did not fit, and the
 /// counts are those up to there. Any other refusal leaves it as it was.
@@ -47,21 +57,47 @@ pub use sizes::*;
 /// # let table = [0, 4, 7, 9, 5, 0, 2, 6, 3, 8, 0, 1, 6, 5, 4, 0];
 /// let job = Job { n: 3, selection: Selection::Lifo, rules: Rules::UPPER_COST, bound: Bound::Close };
 /// let mut pool = [0; RECORD_WORDS];
-/// let refused = plan(job, &table, &[], &mut pool).unwrap_err();
+/// let refused = plan(job, &table, &[], NO_BUDGET, &mut pool).unwrap_err();
 /// assert_eq!((refused.refusal, refused.counts.branched), (Refusal::Full, 0));
 /// // From a cheapest order, one record is enough.
-/// let started = plan(job, &table, &[1, 2, 3], &mut pool)?;
+/// let started = plan(job, &table, &[1, 2, 3], NO_BUDGET, &mut pool)?.finished()?;
 /// assert_eq!((started.cost, started.counts.branched), (13, 2));
+/// # Ok::<(), Box<dyn std::error::Error>>(())
+/// ```
+///
+/// # Best so far, and how far off
+///
+/// A stopped search tells what it knows (request A.3): no order costs less than its floor, so that the known order, if
+/// there is one, is off by no more than what it costs above that.
+///
+/// ```
+/// # use gondamuy::*;
+/// # let table = [0, 4, 7, 9, 5, 0, 2, 6, 3, 8, 0, 1, 6, 5, 4, 0];
+/// let job = Job { n: 3, selection: Selection::Fifo, rules: Rules::NONE, bound: Bound::Plain };
+/// let mut pool = [Record::default(); 20];
+/// let Planned::Stopped(stopped) = plan_records(job, &table, &[], 5, &mut pool)? else { unreachable!() };
+/// let known = stopped.known.unwrap();
+/// assert_eq!((known.cost, known.order()), (13, &[1, 2, 3][..]));
+/// assert_eq!((stopped.floor, stopped.far_off()), (8, Some(5)));
+/// // At once nothing is known but that no order costs less than 0.
+/// let Planned::Stopped(stopped) = plan_records(job, &table, &[], 0, &mut pool)? else { unreachable!() };
+/// assert_eq!((stopped.floor, stopped.known), (0, None));
 /// # Ok::<(), Refused>(())
 /// ```
-pub fn plan(job: Job, table: &[u32], start: &[u8], pool: &mut [u32]) -> Result<Plan, Refused> {
-    Plan::of(raw::plan(job.into(), table, start, pool), job.n)
+pub fn plan(job: Job, table: &[u32], start: &[u8], budget: u64, pool: &mut [u32]) -> Result<Planned, Refused> {
+    raw::plan(job.into(), table, start, budget, pool).try_into()
 }
 
 /// [`plan`] with a pool of records: the same call over the same memory, and nothing is copied. No record is a part
 /// record, so [`Refusal::Pool`] comes from an empty pool alone.
-pub fn plan_records(job: Job, table: &[u32], start: &[u8], pool: &mut [Record]) -> Result<Plan, Refused> {
-    plan(job, table, start, words(pool))
+pub fn plan_records(
+    job: Job,
+    table: &[u32],
+    start: &[u8],
+    budget: u64,
+    pool: &mut [Record],
+) -> Result<Planned, Refused> {
+    plan(job, table, start, budget, words(pool))
 }
 
 /// Makes an order of the stops 1 to n to start from, where nobody has typed one (request A.1).
@@ -81,12 +117,12 @@ pub fn plan_records(job: Job, table: &[u32], start: &[u8], pool: &mut [Record]) 
 /// assert_eq!((first.cost, first.order()), (8, &[1, 2, 3][..]));
 /// let job = Job { n: 3, selection: Selection::Lifo, rules: Rules::UPPER_COST, bound: Bound::Close };
 /// let mut pool = vec![Record::default(); 100];
-/// let plan = plan_records(job, &table, first.order(), &mut pool)?;
+/// let plan = plan_records(job, &table, first.order(), NO_BUDGET, &mut pool)?.finished()?;
 /// assert_eq!((plan.cost, plan.order()), (5, &[2, 3, 1][..]));
-/// # Ok::<(), Refusal>(())
+/// # Ok::<(), Box<dyn std::error::Error>>(())
 /// ```
 pub fn first_order(n: u32, table: &[u32]) -> Result<FirstOrder, Refusal> {
-    FirstOrder::of(raw::first_order(n, table), n)
+    FirstOrder::of(raw::first_order(n, table))
 }
 
 /// Reads a job file. Refused by the first of 8, 1, 9, 3, 4 and 5 that applies.

@@ -3,11 +3,18 @@
 //! (crates/answer/specs/Answer.antt), of `firstAnswer` (crates/first_answer/specs/First.antt), of `read` and of `write`
 //! (crates/job_format/specs/Reader.antt and Writer.antt).
 //!
+//! **Number 0 alone does not say "cheapest"**: a search that its budget stopped has number 0 too, and mark 1. A report
+//! is to be read by [`Report::is_finished`], or by [`Planned::try_from`](crate::Planned), which tells the two apart.
+//!
 //! ```
 //! use gondamuy::raw::{plan, Job};
+//! use gondamuy::NO_BUDGET;
 //!
 //! let job = Job { n: 2, selection: 0, rules: 16, bound: 0 };
-//! assert_eq!(plan(job, &[0; 9], &[], &mut [0; 6]).number, 4); // rules are 15 at most
+//! assert_eq!(plan(job, &[0; 9], &[], NO_BUDGET, &mut [0; 6]).number, 4); // rules are 15 at most
+//! let stopped = plan(Job { rules: 15, ..job }, &[0; 9], &[], 0, &mut [0; 6]);
+//! assert_eq!((stopped.number, stopped.mark), (0, 1));
+//! assert!(!stopped.is_finished());
 //! ```
 
 mod border;
@@ -31,15 +38,26 @@ pub struct Job {
     pub bound: u32,
 }
 
-/// An order (number 0) or a refusal (number 1 to 7).
+/// The mark of a search that finished (beside number 0), and of every refusal.
+pub const NOT_STOPPED: u32 = 0;
+
+/// The mark of a search that its budget stopped, beside number 0.
+pub const STOPPED: u32 = 1;
+
+/// A cheapest order (number 0, mark 0), what a stopped search knows (number 0, mark 1), or a refusal (number 1 to 7).
 #[repr(C)]
 #[derive(Clone, Copy, Debug, Default, PartialEq, Eq)]
 pub struct Report {
     /// 0, or the number of the refusal: 1 to 6 come with zeros, 7 with the counts.
     pub number: u32,
+    /// [`STOPPED`] if the budget stopped the search, else [`NOT_STOPPED`].
+    pub mark: u32,
     /// The cost of the order.
     pub cost: u32,
-    /// The stops as they are flown, zeros past n.
+    /// What every order costs at least, if the search was stopped; else 0.
+    pub floor: u32,
+    /// The stops as they are flown, zeros past n; all zeros if none is known. There are orders that cost 0, so that it
+    /// is the order, and not the cost, that tells.
     pub order: [u8; ORDER_PLACES],
     /// See [`Counts`](crate::Counts).
     pub branched: u64,
@@ -51,6 +69,13 @@ pub struct Report {
     pub active: u64,
     /// See [`Counts`](crate::Counts).
     pub most: u64,
+}
+
+impl Report {
+    /// Whether the search finished, so that its order is a cheapest one.
+    pub fn is_finished(&self) -> bool {
+        self.number == 0 && self.mark == NOT_STOPPED
+    }
 }
 
 /// An order to start from (number 0) or a refusal (number 1 to 3) and zeros.
@@ -122,8 +147,8 @@ pub struct Record {
     pub second: u32,
 }
 
-/// Puts the stops 1 to n into the cheapest order: [`crate::plan`] of any numbers.
-pub fn plan(job: Job, table: &[u32], start: &[u8], pool: &mut [u32]) -> Report {
+/// Puts the stops 1 to n into the cheapest order, within a budget of branchings: [`crate::plan`] of any numbers.
+pub fn plan(job: Job, table: &[u32], start: &[u8], budget: u64, pool: &mut [u32]) -> Report {
     // SAFETY: the slices are valid for their lengths, and `pool`, lent as mutable, overlaps neither of the others.
     unsafe {
         border::gondamuy_plan(
@@ -132,6 +157,7 @@ pub fn plan(job: Job, table: &[u32], start: &[u8], pool: &mut [u32]) -> Report {
             table.len(),
             start.as_ptr(),
             start.len(),
+            budget,
             pool.as_mut_ptr(),
             pool.len(),
         )
@@ -140,8 +166,8 @@ pub fn plan(job: Job, table: &[u32], start: &[u8], pool: &mut [u32]) -> Report {
 
 /// `plan` with a pool of records: the same call over the same memory. No record is a part record, so number 6 comes
 /// from an empty pool alone.
-pub fn plan_records(job: Job, table: &[u32], start: &[u8], pool: &mut [Record]) -> Report {
-    plan(job, table, start, words(pool))
+pub fn plan_records(job: Job, table: &[u32], start: &[u8], budget: u64, pool: &mut [Record]) -> Report {
+    plan(job, table, start, budget, words(pool))
 }
 
 /// The memory of some records as the pool's words.

@@ -1,7 +1,7 @@
 //! The sizes of document 01 by name.
 
 /// Raised with every change of a call, of a struct or of what a number means, as `GONDAMUY_VERSION` is.
-pub const VERSION: u32 = 3;
+pub const VERSION: u32 = 4;
 
 /// Stops of a day at most.
 pub const MOST_STOPS: usize = 16;

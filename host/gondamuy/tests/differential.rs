@@ -1,65 +1,114 @@
-//! The proved planner against the second planner: the report and every word
-//! of the pool, over random jobs of many kinds, half of which start from the
-//! first order of request A.1.
+//! The proved planner against the second planner: every field of the report and every word of the pool, over random
+//! jobs of many kinds. Half of them start from the first order of request A.1. Each is planned without a budget and, in
+//! the same pool, within one (request A.3), and the two reports are held to each other as well.
 
 mod common;
 
-use common::{choices, first_stops, random_job};
-use gondamuy::raw::{plan, Report};
-use gondamuy::RECORD_WORDS;
+use common::{choices, first_stops, random_job, some_budget, told};
+use gondamuy::raw::{plan, Report, STOPPED};
+use gondamuy::{NO_BUDGET, RECORD_WORDS};
 use jobtext::Job;
 use samples::{level, nearest, Random};
 use witness::job_file::Contents;
-use witness::plan_watched;
+use witness::{plan_watched, Request};
 
 /// Runs both planners on the same pool and holds them to each other. Returns
 /// the report and how many records the run needed at most.
-fn compare(job: &Job, pool: &[u32]) -> (Report, usize) {
+fn compare(job: &Job, budget: u64, pool: &[u32]) -> (Report, usize) {
     let mut ours = pool.to_vec();
     let mut theirs = pool.to_vec();
     let mut most = 0;
     let with_branched = job.rules & 4 != 0;
-    let expected = plan_watched(&Contents::from(job).request(), &mut theirs, &mut |state| {
+    let contents = Contents::from(job);
+    let request = Request { budget, ..contents.request() };
+    let expected = plan_watched(&request, &mut theirs, &mut |state| {
         let branched = if with_branched { state.branched.len() } else { 0 };
         most = most.max(state.active.len() + branched);
     });
-    let report = plan(choices(job), &job.table, &job.start, &mut ours);
-    let order: Vec<u32> = report.order.iter().map(|&s| s.into()).collect();
-    assert_eq!((report.number, report.cost), (expected.number, expected.cost), "{job:?}");
-    assert_eq!(order, expected.order, "{job:?}");
-    let counts = [report.branched, report.generated, report.eliminated, report.active, report.most];
-    assert_eq!(counts, expected.counts(), "{job:?}");
-    assert!(ours == theirs, "the pools differ: {job:?}");
+    let report = plan(choices(job), &job.table, &job.start, budget, &mut ours);
+    assert_eq!(report, told(&expected), "budget {budget}, {job:?}");
+    assert!(ours == theirs, "the pools differ: budget {budget}, {job:?}");
     (report, most)
 }
 
-/// In an ample dirty pool, in one of exactly the records needed, one less, and one.
-fn in_four_pools(random: &mut Random, job: &Job, ample: usize) -> [u32; 4] {
-    let (full, needed) = compare(job, &random.words(ample * RECORD_WORDS));
-    let mut numbers = [full.number; 4];
-    for (place, records) in [needed, needed.max(2) - 1, 1].into_iter().enumerate() {
-        let (report, _) = compare(job, &random.words(records * RECORD_WORDS));
-        numbers[place + 1] = report.number;
+/// The same job in the same pool, without a budget and within one.
+struct Both {
+    without: Report,
+    /// Records that it needed without.
+    needed: usize,
+    within: Report,
+}
+
+/// Plans both ways, and holds what the budget changes to what it may change: a search that ends by itself before it is
+/// spent, and every refusal 1 to 6, are the same; all others are stopped there, those that would fill the pool too.
+fn both(random: &mut Random, job: &Job, words: usize) -> Both {
+    let pool = random.words(words);
+    let (without, needed) = compare(job, NO_BUDGET, &pool);
+    let budget = some_budget(random, without.branched);
+    let (within, _) = compare(job, budget, &pool);
+    let same = match without.number {
+        0 => budget >= without.branched,
+        7 => budget > without.branched,
+        _ => true,
+    };
+    if same {
+        assert_eq!(within, without, "budget {budget}, {job:?}");
+    } else {
+        assert_eq!((within.number, within.mark, within.branched), (0, STOPPED, budget), "{job:?}");
     }
-    numbers
+    assert_eq!((without.mark, without.floor), (0, 0), "{job:?}");
+    Both { without, needed, within }
+}
+
+/// How often each way to end was seen.
+#[derive(Debug, Default)]
+struct Seen {
+    jobs: usize,
+    full: usize,
+    stopped: usize,
+    /// Stopped where the pool would have been full without a budget.
+    before_full: usize,
+    /// Stopped with an order to show.
+    known: usize,
+}
+
+impl Seen {
+    fn take(&mut self, both: &Both) {
+        let stopped = both.within.mark == STOPPED;
+        self.jobs += 2;
+        self.full += [both.without, both.within].iter().filter(|report| report.number == 7).count();
+        self.stopped += stopped as usize;
+        self.before_full += (stopped && both.without.number == 7) as usize;
+        self.known += (stopped && both.within.order[0] != 0) as usize;
+    }
+}
+
+/// In an ample dirty pool, in one of exactly the records needed, one less, and one.
+fn in_four_pools(random: &mut Random, job: &Job, ample: usize, seen: &mut Seen) {
+    let first = both(random, job, ample * RECORD_WORDS);
+    assert!(first.without.is_finished(), "{job:?}");
+    seen.take(&first);
+    let exact = both(random, job, first.needed * RECORD_WORDS);
+    assert_eq!(exact.without, first.without, "a pool of the records needed suffices: {job:?}");
+    seen.take(&exact);
+    for records in [first.needed.max(2) - 1, 1] {
+        seen.take(&both(random, job, records * RECORD_WORDS));
+    }
 }
 
 #[test]
 fn small_tables_under_all_choices() {
     let mut random = Random(1);
-    let mut jobs = 0;
-    let mut filled = 0;
-    for round in 0..26_000u64 {
+    let mut seen = Seen::default();
+    for round in 0..13_000u64 {
         let n = 1 + random.below(if round % 40 == 0 { 6 } else { 4 }) as usize;
         let most = random.pick(&[0, 1, 2, 9, 1_000, 1_000_000]);
         let job = random_job(&mut random, n, most);
-        let numbers = in_four_pools(&mut random, &job, 2_100);
-        assert_eq!(numbers[0], 0);
-        assert_eq!(numbers[1], 0, "a pool of the records needed suffices: {job:?}");
-        filled += numbers.iter().filter(|&&k| k == 7).count();
-        jobs += 4;
+        in_four_pools(&mut random, &job, 2_100, &mut seen);
     }
-    assert!(jobs >= 100_000 && filled > 10_000, "{jobs} jobs, {filled} full pools");
+    assert!(seen.jobs >= 100_000 && seen.full > 10_000, "{seen:?}");
+    assert!(seen.stopped > 10_000 && seen.before_full > 1_000, "{seen:?}");
+    assert!(seen.known > 5_000 && seen.stopped - seen.known > 1_000, "{seen:?}");
 }
 
 #[test]
@@ -77,15 +126,32 @@ fn up_to_sixteen_stops() {
             if job.selection == 3 && n > 8 && 2 * records > n * (n - 1) {
                 job.rules |= 4;
             }
-            compare(&job, &random.words(records * RECORD_WORDS));
+            both(&mut random, &job, records * RECORD_WORDS);
             // All legs equal, the latest of ties: straight down to an order.
             job.table = level(n, 7);
             job.selection = 1;
             job.rules = random.below(16) as u32;
-            let (report, _) = compare(&job, &random.words(400 * RECORD_WORDS));
-            assert_eq!(report.number, 0);
+            let found = both(&mut random, &job, 400 * RECORD_WORDS);
+            assert!(found.without.is_finished(), "{job:?}");
         }
     }
+}
+
+/// Under every choice, where without a budget the search would go on for long.
+#[test]
+fn large_jobs_within_a_budget() {
+    let mut random = Random(5);
+    let mut stopped = 0;
+    for round in 0..300 {
+        let n = 10 + round % 7;
+        let most = random.pick(&[1, 9, 1_000, 1_000_000]);
+        let job = random_job(&mut random, n, most);
+        let budget = random.pick(&[0, 1, 2, 15, 16, 17, 40, 100]);
+        let records = random.pick(&[100, 2_000]);
+        let (report, _) = compare(&job, budget, &random.words(records * RECORD_WORDS));
+        stopped += (report.mark == STOPPED) as u32;
+    }
+    assert!(stopped > 100, "{stopped}");
 }
 
 #[test]
@@ -96,18 +162,18 @@ fn pilots_of_twelve_stops() {
         (job.selection, job.rules, job.bound) = (3, 1, 1);
         for start in [nearest(12, &job.table), first_stops(12, &job.table)] {
             job.start = start;
-            let (report, _) = compare(&job, &random.words(120 * RECORD_WORDS));
-            assert_eq!(report.number, 0);
+            let found = both(&mut random, &job, 120 * RECORD_WORDS);
+            assert!(found.without.is_finished(), "{job:?}");
         }
     }
 }
 
-/// Each cause by itself and several at once: the lowest number, the pool untouched.
+/// Each cause by itself and several at once: the lowest number, whatever the budget, and the pool untouched.
 #[test]
 fn every_refusal() {
     let mut random = Random(4);
     let mut seen = [0; 8];
-    for _ in 0..20_000 {
+    for _ in 0..10_000 {
         let n = 1 + random.below(4) as usize;
         let mut job = random_job(&mut random, n, 9);
         let mut words = 60;
@@ -136,8 +202,10 @@ fn every_refusal() {
         if faults & 32 != 0 {
             words = random.pick(&[0, 1, 5, 7, 61]);
         }
-        let (report, _) = compare(&job, &random.words(words));
-        seen[report.number as usize] += 1;
+        let found = both(&mut random, &job, words);
+        for report in [found.without, found.within] {
+            seen[report.number as usize] += 1;
+        }
     }
     assert!(seen.iter().all(|&k| k > 10), "{seen:?}");
 }

@@ -13,7 +13,7 @@ use std::ops::RangeInclusive;
 
 use common::{any_job, some_of, spoil_length, spoil_stops, spoil_table};
 use gondamuy::raw::{first_order, plan, FirstOrder, Job, Report};
-use gondamuy::RECORD_WORDS;
+use gondamuy::{NO_BUDGET, RECORD_WORDS};
 use samples::{level, nearest, Random};
 
 /// Holds both to each other. Returns what the proved one answers.
@@ -94,14 +94,14 @@ fn worked_calls() {
     }
 }
 
-/// Plans with and without it, in a pool that is large enough without: the same cost, no more than the order's own, and
-/// no more work.
+/// Plans with and without it, in a pool and within a budget that are large enough without: the same cost, no more than
+/// the order's own, and no more work.
 fn started(job: Job, table: &[u32], records: usize) -> (Report, Report) {
     let first = first_order(job.n, table);
     let mut pool = vec![0; records * RECORD_WORDS];
-    let without = plan(job, table, &[], &mut pool);
-    let with = plan(job, table, &first.order[..job.n as usize], &mut pool);
-    assert_eq!((with.number, without.number), (0, 0), "{job:?} {table:?}");
+    let without = plan(job, table, &[], NO_BUDGET, &mut pool);
+    let with = plan(job, table, &first.order[..job.n as usize], without.branched, &mut pool);
+    assert!(with.is_finished() && without.is_finished(), "{job:?} {table:?}");
     assert_eq!(with.cost, without.cost, "{job:?} {table:?}");
     assert!(with.cost <= first.cost, "{job:?} {table:?}");
     assert!(with.branched <= without.branched && with.generated <= without.generated, "{job:?} {table:?}");

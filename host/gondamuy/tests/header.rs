@@ -4,7 +4,8 @@ use std::collections::HashMap;
 use std::fs;
 use std::path::Path;
 
-use gondamuy::{raw, Bound, Job, Refusal, Rules, Selection, DEAREST_LEG, MOST_STOPS, RECORD_WORDS, VERSION};
+use gondamuy::{raw, Bound, Job, Refusal, Rules, Selection};
+use gondamuy::{DEAREST_LEG, MOST_STOPS, NO_BUDGET, RECORD_WORDS, VERSION};
 
 /// The lines of a file, by its way from the wrapper's folder.
 fn lines(file: &str) -> Vec<String> {
@@ -47,6 +48,8 @@ fn the_same_numbers() {
         ("RULES_ALL", rules(Rules::ALL)),
         ("BOUND_PLAIN", Bound::Plain as u32),
         ("BOUND_CLOSE", Bound::Close as u32),
+        ("NOT_STOPPED", raw::NOT_STOPPED),
+        ("STOPPED", raw::STOPPED),
         ("NOT_REFUSED", 0),
         ("REFUSED_STOPS", Refusal::Stops as u32),
         ("REFUSED_TABLE_LENGTH", Refusal::TableLength as u32),
@@ -62,6 +65,12 @@ fn the_same_numbers() {
     let told: HashMap<String, u32> = told.into_iter().map(|(name, number)| (name.to_string(), number)).collect();
     let found: HashMap<String, u32> = header().iter().filter_map(|line| named(line)).collect();
     assert_eq!(found, told);
+}
+
+#[test]
+fn no_budget_is_the_largest() {
+    assert_eq!(NO_BUDGET, u64::MAX);
+    assert!(header().contains(&"#define GONDAMUY_NO_BUDGET UINT64_MAX".to_string()));
 }
 
 /// What a refusal says stands in the line above its name.
@@ -93,8 +102,8 @@ fn the_same_layout() {
             format!("{size}: {}", fields.map(|field| field.replace(',', "")).collect::<Vec<String>>().join(", "))
         })
         .collect();
-    let wrapper = lines("src/raw/layout.rs");
-    let told = wrapper.iter().filter_map(|line| asserted(line, "layout!("));
+    let wrapper = lines("src/raw/layout.rs").join(" ");
+    let told = wrapper.split("layout!(").skip(1).filter_map(|rest| rest.split(");").next());
     let told: Vec<String> = told.map(|layout| layout.replace("FirstOrder", "first").to_lowercase()).collect();
     assert_eq!(found, told);
     assert_eq!(told.len(), 6);

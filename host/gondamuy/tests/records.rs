@@ -1,7 +1,7 @@
 //! The pool as records and as words: one memory, the same jobs over both views, equal reports and equal memory.
 
 use gondamuy::raw::{plan, plan_records, words, Job, Record};
-use gondamuy::RECORD_WORDS;
+use gondamuy::{NO_BUDGET, RECORD_WORDS};
 use samples::Random;
 
 /// Records whose fields are given six words at a time, in their sequence.
@@ -28,11 +28,12 @@ fn the_fields_are_the_words() {
     }
 }
 
-/// Every choice, jobs that finish, that fill the pool and that are refused.
+/// Every choice, jobs that finish, that a budget stops, that fill the pool and that are refused.
 #[test]
 fn the_same_plan_over_both_views() {
     let mut random = Random(12);
     let mut seen = [0; 8];
+    let mut stopped = 0;
     for _ in 0..20_000 {
         let n = 1 + random.below(5) as usize;
         let (low, high) = random.pick(&[(0, 0), (0, 1), (0, 9), (0, 1_000_000)]);
@@ -52,12 +53,14 @@ fn the_same_plan_over_both_views() {
         let capacity = random.pick(&[0, 1, 2, 5, 40, 400, 400, 400]);
         let mut flat = random.words(capacity * RECORD_WORDS);
         let mut pool = records(&flat);
-        let of_words = plan(job, &table, &start, &mut flat);
-        let of_records = plan_records(job, &table, &start, &mut pool);
+        let budget = random.pick(&[0, 3, 20, NO_BUDGET, NO_BUDGET, NO_BUDGET]);
+        let of_words = plan(job, &table, &start, budget, &mut flat);
+        let of_records = plan_records(job, &table, &start, budget, &mut pool);
         assert_eq!(of_words, of_records);
         assert_eq!(flat, words(&mut pool));
         assert_eq!(pool, records(&flat));
         seen[of_records.number as usize] += 1;
+        stopped += of_records.mark;
     }
-    assert!(seen.iter().all(|&k| k > 100), "{seen:?}");
+    assert!(seen.iter().all(|&k| k > 100) && stopped > 1_000, "{seen:?} {stopped}");
 }

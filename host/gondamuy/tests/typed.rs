@@ -2,9 +2,9 @@
 
 mod common;
 
-use common::{any_job, choices, spoil_choice, spoil_length, spoil_start, spoil_stops, spoil_table};
+use common::{any_job, choices, some_budget, spoil_choice, spoil_length, spoil_start, spoil_stops, spoil_table};
 use gondamuy::{first_order, plan, plan_records, raw, read, words, write};
-use gondamuy::{Counts, Job, Plan, Record, Refusal, Refused, LONGEST_FILE};
+use gondamuy::{Counts, Job, Planned, Record, Refusal, Refused, LONGEST_FILE, NO_BUDGET};
 use samples::Random;
 
 #[test]
@@ -39,30 +39,50 @@ fn every_number_has_words() {
     assert_eq!((Refusal::check(0), Refusal::of(0), Refusal::of(11), Refusal::of(u32::MAX)), (Ok(()), None, None, None));
 }
 
-type Answer = Result<(u32, Vec<u8>), u32>;
+/// Cost and order.
+type Order = (u32, Vec<u8>);
 
-/// What a report says: cost and order or a number, and the counts.
-fn plain(report: &raw::Report, n: u32) -> (Answer, [u64; 5]) {
-    let raw::Report { number, cost, order, branched, generated, eliminated, active, most } = *report;
-    let answer = if number == 0 { Ok((cost, order[..n as usize].to_vec())) } else { Err(number) };
-    (answer, [branched, generated, eliminated, active, most])
+/// What an answer says, told from the plain fields and from the types.
+#[derive(Debug, PartialEq)]
+enum Said {
+    Finished(Order),
+    /// The floor, and the order if one is known.
+    Stopped(u32, Option<Order>),
+    Refused(u32),
 }
 
-/// The same of a typed answer.
-fn typed(answer: Result<Plan, Refused>) -> (Answer, [u64; 5]) {
-    let Counts { branched, generated, eliminated, active, most } = match answer {
-        Ok(plan) => plan.counts,
-        Err(refused) => refused.counts,
+/// Of a report.
+fn plain(report: &raw::Report, n: u32) -> (Said, [u64; 5]) {
+    let raw::Report { number, mark, cost, floor, order, branched, generated, eliminated, active, most } = *report;
+    let shown = || (cost, order[..n as usize].to_vec());
+    let said = match (number, mark) {
+        (0, 0) => Said::Finished(shown()),
+        (0, 1) => Said::Stopped(floor, (order[0] != 0).then(shown)),
+        _ => Said::Refused(number),
     };
-    let answer = answer.map(|plan| (plan.cost, plan.order().to_vec())).map_err(|refused| refused.refusal.number());
-    (answer, [branched, generated, eliminated, active, most])
+    (said, [branched, generated, eliminated, active, most])
 }
 
-/// Every refusal of `plan`, finished runs and full pools.
+/// Of a typed answer.
+fn typed(answer: Result<Planned, Refused>) -> (Said, [u64; 5]) {
+    let (said, counts) = match answer {
+        Ok(Planned::Finished(plan)) => (Said::Finished((plan.cost, plan.order().to_vec())), plan.counts),
+        Ok(Planned::Stopped(stopped)) => {
+            let known = stopped.known.map(|known| (known.cost, known.order().to_vec()));
+            (Said::Stopped(stopped.floor, known), stopped.counts)
+        }
+        Err(refused) => (Said::Refused(refused.refusal.number()), refused.counts),
+    };
+    let Counts { branched, generated, eliminated, active, most } = counts;
+    (said, [branched, generated, eliminated, active, most])
+}
+
+/// Every refusal of `plan`, finished and stopped runs and full pools.
 #[test]
 fn the_same_plans() {
     let mut random = Random(71);
     let mut seen = [0; 8];
+    let mut stopped = [0; 2];
     for _ in 0..4_000 {
         let mut job = any_job(&mut random);
         match random.below(6) {
@@ -73,17 +93,22 @@ fn the_same_plans() {
             _ => {}
         }
         let in_types = Job::try_from(choices(&job)).unwrap();
+        let budget = if random.below(2) == 0 { NO_BUDGET } else { some_budget(&mut random, 5) };
         let mut ours = vec![Record::default(); random.pick(&[0, 1, 9, 20])];
         let mut theirs = ours.clone();
-        let report = raw::plan_records(choices(&job), &job.table, &job.start, &mut theirs);
-        assert_eq!(typed(plan_records(in_types, &job.table, &job.start, &mut ours)), plain(&report, job.n));
+        let report = raw::plan_records(choices(&job), &job.table, &job.start, budget, &mut theirs);
+        assert_eq!(typed(plan_records(in_types, &job.table, &job.start, budget, &mut ours)), plain(&report, job.n));
         assert_eq!(ours, theirs);
         let part = &mut words(&mut ours)[report.branched.min(1) as usize..];
-        let of_part = raw::plan(choices(&job), &job.table, &job.start, &mut part.to_vec());
-        assert_eq!(typed(plan(in_types, &job.table, &job.start, part)), plain(&of_part, job.n));
+        let of_part = raw::plan(choices(&job), &job.table, &job.start, budget, &mut part.to_vec());
+        assert_eq!(typed(plan(in_types, &job.table, &job.start, budget, part)), plain(&of_part, job.n));
         seen[report.number as usize] += 1;
+        if report.mark == raw::STOPPED {
+            stopped[(report.order[0] != 0) as usize] += 1;
+        }
     }
     assert!([0, 1, 2, 3, 5, 6, 7].iter().all(|&number| seen[number] > 10), "{seen:?}");
+    assert!(stopped.iter().all(|&k| k > 10), "{stopped:?}");
 }
 
 #[test]

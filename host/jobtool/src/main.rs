@@ -1,15 +1,22 @@
-//! Job files from plain text (see `jobtext`) and back, and a first order for a text. What is written, read and made goes
-//! through the proved writer and reader and the proved first order; this tool is not proved.
+//! Job files from plain text (see `jobtext`) and back, a first order for a text, and plans of either. What is written,
+//! read, made and planned goes through the proved writer and reader, the proved first order and the proved planner;
+//! this tool is not proved.
 //!
 //! ```text
 //! jobtool write < TEXT > FILE     the job file of a text
 //! jobtool show < FILE             the text of a job file, or why it is refused
 //! jobtool first < TEXT            `first cost` and `first order`: what it costs, and its stops
 //! jobtool first start < TEXT      the job anew as text, with that order as its starting order
+//! jobtool plan [budget N] [records R] < TEXT-OR-FILE
+//!                                 the plan of a job in words, or what a search stopped after N branchings knows
 //! jobtool refusal NUMBER          what a refusal's number says
 //! ```
 //!
-//! A starting order that stands in the text plays no part in `first`.
+//! A starting order that stands in the text plays no part in `first`. The status is one of failure where something is
+//! refused or amiss; then all that is said goes to standard error. A search that its budget stopped is neither: it is
+//! told on standard output, by the word `stopped`.
+
+mod plan;
 
 use std::io::{self, Read, Write};
 use std::process::ExitCode;
@@ -17,8 +24,12 @@ use std::process::ExitCode;
 use gondamuy::{first_order, raw, read, FirstOrder, Refusal, LONGEST_FILE};
 use jobtext::{parse, text, Job, Parsed};
 
-const USAGE: &str =
-    "jobtool write < TEXT > FILE, jobtool show < FILE, jobtool first [start] < TEXT, or jobtool refusal NUMBER";
+const USAGE: &str = "\
+jobtool write < TEXT > FILE
+jobtool show < FILE
+jobtool first [start] < TEXT
+jobtool plan [budget N] [records R] < TEXT-OR-FILE
+jobtool refusal NUMBER";
 
 fn main() -> ExitCode {
     let arguments: Vec<String> = std::env::args().skip(1).collect();
@@ -28,6 +39,10 @@ fn main() -> ExitCode {
         ["show"] => input().and_then(|file| text_of(&file)),
         ["first"] => input().and_then(|text| first_of(&text)),
         ["first", "start"] => input().and_then(|text| started(&text)),
+        ["plan", ref words @ ..] => match plan::Asked::of(words) {
+            Some(asked) => input().and_then(|job| plan::planned(&job, &asked)),
+            None => Err(USAGE.to_string()),
+        },
         ["refusal", word] => word.parse().map(in_words).map_err(|_| USAGE.to_string()),
         _ => Err(USAGE.to_string()),
     };
@@ -77,8 +92,12 @@ fn with_first(bytes: &[u8]) -> Result<(Job, FirstOrder), String> {
 /// Two lines. Each begins with `first`, so that nobody takes it for a line that `plan` prints.
 fn first_of(bytes: &[u8]) -> Result<Vec<u8>, String> {
     let (_, first) = with_first(bytes)?;
-    let stops: String = first.order().iter().map(|stop| format!(" {stop}")).collect();
-    Ok(format!("first cost {}\nfirst order{stops}\n", first.cost).into_bytes())
+    Ok(format!("first cost {}\nfirst order{}\n", first.cost, flown(first.order())).into_bytes())
+}
+
+/// The stops of an order, a space in front of each.
+fn flown(order: &[u8]) -> String {
+    order.iter().map(|stop| format!(" {stop}")).collect()
 }
 
 fn started(bytes: &[u8]) -> Result<Vec<u8>, String> {

@@ -8,7 +8,7 @@ use std::fs;
 
 use common::{bytes, folder, string, NAMES};
 use gondamuy::raw::{self, plan, read, write};
-use gondamuy::{LONGEST_FILE, RECORD_WORDS};
+use gondamuy::{LONGEST_FILE, NO_BUDGET, RECORD_WORDS};
 use jobtext::{parse, Job};
 
 /// The job of the text, its table and its starting order.
@@ -48,10 +48,10 @@ fn both_planners_give_what_is_expected() {
         let expected = string(name, "expected");
         assert_eq!(witness::program::output(&bytes(name, "job")), expected, "{name}");
         let (job, table, start) = job(name);
-        let report = plan(job, &table, &start, &mut vec![0; 2_000 * RECORD_WORDS]);
-        let first = match report.number {
-            0 => format!("cost {}", report.cost),
-            number => format!("refused {number}"),
+        let report = plan(job, &table, &start, NO_BUDGET, &mut vec![0; 2_000 * RECORD_WORDS]);
+        let first = match report.is_finished() {
+            true => format!("cost {}", report.cost),
+            false => format!("refused {}", report.number),
         };
         assert_eq!(expected.lines().next(), Some(&first[..]), "{name}");
     }

@@ -2,30 +2,8 @@
 
 mod common;
 
-use std::io::Write;
-use std::process::{Command, Stdio};
-
-use common::{string, NAMES};
+use common::{run, string, NAMES};
 use jobtext::{parse, Job};
-
-/// What it writes, or what it complains of with a status of failure.
-fn run(arguments: &[&str], input: &[u8]) -> Result<Vec<u8>, String> {
-    let mut tool = Command::new(env!("CARGO_BIN_EXE_jobtool"))
-        .args(arguments)
-        .stdin(Stdio::piped())
-        .stdout(Stdio::piped())
-        .stderr(Stdio::piped())
-        .spawn()
-        .unwrap();
-    tool.stdin.take().unwrap().write_all(input).unwrap();
-    let output = tool.wait_with_output().unwrap();
-    if output.status.success() {
-        assert!(output.stderr.is_empty());
-        return Ok(output.stdout);
-    }
-    assert!(output.stdout.is_empty());
-    Err(String::from_utf8(output.stderr).unwrap())
-}
 
 const TEXT: &str = "stops 2\ntable\n0 3 4\n5 0 6\n7 8 0\nselection LIFO\nrules U/DBAS DB/AS\nbound close\nstart 2 1\n";
 

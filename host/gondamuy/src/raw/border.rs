@@ -9,6 +9,7 @@ extern "C" {
         table_len: usize,
         start: *const u8,
         start_len: usize,
+        budget: u64,
         pool: *mut u32,
         pool_len: usize,
     ) -> Report;

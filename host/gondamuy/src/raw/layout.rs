@@ -13,7 +13,8 @@ macro_rules! layout {
 }
 
 layout!(Job, 16: n 0, selection 4, rules 8, bound 12);
-layout!(Report, 64: number 0, cost 4, order 8, branched 24, generated 32, eliminated 40, active 48, most 56);
+layout!(Report, 72: number 0, mark 4, cost 8, floor 12, order 16,
+    branched 32, generated 40, eliminated 48, active 56, most 64);
 layout!(FirstOrder, 24: number 0, cost 4, order 8);
 layout!(Reading, 1196: number 0, job 4, table 20, start 1176, stops 1192);
 layout!(Written, 16: number 0, length 8);

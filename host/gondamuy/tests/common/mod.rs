@@ -10,6 +10,26 @@ pub fn choices(job: &Job) -> raw::Job {
     raw::Job { n: job.n, selection: job.selection, rules: job.rules, bound: job.bound }
 }
 
+/// What the second planner reports, field by field as the library does.
+pub fn told(report: &witness::Report) -> raw::Report {
+    let witness::Report { number, mark, cost, floor, order, branched, generated, eliminated, active, most } = *report;
+    let order = order.map(|stop| u8::try_from(stop).unwrap());
+    raw::Report { number, mark, cost, floor, order, branched, generated, eliminated, active, most }
+}
+
+/// A budget for a search that makes `own` branchings without one: 0, a few, any that stops it, about as many as it makes,
+/// or so many that no search reaches them.
+pub fn some_budget(random: &mut Random, own: u64) -> u64 {
+    match random.below(6) {
+        0 => 0,
+        1 => 1 + random.below(4),
+        2 => random.below(own + 1),
+        3 => own.saturating_sub(1),
+        4 => own,
+        _ => random.pick(&[own + 1, own + 2, u64::MAX - 1, u64::MAX]),
+    }
+}
+
 /// The first order of n stops, as `plan` takes a starting order.
 pub fn first_stops(n: usize, table: &[u32]) -> Vec<u8> {
     raw::first_order(n as u32, table).order[..n].to_vec()

@@ -1,8 +1,10 @@
-//! The sample jobs of jobs/samples, for the tests that share them.
+//! The sample jobs of jobs/samples and the tool run as a program, for the tests that share them.
 #![allow(dead_code)]
 
 use std::fs;
+use std::io::Write;
 use std::path::{Path, PathBuf};
+use std::process::{Command, Stdio};
 
 pub const NAMES: [&str; 5] = ["case-a", "office", "office-full", "pilot", "pilot-first"];
 
@@ -17,4 +19,23 @@ pub fn bytes(name: &str, kind: &str) -> Vec<u8> {
 
 pub fn string(name: &str, kind: &str) -> String {
     String::from_utf8(bytes(name, kind)).unwrap()
+}
+
+/// What the tool writes, or what it complains of with a status of failure.
+pub fn run(arguments: &[&str], input: &[u8]) -> Result<Vec<u8>, String> {
+    let mut tool = Command::new(env!("CARGO_BIN_EXE_jobtool"))
+        .args(arguments)
+        .stdin(Stdio::piped())
+        .stdout(Stdio::piped())
+        .stderr(Stdio::piped())
+        .spawn()
+        .unwrap();
+    tool.stdin.take().unwrap().write_all(input).unwrap();
+    let output = tool.wait_with_output().unwrap();
+    if output.status.success() {
+        assert!(output.stderr.is_empty());
+        return Ok(output.stdout);
+    }
+    assert!(output.stdout.is_empty());
+    Err(String::from_utf8(output.stderr).unwrap())
 }

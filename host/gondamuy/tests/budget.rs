@@ -1,0 +1,222 @@
+//! Best so far, and how far off (request A.3), through the wrapper: worked jobs, the worked calls of host/vectors, and
+//! what a stopped search may say, held to all n! orders:
+//!
+//! - 300 worked calls, every field and, by its hash, every word of the pool;
+//! - 6,000 jobs of 1 to 5 stops under all choices, within every budget from 0 to one more than they need.
+
+mod common;
+
+use common::{choices, random_job};
+use gondamuy::raw::{self, Report};
+use gondamuy::{plan, plan_records, words, Bound, Counts, Job, Plan, Planned, Record, Refusal, Rules, Selection};
+use gondamuy::{Stopped, NO_BUDGET, RECORD_WORDS};
+use samples::Random;
+use witness::enumerate::least_cost;
+use witness::legs::Legs;
+
+/// Document 01's table T.
+const T: [u32; 16] = [0, 4, 7, 9, 5, 0, 2, 6, 3, 8, 0, 1, 6, 5, 4, 0];
+const CASE_B: Job = Job { n: 3, selection: Selection::Fifo, rules: Rules::NONE, bound: Bound::Plain };
+
+fn stopped(job: Job, table: &[u32], start: &[u8], budget: u64, pool: &mut [Record]) -> Stopped {
+    plan_records(job, table, start, budget, pool).unwrap().finished().unwrap_err()
+}
+
+fn counts([branched, generated, eliminated, active, most]: [u64; 5]) -> Counts {
+    Counts { branched, generated, eliminated, active, most }
+}
+
+#[test]
+fn worked_calls() {
+    for call in vectors::runs() {
+        let vectors::Run { n, selection, rules, bound, number, mark, cost, floor, order, .. } = call;
+        let [branched, generated, eliminated, active, most] = call.counts;
+        let told = Report { number, mark, cost, floor, order, branched, generated, eliminated, active, most };
+        let mut pool = call.pool();
+        let job = raw::Job { n, selection, rules, bound };
+        assert_eq!(raw::plan(job, &call.table, &call.start, call.budget, &mut pool), told, "{call:?}");
+        assert_eq!(vectors::fnv1a(&pool), call.words, "{call:?}");
+    }
+}
+
+#[test]
+fn case_b_at_once() {
+    let mut pool = [Record::default(); 6];
+    let at_once = stopped(CASE_B, &T, &[], 0, &mut pool);
+    assert_eq!(at_once, Stopped { floor: 0, known: None, counts: counts([0, 1, 0, 1, 1]) });
+    assert_eq!((at_once.far_off(), pool), (None, [Record::default(); 6]));
+    assert_eq!(at_once.to_string(), "stopped by its budget of 0: no order costs less than 0, and no order is known");
+}
+
+#[test]
+fn case_b_after_five_branchings() {
+    let mut pool = [Record::default(); 7];
+    let after = stopped(CASE_B, &T, &[], 5, &mut pool);
+    let known = after.known.unwrap();
+    assert_eq!((known.cost, known.order()), (13, &[1, 2, 3][..]));
+    assert_eq!((after.floor, after.far_off(), after.counts), (8, Some(5), counts([5, 11, 0, 6, 6])));
+    assert_eq!(pool[5], Record { size: 3, set: 7, path: 7, bound: 13, first: 0x210, second: 0 });
+    assert_eq!(pool[6], Record::default());
+    assert_eq!(
+        after.to_string(),
+        "stopped by its budget of 5: no order costs less than 8, and one that costs 13 is known"
+    );
+}
+
+/// The ninth branching leaves an order that costs the floor, and more than one active node: stopped, though off by 0.
+#[test]
+fn case_b_to_its_finish() {
+    let mut pool = [Record::default(); 6];
+    let nearly = stopped(CASE_B, &T, &[], 9, &mut pool);
+    assert_eq!((nearly.floor, nearly.far_off()), (13, Some(0)));
+    for budget in [10, 11, NO_BUDGET] {
+        let plan = plan_records(CASE_B, &T, &[], budget, &mut pool).unwrap().finished().unwrap();
+        assert_eq!((plan.cost, plan.order()), (13, &[1, 2, 3][..]));
+        assert_eq!(plan.counts, counts([10, 16, 0, 6, 6]));
+    }
+}
+
+/// In five records the fourth branching of case b does not fit: three branchings are stopped, four are refused.
+#[test]
+fn a_spent_budget_comes_before_a_full_pool() {
+    let mut pool = [Record::default(); 5];
+    assert_eq!(stopped(CASE_B, &T, &[], 3, &mut pool).counts, counts([3, 8, 0, 5, 5]));
+    for budget in [4, 10, NO_BUDGET] {
+        let refused = plan_records(CASE_B, &T, &[], budget, &mut pool).unwrap_err();
+        assert_eq!((refused.refusal, refused.counts), (Refusal::Full, counts([3, 8, 0, 5, 5])));
+    }
+}
+
+/// Where every leg is free an order costs 0, and so does knowing none.
+#[test]
+fn a_free_order_is_known() {
+    let job = Job { n: 2, ..CASE_B };
+    let mut pool = [Record::default(); 2];
+    assert_eq!(stopped(job, &[0; 9], &[], 1, &mut pool).known, None);
+    let known = stopped(job, &[0; 9], &[], 2, &mut pool).known.unwrap();
+    assert_eq!((known.cost, known.order()), (0, &[1, 2][..]));
+}
+
+/// An order that costs what the empty node's bound is needs no branching, and is a plan within every budget.
+#[test]
+fn finished_at_once() {
+    let mut pool = [Record::default(); 1];
+    for budget in [0, 1, NO_BUDGET] {
+        let plan = plan_records(CASE_B, &[0; 16], &[2, 3, 1], budget, &mut pool).unwrap().finished().unwrap();
+        assert_eq!((plan.cost, plan.order(), plan.counts), (0, &[2, 3, 1][..], counts([0, 1, 0, 1, 1])));
+    }
+}
+
+/// Number 0 is not enough: only number and mark together are read as finished.
+#[test]
+fn a_stopped_report_is_no_plan() {
+    let mut order = [0; 16];
+    order[0] = 1;
+    let told = Report { cost: 8, order, ..Report::default() };
+    let plan: Result<Plan, Stopped> = Planned::try_from(told).unwrap().finished();
+    assert!(told.is_finished() && plan.unwrap().cost == 8);
+    let told = Report { mark: raw::STOPPED, floor: 5, ..told };
+    let plan = Planned::try_from(told).unwrap().finished();
+    assert!(!told.is_finished() && plan.unwrap_err().far_off() == Some(3));
+    for number in 1..=7 {
+        let told = Report { number, ..Report::default() };
+        assert!(!told.is_finished());
+        assert_eq!(Planned::try_from(told).unwrap_err().refusal.number(), number);
+    }
+}
+
+#[test]
+#[should_panic(expected = "no search has the mark 2")]
+fn an_unknown_mark_is_no_plan() {
+    let _ = Planned::try_from(Report { mark: 2, ..Report::default() });
+}
+
+/// Whether an order has each of n stops once.
+fn is_order(order: &[u8], n: u32) -> bool {
+    let mut stops = order.to_vec();
+    stops.sort();
+    stops.into_iter().eq(1..=n as u8)
+}
+
+/// A job's answers within ever larger budgets: each is told in the records of `pool`, and the last one is a plan.
+struct Told {
+    stopped: Vec<Stopped>,
+    plan: Plan,
+}
+
+fn within_each_budget(job: Job, table: &[u32], start: &[u8], pool: &mut [u32]) -> Told {
+    let mut stopped = Vec::new();
+    for budget in 0.. {
+        match plan(job, table, start, budget, pool).unwrap() {
+            Planned::Stopped(answer) => stopped.push(answer),
+            Planned::Finished(plan) => return Told { stopped, plan },
+        }
+    }
+    unreachable!("every search ends");
+}
+
+/// The floor is no more than every order costs, and the known order is one and costs no less than the cheapest; with
+/// more branchings the floor never falls, and a known order is never lost for a dearer one.
+#[test]
+fn held_to_all_orders() {
+    let mut random = Random(91);
+    let (mut count, mut unknown, mut off, mut close) = (0, 0, 0, 0);
+    for round in 0..6_000 {
+        let n = 1 + random.below(if round % 10 == 0 { 5 } else { 4 }) as usize;
+        let most = random.pick(&[0, 1, 2, 9, 1_000, 1_000_000]);
+        let text = random_job(&mut random, n, most);
+        let job = Job::try_from(choices(&text)).unwrap();
+        let legs = Legs::new(n, &text.table);
+        let least = least_cost(&legs);
+        let mut pool = random.words(400 * RECORD_WORDS);
+        let told = within_each_budget(job, &text.table, &text.start, &mut pool);
+        let (mut floor, mut known) = (0, None);
+        for (budget, answer) in told.stopped.iter().enumerate() {
+            assert_eq!(answer.counts.branched, budget as u64, "{text:?}");
+            assert!(floor <= answer.floor && answer.floor <= least, "{budget} {text:?}");
+            floor = answer.floor;
+            assert!(answer.known.is_some() || (known.is_none() && text.start.is_empty()), "{budget} {text:?}");
+            count += 1;
+            let Some(order) = answer.known else {
+                unknown += 1;
+                continue;
+            };
+            let stops: Vec<usize> = order.order().iter().map(|&stop| stop.into()).collect();
+            assert!(is_order(order.order(), text.n) && legs.order_cost(&stops) == order.cost, "{budget} {text:?}");
+            assert!(least <= order.cost && known.is_none_or(|cost| order.cost <= cost), "{budget} {text:?}");
+            assert!(order.cost - least <= answer.far_off().unwrap(), "{budget} {text:?}");
+            known = Some(order.cost);
+            off += (order.cost > least) as u32;
+            close += (order.cost == answer.floor) as u32;
+        }
+        let Told { stopped, plan: found } = told;
+        assert_eq!((found.cost, found.counts.branched), (least, stopped.len() as u64), "{text:?}");
+        for budget in [found.counts.branched + 1, NO_BUDGET] {
+            let without = plan(job, &text.table, &text.start, budget, &mut pool).unwrap();
+            assert_eq!(without, Planned::Finished(found), "{text:?}");
+        }
+    }
+    assert!([unknown, off, close].iter().all(|&k| k > 2_000), "{count} {unknown} {off} {close}");
+}
+
+/// What stands in the pool is what a larger budget goes on from: the active nodes, whose least bound is the floor.
+#[test]
+fn the_floor_is_the_least_active_bound() {
+    let mut random = Random(92);
+    let mut seen = 0;
+    for _ in 0..2_000 {
+        let n = 1 + random.below(6) as usize;
+        let text = random_job(&mut random, n, 9);
+        let job = Job::try_from(choices(&text)).unwrap();
+        let mut pool = vec![Record::default(); 400];
+        words(&mut pool).copy_from_slice(&random.words(400 * RECORD_WORDS));
+        let budget = random.below(20);
+        let Ok(Planned::Stopped(answer)) = plan_records(job, &text.table, &text.start, budget, &mut pool) else {
+            continue;
+        };
+        let active = &pool[..answer.counts.active as usize];
+        assert_eq!(active.iter().map(|record| record.bound).min(), Some(answer.floor), "{text:?}");
+        seen += 1;
+    }
+    assert!(seen > 500, "{seen}");
+}

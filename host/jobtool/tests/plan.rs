@@ -1,0 +1,172 @@
+//! `jobtool plan` run as a program: what it says of searches that finish, that a budget stops and that are refused.
+
+mod common;
+
+use common::{bytes, run, string, NAMES};
+use jobtext::parse;
+use witness::job_file::Contents;
+use witness::{Report, Request, LARGEST_BUDGET, WORDS};
+
+/// Document 01's table T.
+const T: &str = "stops 3\ntable\n0 4 7 9\n5 0 2 6\n3 8 0 1\n6 5 4 0\n";
+
+/// Document 01's case b: earliest first, no rules, plain.
+fn case_b() -> String {
+    format!("{T}selection FIFO\nrules none\nbound plain\n")
+}
+
+/// What `plan` prints, or complains of, with some words behind it.
+fn plan(words: &[&str], job: &[u8]) -> Result<String, String> {
+    let output = run(&[&["plan"], words].concat(), job)?;
+    Ok(String::from_utf8(output).unwrap())
+}
+
+const OF_B: &str = "finished after 10 branchings\na cheapest order costs 13: 1 2 3\n\
+                    branched 10, generated 16, eliminated 0, active 6, most 6\n";
+
+#[test]
+fn finished() {
+    let largest = LARGEST_BUDGET.to_string();
+    for words in [&[][..], &["budget", "10"], &["budget", &largest], &["records", "6"]] {
+        assert_eq!(plan(words, case_b().as_bytes()).unwrap(), OF_B, "{words:?}");
+    }
+    let one = "stops 1\ntable\n0 3\n5 0\nselection 0\nrules 0\nbound 0\n";
+    let told = "finished after 1 branching\na cheapest order costs 8: 1\n\
+                branched 1, generated 2, eliminated 0, active 1, most 1\n";
+    assert_eq!(plan(&[], one.as_bytes()).unwrap(), told);
+}
+
+#[test]
+fn stopped() {
+    let after = |budget| plan(&["budget", budget], case_b().as_bytes()).unwrap();
+    assert_eq!(
+        after("0"),
+        "stopped after 0 branchings, before the search was finished\nno order costs less than 0\n\
+         no order is known so far\nbranched 0, generated 1, eliminated 0, active 1, most 1\n"
+    );
+    assert_eq!(
+        after("5"),
+        "stopped after 5 branchings, before the search was finished\nno order costs less than 8\n\
+         the order known so far costs 13: 1 2 3\nanother order saves 5 at most\n\
+         branched 5, generated 11, eliminated 0, active 6, most 6\n"
+    );
+    assert!(after("1").starts_with("stopped after 1 branching, before the search was finished\n"));
+    assert!(after("9").contains("\nanother order saves 0 at most\n"));
+}
+
+/// Nobody reads that an order is the best of all from a search that did not finish.
+#[test]
+fn a_stopped_search_calls_no_order_cheapest() {
+    for budget in 0..10 {
+        let text = plan(&["budget", &budget.to_string()], case_b().as_bytes()).unwrap();
+        assert!(text.starts_with("stopped after "), "{text}");
+        assert!(["cheapest", "best", "finished after"].iter().all(|word| !text.contains(word)), "{text}");
+    }
+    assert!(!OF_B.contains("stopped"));
+}
+
+#[test]
+fn a_full_pool_with_its_counts() {
+    let told = "refused 7: the pool is full\nbranched 3, generated 8, eliminated 0, active 5, most 5\n";
+    for words in [&["records", "5"][..], &["records", "5", "budget", "4"], &["budget", "9", "records", "5"]] {
+        assert_eq!(plan(words, case_b().as_bytes()).unwrap_err(), told, "{words:?}");
+    }
+    // The budget is looked at first.
+    let spent = plan(&["budget", "3", "records", "5"], case_b().as_bytes()).unwrap();
+    assert!(spent.starts_with("stopped after 3 branchings"), "{spent}");
+}
+
+/// The pool is no line of the text's, and is looked at last.
+#[test]
+fn refused_texts() {
+    let refused = |old, new, words: &[&str]| plan(words, case_b().replace(old, new).as_bytes()).unwrap_err();
+    let no_pool = "refused 6: the pool has no whole record, or a part record\n";
+    assert_eq!(plan(&["records", "0"], case_b().as_bytes()).unwrap_err(), no_pool);
+    for words in [&[][..], &["budget", "0"], &["records", "0"]] {
+        let leg = "line 3: refused 3: a leg is above 1,000,000 or a diagonal entry is not 0\n";
+        assert_eq!(refused("0 4 7 9", "0 4 7 1000001", words), leg);
+        assert!(refused("FIFO", "4", words).starts_with("line 7: refused 4:"));
+        assert!(refused("plain\n", "plain\nstart 2 2 1\n", words).starts_with("line 10: refused 5:"));
+        assert_eq!(refused("5 0 2 6", "5 0 x 6", words), "line 4: `x` is no number of a leg\n");
+        let none = "stops 0\ntable\n0\nselection 4\nrules 0\nbound 0\n";
+        assert!(plan(words, none.as_bytes()).unwrap_err().starts_with("line 1: refused 1:"));
+    }
+    assert_eq!(plan(&[], b"").unwrap_err(), "line 1: the text ends without `stops`\n");
+    assert_eq!(plan(&[], &[0xff]).unwrap_err(), "the input is no text\n");
+}
+
+#[test]
+fn files() {
+    let file = run(&["write"], case_b().as_bytes()).unwrap();
+    assert_eq!(plan(&[], &file).unwrap(), OF_B);
+    let words = ["budget", "5", "records", "6"];
+    assert_eq!(plan(&words, &file), plan(&words, case_b().as_bytes()));
+    assert!(plan(&["records", "0"], &file).unwrap_err().starts_with("refused 6:"));
+    assert!(plan(&["records", "5"], &file).unwrap_err().starts_with("refused 7: the pool is full\nbranched 3,"));
+    assert_eq!(plan(&[], &[0; 12]).unwrap_err(), "refused 8: the file is shorter than 13 bytes\n");
+    assert!(plan(&[], &[&file[..], &[0]].concat()).unwrap_err().starts_with("refused 1:"));
+    assert!(plan(&[], &[&[0], &file[..]].concat()).unwrap_err().starts_with("refused 9:"));
+}
+
+/// What the second planner says of a sample's job, in 2,000 records.
+fn told(name: &str, budget: u64) -> (Report, u32) {
+    let job = parse(&string(name, "txt")).unwrap().job;
+    let contents = Contents::from(&job);
+    let request = Request { budget, ..contents.request() };
+    (witness::plan(&request, &mut vec![0; 2_000 * WORDS]), job.n)
+}
+
+/// Texts and files, without a budget and stopped, as the second planner has them.
+#[test]
+fn samples() {
+    for name in NAMES {
+        for budget in [0, 1, 60, LARGEST_BUDGET] {
+            let (report, n) = told(name, budget);
+            let number = budget.to_string();
+            let words = if budget == LARGEST_BUDGET { vec![] } else { vec!["budget", &number] };
+            let said = plan(&words, &bytes(name, "job"));
+            assert_eq!(plan(&words, &bytes(name, "txt")), said, "{name} {budget}");
+            let stops: String = report.order[..n as usize].iter().map(|stop| format!(" {stop}")).collect();
+            let Report { cost, floor, branched, .. } = report;
+            let begins = match (report.number, report.mark) {
+                (0, 0) => format!("finished after {branched} branchings\na cheapest order costs {cost}:{stops}\n"),
+                (0, _) => format!("before the search was finished\nno order costs less than {floor}\n"),
+                _ => format!("refused {}", report.number),
+            };
+            let text = match report.number {
+                0 => said.unwrap(),
+                _ => said.unwrap_err(),
+            };
+            assert!(text.contains(&begins), "{name} {budget}: {text}");
+            let shown = format!("\nthe order known so far costs {cost}:{stops}\n");
+            assert_eq!(text.contains(&shown), report.mark == 1 && report.order[0] != 0, "{name} {budget}: {text}");
+            let [branched, generated, eliminated, active, most] = report.counts();
+            let counts = format!(
+                "branched {branched}, generated {generated}, eliminated {eliminated}, active {active}, most {most}\n"
+            );
+            assert!(text.ends_with(&counts), "{name} {budget}: {text}");
+        }
+    }
+}
+
+#[test]
+fn arguments() {
+    let none = [
+        &["budget"][..],
+        &["records"],
+        &["5"],
+        &["budget", "x"],
+        &["budget", "-1"],
+        &["budget", "18446744073709551616"],
+        &["records", "6", "budget"],
+        &["budget", "5", "budget", "5"],
+        &["records", "6", "records", "6"],
+        &["pool", "6"],
+    ];
+    for words in none {
+        assert!(plan(words, b"").unwrap_err().starts_with("jobtool write < TEXT > FILE\n"), "{words:?}");
+    }
+    let many = u64::MAX.to_string();
+    let told = format!("no memory for {many} records\n");
+    assert_eq!(plan(&["records", &many], case_b().as_bytes()).unwrap_err(), told);
+}
