@@ -1,25 +1,26 @@
 -- Request A.3 of the written run, as far as it speaks of one call.
 --   stopped-as-written, otherwise-zero, marked-iff, exact-budget    when the mark comes, and what stands beside it
---   order-shown, best-between                                       the order shown, the floor and the best of all orders
+--   order-shown, floor-holds, best-exists, best-between             the order shown, the floor and the best of all orders
 --   no-run-reaches                                                  the largest 64-bit number
-use mathlib.Core.Path.{_≡_, refl, sym, _∙_, ap}
+use mathlib.Core.Path.{_≡_, refl, sym, _∙_, ap, subst}
+use mathlib.Core.List.{List, [], _∷_, List·Memᴰ·not-nil}
 use mathlib.Core.Logic.{_⊎_, inl, inr}
 use mathlib.Core.Option.{Option}
 use Prim.Native.Nat.{ℕ, _≤_, _<_}
 use native.Mathlib.Omega.{arith}
 use lib.ListN.{length, take}
 use Rattle.sizes.specs.Sizes.{mostStops, orderPlaces, noBudget}
-use Rattle.lists.specs.Lists.{padded}
-use Rattle.lists.proofs.Numbers.{least-le}
+use Rattle.lists.specs.Lists.{In, padded}
+use Rattle.lists.proofs.Numbers.{least-le, least-in}
 use Rattle.search.specs.Problem.{State}
 use Rattle.search.proofs.Plain.{tree, planOf, cutOf}
-use Rattle.search.proofs.Optimal.{floor-holds}
+use Rattle.search.proofs.Optimal.{floor-holds as active-below}
 use Rattle.search.proofs.Bounded.{Bounded, counts-bounded}
 use Rattle.search.proofs.Budget.{exact-budget as budget-branched}
-use Rattle.orders.specs.Orders.{Node, size, Order}
+use Rattle.orders.specs.Orders.{Node, stops, size, Order, orders}
 use Rattle.orders.proofs.Tree.{nodes-rise}
-use Rattle.orders.proofs.Order.{order-complete, order-leads}
-use Rattle.orders.proofs.Orders.{orders-in}
+use Rattle.orders.proofs.Order.{stops-order, order-complete, order-leads}
+use Rattle.orders.proofs.Orders.{orders-in, in-orders}
 use Rattle.days.specs.Days.{problem, choices}
 use Rattle.records.specs.Records.{recordsIn}
 use Rattle.answer.specs.Call.{Call, Answer, refusal}
@@ -28,7 +29,7 @@ use Rattle.answer.specs.Checks.{cause}
 use Rattle.answer.specs.Answer.{dayOf, problemOf, choicesOf, given, StateOf, stopsOf, costOf, floorOf, reportWith, ending}
 use Rattle.answer.specs.Ends.{ComesTo, StoppedAt, orderIn, Ended, planned, halted, filled, refused}
 use Rattle.answer.specs.Demands.{written}
-use Rattle.answer.specs.Budget.{MarkedIff, StoppedAsWritten, OtherwiseZero, ExactBudget, ShowsOrder, OrderShown, NoneShown, Shown, Between, NoRunReaches}
+use Rattle.answer.specs.Budget.{MarkedIff, StoppedAsWritten, OtherwiseZero, ExactBudget, ShowsOrder, OrderShown, NoneShown, Shown, FloorHolds, BestCost, BestExists, Between, NoRunReaches}
 use Rattle.answer.proofs.Passes.{Passes, passes}
 use Rattle.answer.proofs.Instance.{weight, call-weighs, root-light, call-lawful, bound-laws, selection-small, call-solvable, start-known, state-reached}
 use Rattle.answer.proofs.Known.{BestKnown, unknown, known, best-known}
@@ -97,19 +98,41 @@ unfolding floorOf problemOf problem
 floor-below c passed s steps y o =
     let ok : Passes c = passes c passed in
     let (x, m, low) =
-    floor-holds (tree (problemOf c)) (planOf (problemOf c) (choicesOf c)) (cutOf (choicesOf c)) (recordsIn (c .pool)) (size (c .job .n)) (c .job .n)
+    active-below (tree (problemOf c)) (planOf (problemOf c) (choicesOf c)) (cutOf (choicesOf c)) (recordsIn (c .pool)) (size (c .job .n)) (c .job .n)
     (call-lawful c ok) (bound-laws c ok) (given (c .start)) (start-known c ok) (call-solvable c ok) s (state-reached c ok steps) y
     (order-complete (c .job .n) y o) (order-leads (c .job .n) (problemOf c) (λ z. refl) y o) in
     omega (arith, least-le (choicesOf c .bound) (s .active) x m)
 
-pub best-between : Between written
+pub floor-holds : FloorHolds written
 unfolding reportWith
+floor-holds c a e m y i =
+    let f : StoppedAt c a = stopped-as-written c a e m in
+    rw (f .reported) (floor-below c (f .comes .passed) (f .comes .state) (f .comes .steps) y (in-orders (c .job .n) y i))
+
+pub best-exists : BestExists
+best-exists c = at (orders (c .job .n)) refl
+  where
+    at : (xs : List Node) → orders (c .job .n) ≡ xs → (v : ℕ) × BestCost c v
+    at [] e =
+        absurd
+        (List·Memᴰ·not-nil
+        (subst (λ (l : List Node). In (stops (c .job .n)) l) e (orders-in (c .job .n) (stops (c .job .n)) (stops-order (c .job .n)))))
+    at (y ∷ ys) e =
+        let (x, m, q) = least-in (dayOf c .cost) y ys in (
+          dayOf c .cost x,
+          record {
+            order = x;
+            is-order = in-orders (c .job .n) x (subst (λ (l : List Node). In x l) (sym e) m);
+            costs = refl;
+            least = λ z i. omega (arith, least-le (dayOf c .cost) (y ∷ ys) z (subst (λ (l : List Node). In z l) e i));
+          },
+        )
+
+pub best-between : Between written
 best-between c a e m v best = (floor, λ shows. at shows (order-shown c a e m))
   where
     floor : a .report .floor ≤ v
-    floor =
-        let f : StoppedAt c a = stopped-as-written c a e m in
-        rw (f .reported, best .costs) (floor-below c (f .comes .passed) (f .comes .state) (f .comes .steps) (best .order) (best .is-order))
+    floor = rw (best .costs) (floor-holds c a e m (best .order) (orders-in (c .job .n) (best .order) (best .is-order)))
 
     at : ShowsOrder (a .report) → OrderShown c (a .report) ⊎ NoneShown (a .report) → v ≤ a .report .cost
     at shows (inl o) = rw (o .cost-is-its) (best .least (orderIn c (a .report)) (orders-in (c .job .n) (orderIn c (a .report)) (o .is-order)))

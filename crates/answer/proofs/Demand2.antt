@@ -8,7 +8,7 @@ use Rattle.search.proofs.Counts.{counts-agree}
 use Rattle.records.specs.Records.{recordsIn}
 use Rattle.answer.specs.Call.{Call, Answer, refusal}
 use Rattle.answer.specs.Answer.{problemOf, choicesOf, given, reportWith, ending, answer}
-use Rattle.answer.specs.Ends.{Finishes, FinishTestHolds, BudgetIsSpent, NextDoesNotFit, Ends, ComesTo, made}
+use Rattle.answer.specs.Ends.{Finishes, FinishTestHolds, NextDoesNotFit, Ends, ComesTo, made}
 use Rattle.answer.specs.Demands.{written, RunIsWritten, CountsBalance, FullIff}
 use Rattle.answer.specs.Document01.{StatesBalance, FinishedIff, BranchedAreSteps}
 use Rattle.answer.proofs.Passes.{passes}

@@ -19,6 +19,7 @@ use Rattle.answer.specs.Call.{Call}
 use Rattle.answer.specs.declared.Job.{Job}
 use Rattle.answer.specs.Checks.{cause₁, cause₂, cause₃, cause₄, cause₅, cause₆, isEmpty, orLater, tableCause, jobCause, cause}
 use Rattle.answer.specs.Cases
+use Rattle.answer.specs.BudgetCases
 
 pub record TablePasses (n : ℕ) (table : List ℕ) : Type 0 where
   pub some : 1 ≤ n

@@ -2,7 +2,7 @@
 -- each, of the written run, and crate `planner` one of what the code returns. That costs of two finished runs are equal and how A is held
 -- against B are `OneCost` and `Favours` of `Demands`.
 --   MarkedIff, StoppedAsWritten, OtherwiseZero, ExactBudget    when the mark comes, and what stands beside it
---   Between, Shown                                             the floor, the best of all orders and the order shown
+--   Shown, FloorHolds, BestExists, Between                     the order shown, the floor and the best of all orders
 --   LargerBudget                                               of two stopped runs of one job
 --   BudgetPlaysNoPart, NoRunReaches                            where the budget does not stop the run, and the largest 64-bit number
 use mathlib.Core.Path.{_≡_}
@@ -51,12 +51,21 @@ NoneShown r = (r .order ≡ replicate orderPlaces 0) × (r .cost ≡ 0)
 abbrev pub Shown : Planner → Type 0
 Shown P = (c : Call) (a : Answer) → P c a → a .report .mark ≡ 1 → OrderShown c (a .report) ⊎ NoneShown (a .report)
 
+-- Every order costs at least the floor.
+abbrev pub FloorHolds : Planner → Type 0
+FloorHolds P =
+    (c : Call) (a : Answer) → P c a → a .report .mark ≡ 1 → (y : Node) → In y (orders (c .job .n)) → a .report .floor ≤ dayOf c .cost y
+
 -- v is what the best of all orders costs.
 pub record BestCost (c : Call) (v : ℕ) : Type 0 where
   pub order : Node
   pub is-order : Order (c .job .n) order
   pub costs : v ≡ dayOf c .cost order
   pub least : (y : Node) → In y (orders (c .job .n)) → v ≤ dayOf c .cost y
+
+-- Some order is the best of all.
+abbrev pub BestExists : Type 0
+BestExists = (c : Call) → (v : ℕ) × BestCost c v
 
 -- The best of all orders costs at least the floor and, if an order is shown, at most that order.
 abbrev pub Between : Planner → Type 0

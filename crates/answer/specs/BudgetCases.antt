@@ -1,6 +1,6 @@
 -- Cases of request A.3: calls with a budget, worked out by hand on document 01's table T and by the second planner (`budget-cases-hold`).
-use mathlib.Core.Path.{_≡_, refl}
-use mathlib.Core.List.{List, [], _∷_, _++_}
+use mathlib.Core.Path.{refl}
+use mathlib.Core.List.{List, [], _∷_}
 use Prim.Native.Nat.{ℕ}
 use lib.ListN.{replicate}
 use Rattle.sizes.specs.Sizes.{orderPlaces, recordWords}

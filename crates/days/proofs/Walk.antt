@@ -16,14 +16,13 @@ use lib.Dec.{T, eqb}
 use lib.ListN.{length}
 use Rattle.sizes.specs.Sizes.{aboveEveryCost}
 use Rattle.lists.specs.Lists.{In, without, Distinct}
-use Rattle.lists.proofs.Members.{distinct-from}
 use Rattle.search.proofs.Laws.{Leads, stay, down, Good, Lawful, BoundLaws, Weighs, Solvable}
 use Rattle.search.proofs.Plain.{tree}
 use Rattle.orders.specs.Orders.{Node, stops, setOf, left, size, complete, extend, children, Order, nodes}
-use Rattle.orders.proofs.Sets.{in-stops, stops-in, distinct-left, left-extend, child-extends, extend-child, set-same-left, set-extend-same}
+use Rattle.orders.proofs.Sets.{distinct-left, left-extend, child-extends, extend-child, set-same-left, set-extend-same}
 use Rattle.orders.proofs.Tree.{complete-size, complete-left, tree-sized, tree-weighs}
 use Rattle.orders.proofs.Partial.{partial-root, partial-size}
-use Rattle.orders.proofs.Order.{order-complete, order-leads}
+use Rattle.orders.proofs.Order.{stops-order, order-complete, order-leads}
 use Rattle.days.specs.Days.{Day, problem}
 use Rattle.days.specs.Code.{Reckoning}
 
@@ -159,10 +158,7 @@ pub day-solvable : (n : ℕ) (D : Day) → ((x : Node) → Order n x → D .cost
 unfolding problem
 day-solvable n D below = (
   stops n,
-  order-complete n (stops n) ascending,
-  order-leads n (problem n D) (λ x. refl) (stops n) ascending,
-  below (stops n) ascending,
+  order-complete n (stops n) (stops-order n),
+  order-leads n (problem n D) (λ x. refl) (stops n) (stops-order n),
+  below (stops n) (stops-order n),
 )
-  where
-    ascending : Order n (stops n)
-    ascending = record { once = distinct-from 1 n; only = in-stops n; every = stops-in n }

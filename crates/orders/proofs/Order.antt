@@ -10,7 +10,7 @@ use lib.Dec.{T, T-not, eqb, eqb→eq, eqb-refl}
 use lib.ListN.{length, getD, set}
 use Rattle.lists.specs.Lists.{In, put, keep, all, Distinct, none, more}
 use Rattle.lists.proofs.Tests.{and-left, and-right, and-both, not-not, to-true}
-use Rattle.lists.proofs.Members.{in-head, in-keep, keep-in, all-in, in-all}
+use Rattle.lists.proofs.Members.{in-head, in-keep, keep-in, all-in, in-all, distinct-from}
 use Rattle.lists.proofs.Empty.{in-nonempty, no-members}
 use Rattle.lists.proofs.Numbers.{keep-parts}
 use Rattle.lists.proofs.Distinct.{length-without}
@@ -20,6 +20,10 @@ use Rattle.orders.specs.Orders.{Node, stops, flown, left, complete, chil
 use Rattle.orders.proofs.Sets.{in-stops, stops-in, in-flown, flown-in, in-left, left-in}
 use Rattle.orders.proofs.Tree.{complete-size, size-complete, complete-left, left-complete}
 use Rattle.orders.proofs.Partial.{partial-root, partial-size, partial-leads, leads-partial}
+
+-- the stops as they are numbered are an order
+pub stops-order : (n : ℕ) → Order n (stops n)
+stops-order n = record { once = distinct-from 1 n; only = in-stops n; every = stops-in n }
 
 -- an order is a complete partial order
 pub order-partial : (n : ℕ) (x : Node) → Order n x → Partial n x

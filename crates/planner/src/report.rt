@@ -52,7 +52,8 @@ pub fn finished(n: u32, r: Run) -> Report
     ensures { λ q. ⌜ q ≡ finishedBy n r ⌝ }
 {
     let best = r.best;
-    ended(0, 0, best.upper, 0, stops_of(n, best.first, best.second), r)
+    let order = stops_of(n, best.first, best.second);
+    ended(0, 0, best.upper, 0, order, r)
 }
 
 // Of a run that the budget stopped: mark 1, the floor, and the best order known with its cost, or zeros while none is known.
@@ -64,14 +65,8 @@ pub fn stopped(n: u32, floor: u32, r: Run) -> Report
     if best.upper == ABOVE_EVERY_COST {
         return ended(0, 1, 0, floor, [0u8; ORDER_PLACES], r);
     }
-    ended(
-        0,
-        1,
-        best.upper,
-        floor,
-        stops_of(n, best.first, best.second),
-        r,
-    )
+    let order = stops_of(n, best.first, best.second);
+    ended(0, 1, best.upper, floor, order, r)
 }
 
 // Of a run that filled the pool: number 7, and zeros beside the counts.

@@ -1,14 +1,11 @@
 -- The budget of document 02, A.3. A step looks neither at the budget nor at the pool: these only say where a run breaks off. So runs that
 -- differ in nothing else go through the same states, one of them at least as far as the other.
 --   withBudget                       choices with another budget
---   steps-within, exact-budget       no state has more branchings than the budget; where the budget stops a run, there are exactly as many
---   upper-never-rises, best-never-dearer    along a run U does not rise; once an order is known, one is known that costs no more
---   never-spent                      a budget above the weight of the root is never spent
+--   exact-budget                     where the budget stops a run, there are as many branchings as it has
+--   best-never-dearer                once an order is known, one is known that costs no more
 --   halts-active                     where the budget stops a run, a node is active
---   floor-never-falls, least-never-falls    a number that no active node's bound is below stays one; so their least bound does not fall
---   steps-loosen                     steps are steps too under a larger budget and in a larger pool
+--   least-never-falls                the least bound among active nodes does not fall
 --   larger-same                      a run that is not stopped ends the same under a larger budget
---   steps-same, steps-after          of two states of such runs, that with more branchings comes after the other; with as many it is the other
 --   stopped-after                    the state at which a larger budget stops comes after every state of the run with the smaller one
 use mathlib.Core.Path.{_≡_, refl, sym, _∙_, subst}
 use mathlib.Core.Bool.{Bool, true, false, _&&_}
@@ -22,12 +19,11 @@ use lib.ListN.{length, length-append}
 use Rattle.lists.specs.Lists.{In, least}
 use Rattle.lists.proofs.Tests.{tests, ordered}
 use Rattle.lists.proofs.Numbers.{least-le, least-in}
-use Rattle.search.specs.Problem.{Problem, Choices, State, upper, start}
+use Rattle.search.specs.Problem.{Problem, Choices, State, start}
 use Rattle.search.specs.Selection.{Choice, nothing, chosen, select, finishes}
 use Rattle.search.specs.Step.{replace, learn, children₁, best₂, over₃, children₃, rest₃, dominated₄, children₄, dominated₅, children₅, dominated₆, rest₆, active₇, step}
 use Rattle.search.specs.Run.{Next, finish, halt, overflow, go, stopped, unless, ifAllowed, fitting, decide, next, follow, run, Stepped, Steps, none, more, Halts}
 use Rattle.search.proofs.General.{move}
-use Rattle.search.proofs.Laws.{Weighs}
 use Rattle.search.proofs.Pick.{Picked, picked-of, picked-in, rest-in}
 use Rattle.search.proofs.Verdict.{reached-keeps}
 use Rattle.search.proofs.Learn.{learn-le}
@@ -35,7 +31,6 @@ use Rattle.search.proofs.Move.{next-active}
 use Rattle.search.proofs.PlainSelection.{select-is-pick}
 use Rattle.search.proofs.Plain.{tree, planOf, cutOf}
 use Rattle.search.proofs.Outcome.{steps-reached}
-use Rattle.search.proofs.Bounded.{counts-bounded}
 
 abbrev pub withBudget : {N : Type 0} → Choices N → ℕ → Choices N
 withBudget C k = record { selection = C .selection; rules = C .rules; bound = C .bound; budget = k }
@@ -58,7 +53,7 @@ module _ {N : Type 0} (P : Problem N) (C : Choices N) (capacity : ℕ) where
   steps-grow none = omega arith
   steps-grow (more r h) = omega (arith, steps-grow r, stepped-adds h)
 
-  pub steps-within : {s e : State N} → Steps P C capacity s e → length (s .branched) ≤ C .budget → length (e .branched) ≤ C .budget
+  steps-within : {s e : State N} → Steps P C capacity s e → length (s .branched) ≤ C .budget → length (e .branched) ≤ C .budget
   steps-within none low = low
   steps-within (more r h) low = omega (arith, stepped-adds h)
 
@@ -66,11 +61,6 @@ module _ {N : Type 0} (P : Problem N) (C : Choices N) (capacity : ℕ) where
       (best : Option N) {e : State N} → Steps P C capacity (start P best) e → Halts P C capacity e → length (e .branched) ≡ C .budget
   unfolding start
   exact-budget best r h = omega (arith, steps-within r (omega arith))
-
-  pub upper-never-rises : {s e : State N} → Steps P C capacity s e → upper P (e .best) ≤ upper P (s .best)
-  unfolding step best₂ children₁
-  upper-never-rises none = omega arith
-  upper-never-rises (more {s′} r h) = rw (h .steps) (omega (arith, upper-never-rises r, learn-le P (s′ .best) (P .children (h .b))))
 
   pub best-never-dearer :
       {s e : State N} → Steps P C capacity s e → (x : N) → s .best ≡ some x → (y : N) × (e .best ≡ some y) × (P .cost y ≤ P .cost x)
@@ -83,11 +73,6 @@ module _ {N : Type 0} (P : Problem N) (C : Choices N) (capacity : ℕ) where
       (z, cc, omega arith)
 
   module _ (known : C .selection ≤ 3) where
-    pub never-spent :
-        {weight : N → ℕ} → Weighs P weight → weight (P .root) < C .budget → (best : Option N) {e : State N}
-        → Steps P C capacity (start P best) e → Halts P C capacity e → ⊥
-    never-spent weighs large best r h = omega (arith, counts-bounded P C capacity weighs best known r)
-
     pub halts-active : {e : State N} (h : Halts P C capacity e) → In (h .b) (e .active)
     unfolding select
     halts-active {e} h =
@@ -110,7 +95,7 @@ module _ {N : Type 0} (P : Problem N) (C : Choices N) (capacity : ℕ) where
           at (inl i) = h x (rest-in p x i)
           at (inr i) = omega (arith, grows b x i, h b (picked-in p))
 
-      pub floor-never-falls : (f : ℕ) {s e : State N} → Steps P C capacity s e → Floor f s → Floor f e
+      floor-never-falls : (f : ℕ) {s e : State N} → Steps P C capacity s e → Floor f s → Floor f e
       floor-never-falls f r =
           reached-keeps (tree P) (planOf P C) (cutOf C) capacity (Floor f)
           (λ s b rest e goes h. move-keeps f s b rest (picked-of (planOf P C .rank) (planOf P C .late) (s .active) b rest e) h)
@@ -136,21 +121,6 @@ module _ {N : Type 0} (P : Problem N) (C : Choices N) (capacity k : ℕ) where
   step-same : (s : State N) (b : N) (rest : List N) → step P D s b rest ≡ step P C s b rest
   unfolding step active₇ rest₆ dominated₆ children₅ dominated₅ children₄ dominated₄ rest₃ children₃ over₃ best₂ children₁
   step-same s b rest = refl
-
-  pub steps-loosen : {q : ℕ} → C .budget ≤ k → capacity ≤ q → {s e : State N} → Steps P C capacity s e → Steps P D q s e
-  unfolding select finishes
-  steps-loosen longer larger none = none
-  steps-loosen longer larger (more {s′} r h) =
-      more (steps-loosen longer larger r)
-      (record {
-        b = h .b;
-        rest = h .rest;
-        selects = h .selects;
-        goes = h .goes;
-        allows = omega arith;
-        fits = rw step-same (omega arith);
-        steps = h .steps ∙ sym (step-same s′ (h .b) (h .rest));
-      })
 
   -- Unless the budget of C is spent, the same comes next under a larger one.
   next-same : C .budget ≤ k → (s : State N) → (next P C capacity s ≡ halt) ⊎ (next P D capacity s ≡ next P C capacity s)
@@ -202,7 +172,7 @@ module _ {N : Type 0} (P : Problem N) (C : Choices N) (capacity k : ℕ) where
   unfolding select
   stepped-same {s} e h h′ = cc (step-same s (h .b) (h .rest))
 
-  pub steps-same :
+  steps-same :
       {q : ℕ} {s e f : State N} → Steps P C capacity s e → Steps P D q s f → length (e .branched) ≡ length (f .branched) → e ≡ f
   steps-same none none l = refl
   steps-same {q} none (more r h) l = absurd (omega (arith, steps-grow P D q r, stepped-adds P D q h))
@@ -210,7 +180,7 @@ module _ {N : Type 0} (P : Problem N) (C : Choices N) (capacity k : ℕ) where
   steps-same {q} (more r h) (more r′ h′) l =
       stepped-same (steps-same r r′ (omega (arith, stepped-adds P C capacity h, stepped-adds P D q h′))) h h′
 
-  pub steps-after :
+  steps-after :
       {q : ℕ} {s e f : State N} → Steps P C capacity s e → Steps P D q s f → length (e .branched) ≤ length (f .branched) → Steps P D q e f
   steps-after {q} {e} r none l = subst (Steps P D q e) (steps-same {q = q} r none (omega (arith, steps-grow P C capacity r))) none
   steps-after {q} {e} {f} r (more {s′} r′ h) l = at (ordered (length (e .branched)) (length (s′ .branched))) (steps-after r r′)

@@ -1,5 +1,6 @@
 -- `turn_at` meets its contract: each of its four answers is what comes next of the state (`TurnLaws`).
 use mathlib.Core.Path.{_≡_}
+use native.Mathlib.Omega.{arith}
 use borrow.Author.Needs.{needs}
 use Rattle.search.specs.Problem.{State}
 use Rattle.stops.specs.declared.node_record.Record.{Record}
@@ -34,7 +35,8 @@ returns-2 : tie.Need-returns-2
 returns-2 c first s running =
     let left = goes (c .before) in
     let l = loaded (left .before) in
-    turn-stops running (entry l .pre .0 .0) (l .load .ensures) (left .before .finishes .ensures) (left .if1 .left) (c .if2 .taken)
+    turn-stops running (entry l .pre .0 .0) (l .load .ensures) (left .before .finishes .ensures) (left .if1 .left)
+    (omega (arith, c .if2 .taken))
 
 step-requires : tie.Need-step-requires
 step-requires c κs =
@@ -57,7 +59,8 @@ returns-3 c first s running =
     let stepped = c .before .before .before .before .before .before in
     let left = goes (allowed stepped .before) in
     let l = loaded (left .before) in
-    turn-full running (entry l .pre .0 .0) (l .load .ensures) (left .before .finishes .ensures) (left .if1 .left) (allowed stepped .if2 .left)
+    turn-full running (entry l .pre .0 .0) (l .load .ensures) (left .before .finishes .ensures) (left .if1 .left)
+    (omega (arith, allowed stepped .if2 .left))
     (stepping stepped _ (c .enum-told .given .1) (recordsOf _ _ s) (running .shows))
 
 returns-4 : tie.Need-returns-4
@@ -66,7 +69,8 @@ returns-4 c first s running =
     let stepped = known .before .before .before .before .before .before in
     let left = goes (allowed stepped .before) in
     let l = loaded (left .before) in
-    turn-goes running (entry l .pre .0 .0) (l .load .ensures) (left .before .finishes .ensures) (left .if1 .left) (allowed stepped .if2 .left)
+    turn-goes running (entry l .pre .0 .0) (l .load .ensures) (left .before .finishes .ensures) (left .if1 .left)
+    (omega (arith, allowed stepped .if2 .left))
     (stepping stepped _ (known .after .given .1) (recordsOf _ _ s) (running .shows))
 
 pub turn-at-spec : {M : Type 1} → statement M
