@@ -7,6 +7,9 @@ use answer::Report;
 use first_answer::FirstOrder;
 use sizes::ORDER_PLACES;
 
+// The number of a report whose run filled the pool.
+const POOL_FULL: u32 = 7;
+
 pub enum Verdict {
     Best,
     Full,
@@ -14,7 +17,7 @@ pub enum Verdict {
 }
 
 // Whether generated = branched + eliminated + active.
-fn adds_up(generated: u64, branched: u64, eliminated: u64, active: u64) -> bool {
+pub fn adds_up(generated: u64, branched: u64, eliminated: u64, active: u64) -> bool {
     if generated < branched {
         return false;
     }
@@ -26,7 +29,7 @@ fn adds_up(generated: u64, branched: u64, eliminated: u64, active: u64) -> bool 
 }
 
 // Whether x has zeros alone from place n on.
-fn zeros(x: &[u8; ORDER_PLACES], n: usize) -> bool {
+pub fn zeros(x: &[u8; ORDER_PLACES], n: usize) -> bool {
     let mut i = n;
     while i < ORDER_PLACES {
         if x[i] != 0 {
@@ -38,7 +41,7 @@ fn zeros(x: &[u8; ORDER_PLACES], n: usize) -> bool {
 }
 
 // Whether x is an order of n stops and zeros, whose cost is the one given.
-fn priced(table: &[u32], n: usize, cost: u64, x: &[u8; ORDER_PLACES]) -> bool
+pub fn priced(table: &[u32], n: usize, cost: u64, x: &[u8; ORDER_PLACES]) -> bool
     requires { ⌜ n ≤ mostStops ⌝ }
 {
     if !zeros(x, n) {
@@ -65,11 +68,18 @@ pub fn first_right(table: &[u32], n: usize, least: u64, r: FirstOrder) -> bool
     priced(table, n, cost, &order)
 }
 
-// A finished report is right if its cost is the least and that of its order; a full one if it has no cost and no order.
+// A finished report is right if its cost is the least and that of its order; a full one if it has no cost and no order. Neither has a mark
+// or a floor.
 pub fn judged(table: &[u32], n: usize, least: u64, r: Report) -> Verdict
     requires { ⌜ n ≤ mostStops ⌝ }
 {
     if !adds_up(r.generated, r.branched, r.eliminated, r.active) {
+        return Verdict::Differs;
+    }
+    if r.mark != 0 {
+        return Verdict::Differs;
+    }
+    if r.floor != 0 {
         return Verdict::Differs;
     }
     let number = r.number;
@@ -84,7 +94,7 @@ pub fn judged(table: &[u32], n: usize, least: u64, r: Report) -> Verdict
         }
         return Verdict::Differs;
     }
-    if number != 7 {
+    if number != POOL_FULL {
         return Verdict::Differs;
     }
     if cost != 0 {

@@ -1,30 +1,42 @@
 // Random tables under every choice, without a starting order, with one, and with the unit's first order, each report held against full
-// enumeration. The tables, and so what is printed, are the same in every run.
+// enumeration; those of the first two kinds also within half of their branchings. The tables, and so what is printed, are the same in
+// every run.
 ghost use Prim.Native.Nat.{_≤_};
 ghost use Rattle.sizes.specs.Sizes.{mostStops};
 
 mod enumerate;
 mod judge;
+mod stopped;
 mod tables;
+mod tally;
 
 use crate::enumerate::least;
 use crate::judge::Verdict;
 use crate::judge::first_right;
 use crate::judge::judged;
+use crate::stopped::half_of;
+use crate::stopped::halved;
 use crate::tables::TABLES;
 use crate::tables::next;
 use crate::tables::order_of;
 use crate::tables::size_of;
 use crate::tables::stops_in;
 use crate::tables::table_of;
+use crate::tally::Halves;
+use crate::tally::Tally;
+use crate::tally::counted;
+use crate::tally::counted_half;
+use crate::tally::no_halves;
+use crate::tally::none;
+use crate::tally::summed;
+use crate::tally::summed_half;
+use crate::tally::tell;
+use crate::tally::tell_halves;
 use answer::Job;
-use answer::Report;
 use first_order::first_order;
-use libc::STDOUT_FILENO;
 use planner::plan;
 use sizes::NO_BUDGET;
 use sizes::RECORD_WORDS;
-use std::num::wrapping_add_u64;
 
 // Records of the pool, and its words.
 const RECORDS: usize = 330;
@@ -38,54 +50,16 @@ const RULES: u32 = 16;
 
 const CHOICES: u32 = 128;
 
-// How many jobs ended in which way, and a checksum over their costs and counts.
-struct Tally {
-    best: u64,
-    full: u64,
-    differed: u64,
-    sum: u64,
+// The jobs without a starting order and with one that is drawn: the whole runs, and those within half of their branchings.
+struct Typed {
+    whole: Tally,
+    half: Halves,
 }
 
-// The jobs without a starting order and with one that is drawn, and those from the unit's first order.
+// These, and the jobs from the unit's first order.
 struct Tallies {
-    typed: Tally,
+    typed: Typed,
     first: Tally,
-}
-
-// A checksum with one number more.
-fn mixed(sum: u64, x: u64) -> u64 {
-    (sum % 1_000_000_007 * 31 + x % 1_000_000_007) % 1_000_000_007
-}
-
-// A checksum with a report's cost and counts.
-fn summed(sum: u64, r: Report) -> u64 {
-    let a = mixed(mixed(sum, r.number as u64), r.cost as u64);
-    let b = mixed(mixed(a, r.branched), r.generated);
-    mixed(mixed(mixed(b, r.eliminated), r.active), r.most)
-}
-
-// A tally with one job more, and its checksum.
-fn counted(t: Tally, v: Verdict, sum: u64) -> Tally {
-    match v {
-        Verdict::Best => Tally {
-            best: wrapping_add_u64(t.best, 1),
-            full: t.full,
-            differed: t.differed,
-            sum: sum,
-        },
-        Verdict::Full => Tally {
-            best: t.best,
-            full: wrapping_add_u64(t.full, 1),
-            differed: t.differed,
-            sum: sum,
-        },
-        Verdict::Differs => Tally {
-            best: t.best,
-            full: t.full,
-            differed: wrapping_add_u64(t.differed, 1),
-            sum: sum,
-        },
-    }
 }
 
 // The job of n stops under a choice: the selection, four times the rules, and 64 times the bound.
@@ -116,6 +90,31 @@ fn one(
     counted(t, judged(table, n, least, r), summed(t.sum, r))
 }
 
+// One job, planned and judged twice: whole, and within half of its branchings.
+fn one_twice(
+    table: &[u32],
+    n: usize,
+    least: u64,
+    choice: u32,
+    start: &[u8],
+    pool: &mut [u32],
+    t: Typed,
+) -> Typed
+    requires { ⌜ n ≤ mostStops ⌝ }
+{
+    let job = job_of(n, choice);
+    let r = plan(job, table, start, NO_BUDGET, pool);
+    let q = plan(job, table, start, half_of(r), pool);
+    let verdict = judged(table, n, least, r);
+    let ending = halved(table, n, least, r, q);
+    let whole = t.whole;
+    let half = t.half;
+    Typed {
+        whole: counted(whole, verdict, summed(whole.sum, r)),
+        half: counted_half(half, ending, summed_half(half.sum, q)),
+    }
+}
+
 // All choices over one table, from one starting order or none.
 fn jobs(table: &[u32], n: usize, least: u64, start: &[u8], pool: &mut [u32], t: Tally) -> Tally
     requires { ⌜ n ≤ mostStops ⌝ }
@@ -129,12 +128,32 @@ fn jobs(table: &[u32], n: usize, least: u64, start: &[u8], pool: &mut [u32], t: 
     tally
 }
 
-// The jobs over one table, without a starting order and with one.
-fn both(table: &[u32], n: usize, least: u64, start: &[u8], pool: &mut [u32], t: Tally) -> Tally
+// The same, each job planned twice.
+fn jobs_twice(
+    table: &[u32],
+    n: usize,
+    least: u64,
+    start: &[u8],
+    pool: &mut [u32],
+    t: Typed,
+) -> Typed
     requires { ⌜ n ≤ mostStops ⌝ }
 {
-    let without = jobs(table, n, least, &start[..0], pool, t);
-    jobs(table, n, least, start, pool, without)
+    let mut typed = t;
+    let mut choice = 0u32;
+    while choice < CHOICES {
+        typed = one_twice(table, n, least, choice, start, pool, typed);
+        choice += 1;
+    }
+    typed
+}
+
+// The jobs over one table, without a starting order and with one.
+fn both(table: &[u32], n: usize, least: u64, start: &[u8], pool: &mut [u32], t: Typed) -> Typed
+    requires { ⌜ n ≤ mostStops ⌝ }
+{
+    let without = jobs_twice(table, n, least, &start[..0], pool, t);
+    jobs_twice(table, n, least, start, pool, without)
 }
 
 // The jobs over one table from the unit's first order, if that is right.
@@ -161,20 +180,14 @@ fn trial(k: u64, pool: &mut [u32], t: Tallies) -> Tallies {
     Tallies { typed, first }
 }
 
-// A tally of no jobs.
-fn none() -> Tally {
-    Tally {
-        best: 0,
-        full: 0,
-        differed: 0,
-        sum: 0,
-    }
-}
-
 // The jobs over all tables.
 fn all_tables(pool: &mut [u32]) -> Tallies {
+    let typed = Typed {
+        whole: none(),
+        half: no_halves(),
+    };
     let mut t = Tallies {
-        typed: none(),
+        typed: typed,
         first: none(),
     };
     let mut k = 0u64;
@@ -185,27 +198,11 @@ fn all_tables(pool: &mut [u32]) -> Tallies {
     t
 }
 
-// A line: a number and words.
-fn line(n: u64, words: &[u8]) {
-    io::print_decimal(STDOUT_FILENO, n);
-    io::write_all(STDOUT_FILENO, words);
-}
-
-// What a tally says; the words are for all of its jobs.
-fn tell(t: Tally, words: &[u8]) {
-    line(
-        wrapping_add_u64(wrapping_add_u64(t.best, t.full), t.differed),
-        words,
-    );
-    line(t.best, b" finished, at the least cost over all orders\n");
-    line(t.full, b" filled the pool\n");
-    line(t.differed, b" differed\n");
-    line(t.sum, b" is the checksum over all costs and counts\n");
-}
-
 fn main() {
     let mut pool = [0u32; POOL];
     let t = all_tables(&mut pool);
-    tell(t.typed, b" jobs planned\n");
+    let typed = t.typed;
+    tell(typed.whole, b" jobs planned\n");
     tell(t.first, b" jobs planned from the unit's first order\n");
+    tell_halves(typed.half);
 }

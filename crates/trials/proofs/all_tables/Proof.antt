@@ -15,4 +15,4 @@ abbrev μ-loop : tie.MeasureT-loop
 pub all-tables-spec : {M : Type 1} → statement M
 all-tables-spec =
     tie.close
-    (tie.spec Inv-loop μ-loop (search needs) (search needs) (search needs) (search needs) (search needs) (search needs) (search needs) (search needs) (search needs))
+    (tie.spec Inv-loop μ-loop (search needs) (search needs) (search needs) (search needs) (search needs) (search needs) (search needs) (search needs) (search needs) (search needs))
