@@ -1,4 +1,5 @@
--- Request A.3 of the written run, as far as it speaks of two calls of one job.
+-- Request A.3 of the written run, as far as it holds one state of a run against an earlier one, or one run against another of the same job.
+--   no-dearer-than-start    a stopped run shows an order that is no dearer than the one that it started from
 --   larger-budget           a stopped run with a larger budget has no lower floor and shows no dearer order
 --   budget-plays-no-part    a run that is not stopped has the same answer with every larger budget
 -- The states of both runs are those of one run; a larger budget lets it go further (`stopped-after` and `larger-same` of crate `search`).
@@ -16,17 +17,17 @@ use Rattle.search.specs.Problem.{start}
 use Rattle.search.specs.Run.{Outcome, finished, stopped, full, unfinished, Steps}
 use Rattle.search.proofs.Budget.{stopped-after, halts-active, least-never-falls, best-never-dearer, larger-same}
 use Rattle.orders.specs.Orders.{Node, Order, nodes}
-use Rattle.days.specs.Days.{choices}
+use Rattle.days.specs.Days.{problem, choices}
 use Rattle.records.specs.Records.{recordsIn}
 use Rattle.answer.specs.Call.{Call, Answer}
 use Rattle.answer.specs.Checks.{cause}
 use Rattle.answer.specs.Answer.{dayOf, problemOf, choicesOf, given, outcome, stopsOf, costOf, floorOf, reportWith, wordsOf, ending, respond, answer}
 use Rattle.answer.specs.Ends.{BudgetIsSpent, ComesTo, StoppedAt}
 use Rattle.answer.specs.Demands.{written}
-use Rattle.answer.specs.Budget.{ShowsOrder, OneJob, LargerBudget, BudgetPlaysNoPart}
+use Rattle.answer.specs.Budget.{ShowsOrder, NoDearerThanStart, OneJob, LargerBudget, BudgetPlaysNoPart}
 use Rattle.answer.proofs.Passes.{Passes, passes}
 use Rattle.answer.proofs.Instance.{bound-laws, selection-small}
-use Rattle.answer.proofs.Known.{BestKnown, known, best-known}
+use Rattle.answer.proofs.Known.{known-order, best-known}
 use Rattle.answer.proofs.Budget.{stopped-as-written}
 
 -- a's job with another budget and another pool
@@ -52,6 +53,20 @@ unfolding padded
 order-shows n stop [] o e = List·Memᴰ·not-nil (o .every 1 (omega arith) stop)
 order-shows n stop (s ∷ x) o e = let first : s ≡ 0 = ap (λ (l : List ℕ). getD l 0 0) e in omega (arith, o .only s in-head)
 
+pub no-dearer-than-start : NoDearerThanStart written
+unfolding reportWith problemOf problem start
+no-dearer-than-start c a e m has =
+    let f : StoppedAt c a = stopped-as-written c a e m in
+    rw (f .reported) (at (f .comes) (c .start) refl has)
+  where
+    at :
+        (h : ComesTo c BudgetIsSpent) (x : Node) → c .start ≡ x → x ≢ []
+        → Shows (h .state .best) × (costOf (problemOf c) (h .state .best) ≤ dayOf c .cost x)
+    at h [] q has = absurd (has refl)
+    at h (s ∷ x) q has =
+        let (y, now, low) = best-never-dearer (problemOf c) (choicesOf c) (recordsIn (c .pool)) (h .steps) (s ∷ x) (ap given q) in
+        rw now (order-shows (c .job .n) (passes c (h .passed) .some) y (known-order (rw now at (best-known c (h .passed) (h .steps)))), low)
+
 module _ (a : Call) (k : ℕ) (longer : a .budget ≤ k) (pool : List ℕ) where
   abbrev b : Call
   b = alongside a k pool
@@ -76,10 +91,7 @@ module _ (a : Call) (k : ℕ) (longer : a .budget ≤ k) (pool : List ℕ) where
     order-no-dearer none e shows = absurd (shows refl)
     order-no-dearer (some x) e shows =
         let (y, now, low) = best-never-dearer (problemOf b) (choicesOf b) (recordsIn pool) after x e in
-        rw now (order-shows (a .job .n) (passes b (g .passed) .some) y (at (rw now at (best-known b (g .passed) (g .steps)))), low)
-      where
-        at : {y : Node} → BestKnown b (some y) → Order (a .job .n) y
-        at (known y o) = o
+        rw now (order-shows (a .job .n) (passes b (g .passed) .some) y (known-order (rw now at (best-known b (g .passed) (g .steps)))), low)
 
   stopped-no-worse :
       {x y : Answer} → StoppedAt a x → StoppedAt b y

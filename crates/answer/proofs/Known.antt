@@ -19,6 +19,9 @@ pub data BestKnown (c : Call) : Option Node → Type 0 where
   unknown : BestKnown c none
   known : (x : Node) → Order (c .job .n) x → BestKnown c (some x)
 
+pub known-order : {c : Call} {x : Node} → BestKnown c (some x) → Order (c .job .n) x
+known-order (known x o) = o
+
 pub best-known : (c : Call) → cause c ≡ 0 → {s : State Node} → StateOf c s → BestKnown c (s .best)
 unfolding problemOf problem
 best-known c passed {s} steps =

@@ -2,10 +2,11 @@
 -- each, of the written run, and crate `planner` one of what the code returns. That costs of two finished runs are equal and how A is held
 -- against B are `OneCost` and `Favours` of `Demands`.
 --   MarkedIff, StoppedAsWritten, OtherwiseZero, ExactBudget    when the mark comes, and what stands beside it
---   Shown, FloorHolds, BestExists, Between                     the order shown, the floor and the best of all orders
+--   Shown, NoDearerThanStart, FloorHolds, BestExists, Between  the order shown, the starting order, the floor and the best of all orders
 --   LargerBudget                                               of two stopped runs of one job
 --   BudgetPlaysNoPart, NoRunReaches                            where the budget does not stop the run, and the largest 64-bit number
 use mathlib.Core.Path.{_≡_}
+use mathlib.Core.List.{[]}
 use mathlib.Core.Logic.{_⊎_, _≢_, _↔_}
 use Prim.Native.Nat.{ℕ, _≤_, _<_}
 use lib.ListN.{replicate}
@@ -50,6 +51,12 @@ NoneShown r = (r .order ≡ replicate orderPlaces 0) × (r .cost ≡ 0)
 
 abbrev pub Shown : Planner → Type 0
 Shown P = (c : Call) (a : Answer) → P c a → a .report .mark ≡ 1 → OrderShown c (a .report) ⊎ NoneShown (a .report)
+
+-- Where there is a starting order, an order is shown, and it is no dearer.
+abbrev pub NoDearerThanStart : Planner → Type 0
+NoDearerThanStart P =
+    (c : Call) (a : Answer) → P c a → a .report .mark ≡ 1 → c .start ≢ []
+    → ShowsOrder (a .report) × (a .report .cost ≤ dayOf c .cost (c .start))
 
 -- Every order costs at least the floor.
 abbrev pub FloorHolds : Planner → Type 0

@@ -1,7 +1,7 @@
 -- The letter's demands and request A.3 of what `plan` returns and leaves in the pool, from its promise alone: that is an equation with `answer`, of which crate
 -- `answer` proves them.
 use Rattle.answer.specs.Demands.{EveryCallIsAnswered, EveryCallEnds, OneAnswer, RefusalsFixed, RunIsWritten, CountsBalance, FullIff, OneCost, CheapestOfAll, FavouredFinishes}
-use Rattle.answer.specs.Budget.{MarkedIff, StoppedAsWritten, OtherwiseZero, ExactBudget, Shown, FloorHolds, Between, LargerBudget, BudgetPlaysNoPart, NoRunReaches}
+use Rattle.answer.specs.Budget.{MarkedIff, StoppedAsWritten, OtherwiseZero, ExactBudget, Shown, NoDearerThanStart, FloorHolds, Between, LargerBudget, BudgetPlaysNoPart, NoRunReaches}
 use Rattle.answer.specs.Document01.{FinishedIff, BranchedAreSteps, ContentsPlayNoPart}
 use Rattle.answer.proofs.Demand1.{call-answered, call-ends, one-answer, refusals-fixed}
 use Rattle.answer.proofs.Demand2.{run-is-written, counts-balance, full-iff, finished-iff, branched-are-steps}
@@ -9,7 +9,7 @@ use Rattle.answer.proofs.Demand3.{one-cost, cheapest-of-all}
 use Rattle.answer.proofs.Demand3Pairs.{favoured-finishes}
 use Rattle.answer.proofs.Contents.{contents-play-no-part}
 use Rattle.answer.proofs.Budget.{marked-iff, stopped-as-written, otherwise-zero, exact-budget, order-shown, floor-holds, best-between, no-run-reaches}
-use Rattle.answer.proofs.BudgetPairs.{larger-budget, budget-plays-no-part}
+use Rattle.answer.proofs.BudgetPairs.{no-dearer-than-start, larger-budget, budget-plays-no-part}
 use Rattle.planner.specs.Demands.{returned}
 
 -- demand 1 (that the code's call returns at all is what every proved contract says)
@@ -70,6 +70,9 @@ returned-exact-budget = exact-budget
 
 pub returned-shown : Shown returned
 returned-shown = order-shown
+
+pub returned-no-dearer : NoDearerThanStart returned
+returned-no-dearer = no-dearer-than-start
 
 pub returned-floor : FloorHolds returned
 returned-floor = floor-holds
