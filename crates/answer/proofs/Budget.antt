@@ -1,22 +1,25 @@
 -- Request A.3 of the written run, as far as it speaks of one call.
---   stopped-as-written, otherwise-zero, marked-iff, exact-budget    when the mark comes, and what stands beside it
---   order-shown, floor-holds, best-exists, best-between             the order shown, the floor and the best of all orders
---   no-run-reaches                                                  the largest 64-bit number
+--   stopped-as-written, otherwise-zero, marked-iff    when the mark comes, and what stands beside it
+--   exact-budget, within-budget                       how many nodes are branched
+--   order-or-zeros, order-shows                       the order shown
+--   floor-holds, best-exists, best-between            the floor, the best of all orders and the order shown
+--   no-run-reaches                                    the largest 64-bit number
 use mathlib.Core.Path.{_≡_, refl, sym, _∙_, ap, subst}
 use mathlib.Core.List.{List, [], _∷_, List·Memᴰ·not-nil}
-use mathlib.Core.Logic.{_⊎_, inl, inr}
+use mathlib.Core.Logic.{_⊎_, inl, inr, _≢_}
 use mathlib.Core.Option.{Option}
 use Prim.Native.Nat.{ℕ, _≤_, _<_}
 use native.Mathlib.Omega.{arith}
-use lib.ListN.{length, take}
+use lib.ListN.{length, replicate, getD}
 use Rattle.sizes.specs.Sizes.{mostStops, orderPlaces, noBudget}
 use Rattle.lists.specs.Lists.{In, padded}
+use Rattle.lists.proofs.Members.{in-head}
 use Rattle.lists.proofs.Numbers.{least-le, least-in}
-use Rattle.search.specs.Problem.{State}
+use Rattle.search.specs.Problem.{State, start}
 use Rattle.search.proofs.Plain.{tree, planOf, cutOf}
-use Rattle.search.proofs.Optimal.{floor-holds as active-below}
+use Rattle.search.proofs.Optimal.{active-below}
 use Rattle.search.proofs.Bounded.{Bounded, counts-bounded}
-use Rattle.search.proofs.Budget.{exact-budget as budget-branched}
+use Rattle.search.proofs.Budget.{steps-within, halts-exactly}
 use Rattle.orders.specs.Orders.{Node, stops, size, Order, orders}
 use Rattle.orders.proofs.Tree.{nodes-rise}
 use Rattle.orders.proofs.Order.{stops-order, order-complete, order-leads}
@@ -27,15 +30,14 @@ use Rattle.answer.specs.Call.{Call, Answer, refusal}
 use Rattle.answer.specs.declared.Report.{Report}
 use Rattle.answer.specs.Checks.{cause}
 use Rattle.answer.specs.Answer.{dayOf, problemOf, choicesOf, given, StateOf, stopsOf, costOf, floorOf, reportWith, ending}
-use Rattle.answer.specs.Ends.{ComesTo, StoppedAt, orderIn, Ended, planned, halted, filled, refused}
+use Rattle.answer.specs.Ends.{ComesTo, StoppedAt, orderIn, HasOrder, Ended, planned, halted, filled, refused}
 use Rattle.answer.specs.Demands.{written}
-use Rattle.answer.specs.Budget.{MarkedIff, StoppedAsWritten, OtherwiseZero, ExactBudget, ShowsOrder, OrderShown, NoneShown, Shown, FloorHolds, BestCost, BestExists, Between, NoRunReaches}
+use Rattle.answer.specs.Budget.{MarkedIff, StoppedAsWritten, OtherwiseZero, ExactBudget, WithinBudget, ShowsOrder, OrderOrZeros, FloorHolds, BestCost, BestExists, Between, NoRunReaches}
 use Rattle.answer.proofs.Passes.{Passes, passes}
 use Rattle.answer.proofs.Instance.{weight, call-weighs, root-light, call-lawful, bound-laws, selection-small, call-solvable, start-known, state-reached}
-use Rattle.answer.proofs.Known.{BestKnown, unknown, known, best-known}
+use Rattle.answer.proofs.Known.{BestKnown, unknown, known, best-known, order-reported}
 use Rattle.answer.proofs.Ends.{stopped-answer}
 use Rattle.answer.proofs.Demand1.{call-ends}
-use Rattle.answer.proofs.Demand3.{padded-front}
 
 abbrev Zero : Report → Type 0
 Zero r = (r .mark ≡ 0) × (r .floor ≡ 0)
@@ -74,23 +76,44 @@ pub exact-budget : ExactBudget written
 unfolding reportWith choicesOf choices
 exact-budget c a e m =
     let f : StoppedAt c a = stopped-as-written c a e m in
-    rw (f .reported) (budget-branched (problemOf c) (choicesOf c) (recordsIn (c .pool)) (given (c .start)) (f .comes .steps) (f .comes .there))
+    rw (f .reported) (halts-exactly (problemOf c) (choicesOf c) (recordsIn (c .pool)) (given (c .start)) (f .comes .steps) (f .comes .there))
+
+-- no run makes more branchings than its budget has: each step was allowed
+pub within-budget : WithinBudget written
+unfolding refusal reportWith choicesOf choices start
+within-budget c a e = at (call-ends c a e)
+  where
+    low : {Q : Call → State Node → Type 0} (h : ComesTo c Q) → length (h .state .branched) ≤ c .budget
+    low h = steps-within (problemOf c) (choicesOf c) (recordsIn (c .pool)) (h .steps) (omega arith)
+
+    at : Ended c a → a .report .branched ≤ c .budget
+    at (planned f o) = rw (f .reported) (low (f .comes))
+    at (halted f) = rw (f .reported) (low (f .comes))
+    at (filled f) = rw (f .reported) (low (f .comes))
+    at (refused f) = rw (f .reported) (omega arith)
+
+-- a report with an order shows it, for each of its stops is at least 1
+pub order-shows : (n : ℕ) → 1 ≤ n → (x : Node) → Order n x → getD (padded orderPlaces x) 0 0 ≢ 0
+unfolding padded
+order-shows n stop [] o e = List·Memᴰ·not-nil (o .every 1 (omega arith) stop)
+order-shows n stop (s ∷ x) o e = omega (arith, o .only s in-head)
 
 -- by the order known where the run stopped
-pub order-shown : Shown written
+pub order-or-zeros : OrderOrZeros written
 unfolding reportWith problemOf problem padded
-order-shown c a e m =
+order-or-zeros c a e m =
     let f : StoppedAt c a = stopped-as-written c a e m in
     rw (f .reported) (at (floorOf c (f .comes .state)) (f .comes .state) (f .comes .state .best) (best-known c (f .comes .passed) (f .comes .steps)))
   where
+    stop : 1 ≤ c .job .n
+    stop = passes c (stopped-as-written c a e m .comes .passed) .some
+
     at :
         (floor : ℕ) (s : State Node) (best : Option Node) → BestKnown c best
-        → OrderShown c (reportWith 0 1 (costOf (problemOf c) best) floor (stopsOf best) s)
-        ⊎ NoneShown (reportWith 0 1 (costOf (problemOf c) best) floor (stopsOf best) s)
+        → (let r = reportWith 0 1 (costOf (problemOf c) best) floor (stopsOf best) s in
+        (ShowsOrder r × HasOrder c r) ⊎ ((r .order ≡ replicate orderPlaces 0) × (r .cost ≡ 0)))
     at floor s best unknown = inr (refl, refl)
-    at floor s best (known x o) =
-        let front : take (c .job .n) (padded orderPlaces x) ≡ x = padded-front (c .job .n) x o in
-        inl (record { is-order = rw front o; zeros-past-n = ap (padded orderPlaces) (sym front); cost-is-its = ap (dayOf c .cost) (sym front) })
+    at floor s best (known x o) = inl (order-shows (c .job .n) stop x o, order-reported c 0 1 floor x s o)
 
 -- At every state of a run the floor is at most what any order costs, for some active node's bound is.
 floor-below : (c : Call) → cause c ≡ 0 → (s : State Node) → StateOf c s → (y : Node) → Order (c .job .n) y → floorOf c s ≤ dayOf c .cost y
@@ -129,14 +152,18 @@ best-exists c = at (orders (c .job .n)) refl
         )
 
 pub best-between : Between written
-best-between c a e m v best = (floor, λ shows. at shows (order-shown c a e m))
+best-between c a e m v best = (floor, λ shows. at shows (order-or-zeros c a e m))
   where
     floor : a .report .floor ≤ v
     floor = rw (best .costs) (floor-holds c a e m (best .order) (orders-in (c .job .n) (best .order) (best .is-order)))
 
-    at : ShowsOrder (a .report) → OrderShown c (a .report) ⊎ NoneShown (a .report) → v ≤ a .report .cost
-    at shows (inl o) = rw (o .cost-is-its) (best .least (orderIn c (a .report)) (orders-in (c .job .n) (orderIn c (a .report)) (o .is-order)))
-    at shows (inr z) = absurd (shows (z .0))
+    at :
+        ShowsOrder (a .report)
+        → (ShowsOrder (a .report) × HasOrder c (a .report)) ⊎ ((a .report .order ≡ replicate orderPlaces 0) × (a .report .cost ≡ 0))
+        → v ≤ a .report .cost
+    at shows (inl (own, h)) =
+        rw (h .cost-is-its) (best .least (orderIn c (a .report)) (orders-in (c .job .n) (orderIn c (a .report)) (h .is-order)))
+    at shows (inr z) = absurd (shows (ap (λ (l : List ℕ). getD l 0 0) (z .0)))
 
 -- A run branches no more nodes than there are, and of the most stops there are far fewer.
 few-branched : (c : Call) {Q : Call → State Node → Type 0} (h : ComesTo c Q) → length (h .state .branched) < noBudget

@@ -1,22 +1,20 @@
 -- Request A.3 of the written run, as far as it holds one state of a run against an earlier one, or one run against another of the same job.
 --   no-dearer-than-start    a stopped run shows an order that is no dearer than the one that it started from
 --   larger-budget           a stopped run with a larger budget has no lower floor and shows no dearer order
---   budget-plays-no-part    a run that is not stopped has the same answer with every larger budget
+--   unstopped-as-without    a run that is not stopped has the same answer with every larger budget
 -- The states of both runs are those of one run; a larger budget lets it go further (`stopped-after` and `larger-same` of crate `search`).
 use mathlib.Core.Path.{_≡_, refl, sym, _∙_, ap, subst}
-use mathlib.Core.List.{List, [], _∷_, List·Memᴰ·not-nil}
+use mathlib.Core.List.{List, [], _∷_}
 use mathlib.Core.Logic.{_≢_}
 use mathlib.Core.Option.{Option, none, some}
 use Prim.Native.Nat.{ℕ, zero, suc, _≤_}
-use native.Mathlib.Omega.{arith}
-use lib.ListN.{replicate, getD}
+use lib.ListN.{getD}
 use Rattle.sizes.specs.Sizes.{orderPlaces}
 use Rattle.lists.specs.Lists.{padded}
-use Rattle.lists.proofs.Members.{in-head}
 use Rattle.search.specs.Problem.{start}
 use Rattle.search.specs.Run.{Outcome, finished, stopped, full, unfinished, Steps}
 use Rattle.search.proofs.Budget.{stopped-after, halts-active, least-never-falls, best-never-dearer, larger-same}
-use Rattle.orders.specs.Orders.{Node, Order, nodes}
+use Rattle.orders.specs.Orders.{Node, nodes}
 use Rattle.days.specs.Days.{problem, choices}
 use Rattle.records.specs.Records.{recordsIn}
 use Rattle.answer.specs.Call.{Call, Answer}
@@ -24,11 +22,11 @@ use Rattle.answer.specs.Checks.{cause}
 use Rattle.answer.specs.Answer.{dayOf, problemOf, choicesOf, given, outcome, stopsOf, costOf, floorOf, reportWith, wordsOf, ending, respond, answer}
 use Rattle.answer.specs.Ends.{BudgetIsSpent, ComesTo, StoppedAt}
 use Rattle.answer.specs.Demands.{written}
-use Rattle.answer.specs.Budget.{ShowsOrder, NoDearerThanStart, OneJob, LargerBudget, BudgetPlaysNoPart}
+use Rattle.answer.specs.Budget.{ShowsOrder, NoDearerThanStart, OneJob, LargerBudget, UnstoppedAsWithout}
 use Rattle.answer.proofs.Passes.{Passes, passes}
 use Rattle.answer.proofs.Instance.{bound-laws, selection-small}
 use Rattle.answer.proofs.Known.{known-order, best-known}
-use Rattle.answer.proofs.Budget.{stopped-as-written}
+use Rattle.answer.proofs.Budget.{stopped-as-written, order-shows}
 
 -- a's job with another budget and another pool
 abbrev alongside : Call → ℕ → List ℕ → Call
@@ -45,13 +43,7 @@ same-call a b one = λ i. record {
 
 -- A report with this as the order known shows an order.
 abbrev Shows : Option Node → Type 0
-Shows best = padded orderPlaces (stopsOf best) ≢ replicate orderPlaces 0
-
--- zeros are no order, for each of its stops is at least 1
-order-shows : (n : ℕ) → 1 ≤ n → (x : Node) → Order n x → Shows (some x)
-unfolding padded
-order-shows n stop [] o e = List·Memᴰ·not-nil (o .every 1 (omega arith) stop)
-order-shows n stop (s ∷ x) o e = let first : s ≡ 0 = ap (λ (l : List ℕ). getD l 0 0) e in omega (arith, o .only s in-head)
+Shows best = getD (padded orderPlaces (stopsOf best)) 0 0 ≢ 0
 
 pub no-dearer-than-start : NoDearerThanStart written
 unfolding reportWith problemOf problem start
@@ -127,7 +119,7 @@ module _ (a : Call) (k : ℕ) (longer : a .budget ≤ k) (unmarked : answer a .r
       by-cause zero e = ap (ending (alongside a k (a .pool))) (same-outcome e) ∙ by-outcome (outcome a)
       by-cause (suc number) e = refl
 
-pub budget-plays-no-part : BudgetPlaysNoPart written
-budget-plays-no-part a b x y p q one pools longer h =
+pub unstopped-as-without : UnstoppedAsWithout written
+unstopped-as-without a b x y p q one pools longer h =
     p ∙ sym (same-answer a (b .budget) longer (λ m. h (ap (λ (z : Answer). z .report .mark) p ∙ m)))
     ∙ ap (λ (w : List ℕ). answer (alongside a (b .budget) w)) pools ∙ ap answer (sym (same-call a b one)) ∙ sym q

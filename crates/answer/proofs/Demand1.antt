@@ -1,14 +1,17 @@
--- Demand 1 of the written run: every call ends, with an order or a numbered refusal, and what a refusal gives and leaves.
-use mathlib.Core.Path.{refl, sym, _∙_, ap, subst}
+-- Demand 1 of the written run: every call ends, with an order, a numbered refusal or a spent budget, and what a refusal gives and leaves.
+use mathlib.Core.Path.{_≡_, refl, sym, _∙_, ap, subst}
 use mathlib.Core.Logic.{_⊎_, inl, inr}
 use native.Mathlib.Omega.{arith}
+use Rattle.search.specs.Problem.{State}
+use Rattle.search.specs.Run.{Outcome}
+use Rattle.orders.specs.Orders.{Node}
 use Rattle.answer.specs.Call.{Call, Answer}
 use Rattle.answer.specs.declared.Report.{Report}
-use Rattle.answer.specs.Answer.{reportWith, ending, answer}
-use Rattle.answer.specs.Ends.{FullAt, RefusedAt, Ended, planned, halted, filled, refused}
+use Rattle.answer.specs.Answer.{StateOf, reportWith, wordsOf, ending, answer}
+use Rattle.answer.specs.Ends.{EndsAt, FullAt, RefusedAt, Ended, planned, halted, filled, refused}
 use Rattle.answer.specs.Demands.{written, EveryCallIsAnswered, EveryCallEnds, OneAnswer, RefusalsFixed}
 use Rattle.answer.proofs.Instance.{finished-state, stopped-state, full-state}
-use Rattle.answer.proofs.Ending.{Came, checked, halted as stood, overran, ended, call-came, cause-small}
+use Rattle.answer.proofs.Ending.{Ran, Came, checked, spent, overran, ended, call-came, cause-small}
 use Rattle.answer.proofs.Ends.{finish-holds}
 use Rattle.answer.proofs.Demand3.{answer-cheapest}
 
@@ -17,6 +20,17 @@ call-answered c = (answer c, refl)
 
 pub one-answer : OneAnswer written
 one-answer c a b p q = p ∙ sym q
+
+-- the answer to a run that ended at such a state
+ends-at :
+    (c : Call) {how : State Node → Outcome Node} (f : Ran c how) {Q : Call → State Node → Type 0} {report : Call → State Node → Report}
+    → StateOf c (f .state) → Q c (f .state) → ending c (how (f .state)) ≡ record { report = report c (f .state); pool = wordsOf c (f .state) }
+    → EndsAt c (answer c) Q report
+ends-at c f steps there same = record {
+  comes = record { passed = f .passed; state = f .state; steps = steps; there = there };
+  reported = ap (λ (a : Answer). a .report) (f .answered ∙ same);
+  pool-holds = ap (λ (a : Answer). a .pool) (f .answered ∙ same);
+}
 
 call-ended : (c : Call) → Ended c (answer c)
 unfolding ending reportWith
@@ -31,32 +45,13 @@ call-ended c = go (call-came c)
           reported = ap (λ (a : Answer). a .report) q;
           pool-stays = ap (λ (a : Answer). a .pool) q;
         })
-    go (stood f) =
-        let (steps, spent) = stopped-state c (f .state) (f .ran) in
-        halted
-        (record {
-          comes = record { passed = f .passed; state = f .state; steps = steps; there = spent };
-          reported = ap (λ (a : Answer). a .report) (f .answered);
-          pool-holds = ap (λ (a : Answer). a .pool) (f .answered);
-        })
-    go (overran f) =
-        let (steps, over) = full-state c (f .state) (f .ran) in
-        filled
-        (record {
-          comes = record { passed = f .passed; state = f .state; steps = steps; there = over };
-          reported = ap (λ (a : Answer). a .report) (f .answered);
-          pool-holds = ap (λ (a : Answer). a .pool) (f .answered);
-        })
+    go (spent f) = let (steps, there) = stopped-state c (f .state) (f .ran) in halted (ends-at c f steps there refl)
+    go (overran f) = let (steps, there) = full-state c (f .state) (f .ran) in filled (ends-at c f steps there refl)
     go (ended f) =
         let (steps, end) = finished-state c (f .state) (f .ran) in
-        planned
-        (record {
-          comes = record { passed = f .passed; state = f .state; steps = steps; there = finish-holds c (f .state) (f .passed) steps end };
-          reported = ap (λ (a : Answer). a .report) (f .answered);
-          pool-holds = ap (λ (a : Answer). a .pool) (f .answered);
-        })
+        planned (ends-at c f steps (finish-holds c (f .state) (f .passed) steps end) refl)
         (answer-cheapest c
-        (ap (λ (a : Answer). a .report .number) (f .answered), ap (λ (a : Answer). a .report .mark) (f .answered)) .is-order)
+        (ap (λ (a : Answer). a .report .number) (f .answered), ap (λ (a : Answer). a .report .mark) (f .answered)) .has-order .is-order)
 
 pub call-ends : EveryCallEnds written
 call-ends c a e = subst (Ended c) (sym e) (call-ended c)

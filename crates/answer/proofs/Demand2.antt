@@ -1,4 +1,4 @@
--- Demand 2 of the written run, and what document 01 adds: the counts balance, number 7 and number 0 come when and only when they should, and
+-- Demand 2 of the written run, and what document 01 adds: the counts balance, number 7, and number 0 with mark 0, come when and only when they should, and
 -- `branched` counts the run's steps.
 use mathlib.Core.Path.{_≡_, refl, sym, _∙_, ap, subst}
 use mathlib.Core.Logic.{inl, inr}
@@ -13,7 +13,7 @@ use Rattle.answer.specs.Demands.{written, RunIsWritten, CountsBalance, F
 use Rattle.answer.specs.Document01.{StatesBalance, FinishedIff, BranchedAreSteps}
 use Rattle.answer.proofs.Passes.{passes}
 use Rattle.answer.proofs.Instance.{finished-state, stopped-state, full-state, state-reached}
-use Rattle.answer.proofs.Ending.{Came, checked, halted, overran, ended, call-came, Finished, number-0, Filled, number-7}
+use Rattle.answer.proofs.Ending.{Came, checked, spent, overran, ended, call-came, Finished, finishes-finished, Filled, number-7}
 use Rattle.answer.proofs.Ends.{finish-holds, steps-branched, finished-answer, stopped-answer, full-answer}
 
 pub run-is-written : RunIsWritten written
@@ -33,7 +33,7 @@ counts-balance c a e = subst Balances (sym e) (go (call-came c))
   where
     go : Came c → Balances (answer c)
     go (checked k e q) = subst Balances (sym q) refl
-    go (halted f) = subst Balances (sym (f .answered)) (states-balance c (f .passed) (f .state) (stopped-state c (f .state) (f .ran) .0))
+    go (spent f) = subst Balances (sym (f .answered)) (states-balance c (f .passed) (f .state) (stopped-state c (f .state) (f .ran) .0))
     go (overran f) = subst Balances (sym (f .answered)) (states-balance c (f .passed) (f .state) (full-state c (f .state) (f .ran) .0))
     go (ended f) = subst Balances (sym (f .answered)) (states-balance c (f .passed) (f .state) (finished-state c (f .state) (f .ran) .0))
 
@@ -58,7 +58,7 @@ finished-iff c a e =
   where
     only-then : Finishes (a .report) → ComesTo c FinishTestHolds
     only-then h =
-        let f : Finished c = number-0 c (subst (λ (y : Answer). Finishes (y .report)) e h) in
+        let f : Finished c = finishes-finished c (subst (λ (y : Answer). Finishes (y .report)) e h) in
         let (steps, end) = finished-state c (f .state) (f .ran) in
         record { passed = f .passed; state = f .state; steps = steps; there = finish-holds c (f .state) (f .passed) steps end }
 

@@ -27,7 +27,7 @@ use Rattle.answer.specs.Ends.{Finishes}
 use Rattle.answer.specs.Demands.{written, AsClose, Favours, NoWorse, FavouredFinishes}
 use Rattle.answer.proofs.Passes.{Passes, passes}
 use Rattle.answer.proofs.Instance.{call-walk, order-cheap, call-lawful, bound-laws, call-manner, call-solvable, start-known, selection-small}
-use Rattle.answer.proofs.Ending.{Finished, number-0}
+use Rattle.answer.proofs.Ending.{Finished, finishes-finished}
 
 -- B over A's own n, table and selection
 abbrev alongside : Call → ℕ → ℕ → List ℕ → ℕ → List ℕ → Call
@@ -155,7 +155,7 @@ module _ (a : Call) (ok : Passes a) (rules bound : ℕ) (first : List ℕ) (budg
         most,
       )
 
--- B is the call alongside A that has its rules, bound, starting order and pool.
+-- B is the call alongside A that has its rules, bound, starting order, budget and pool.
 same-call : (a b : Call) → Favours a b → b ≡ alongside a (b .job .rules) (b .job .bound) (b .start) (b .budget) (b .pool)
 same-call a b f = λ i. record {
   job = record { n = sym (f .n) i; selection = sym (f .selection) i; rules = b .job .rules; bound = b .job .bound };
@@ -169,7 +169,7 @@ answers-no-worse :
     (a b : Call) → Favours a b → cause a ≡ 0 → Finishes (answer b .report) → NoWorse (answer a .report) (answer b .report)
 unfolding answer respond ending reportWith
 answers-no-worse a b f passed h =
-    let fb : Finished b = number-0 b h in
+    let fb : Finished b = finishes-finished b h in
     let e : b ≡ alongside a (b .job .rules) (b .job .bound) (b .start) (b .budget) (b .pool) = same-call a b f in
     let (d, ran, branched, generated, most) =
     beside-finishes a (passes a passed) (b .job .rules) (b .job .bound) (b .start) (b .budget) (b .pool) (subst (Favours a) e f) (fb .state)

@@ -2,7 +2,7 @@
 --   Ran, Finished, Stopped, Filled    the outcome of a run; it is finished, stopped by the budget, or the pool is full
 --   Came, call-came                   a check refuses the call, or one of these. No run is left `unfinished`: its fuel is never used up
 --                                     (`outcome-ends`)
---   number-0, mark-1, number-7        the number and the mark of a report say which
+--   finishes-finished, number-7       the number and the mark of a report say which
 --   tableCause-small, cause-small    a cause of a table is one of three, and of a call one of six
 use mathlib.Core.Path.{_≡_, refl, ap, sym, _∙_}
 use mathlib.Core.Bool.{Bool, true, false}
@@ -36,7 +36,7 @@ Filled c = Ran c full
 
 pub data Came (c : Call) : Type 0 where
   checked : (k : ℕ) → cause c ≡ suc k → answer c ≡ record { report = refusal (cause c); pool = c .pool } → Came c
-  halted : Stopped c → Came c
+  spent : Stopped c → Came c
   overran : Filled c → Came c
   ended : Finished c → Came c
 
@@ -49,7 +49,7 @@ call-came c = go (cause c) refl
 
     ran : cause c ≡ 0 → (o : Outcome Node) → outcome c ≡ o → Came c
     ran e (finished s) h = ended (at finished s e h)
-    ran e (stopped s) h = halted (at stopped s e h)
+    ran e (stopped s) h = spent (at stopped s e h)
     ran e (full s) h = overran (at full s e h)
     ran e (unfinished s) h = absurd (outcome-ends c s h)
 
@@ -85,25 +85,15 @@ module _ (c : Call) where
   mark-of : {a : Answer} (k : ℕ) → answer c .report .mark ≡ k → answer c ≡ a → a .report .mark ≡ k
   mark-of k h e = sym (ap (λ (x : Answer). x .report .mark) e) ∙ h
 
-  pub number-0 : Finishes (answer c .report) → Finished c
+  pub finishes-finished : Finishes (answer c .report) → Finished c
   unfolding refusal ending reportWith
-  number-0 (h, m) = go (call-came c)
+  finishes-finished (h, m) = go (call-came c)
     where
       go : Came c → Finished c
       go (checked k e q) = absurd (let z : cause c ≡ 0 = number-of 0 h q in omega arith)
-      go (halted f) = absurd (let z : _≡_ {A = ℕ} 1 0 = mark-of 0 m (f .answered) in omega arith)
+      go (spent f) = absurd (let z : _≡_ {A = ℕ} 1 0 = mark-of 0 m (f .answered) in omega arith)
       go (overran f) = absurd (let z : _≡_ {A = ℕ} 7 0 = number-of 0 h (f .answered) in omega arith)
       go (ended f) = f
-
-  pub mark-1 : answer c .report .mark ≡ 1 → Stopped c
-  unfolding refusal ending reportWith
-  mark-1 m = go (call-came c)
-    where
-      go : Came c → Stopped c
-      go (checked k e q) = absurd (let z : _≡_ {A = ℕ} 0 1 = mark-of 1 m q in omega arith)
-      go (halted f) = f
-      go (overran f) = absurd (let z : _≡_ {A = ℕ} 0 1 = mark-of 1 m (f .answered) in omega arith)
-      go (ended f) = absurd (let z : _≡_ {A = ℕ} 0 1 = mark-of 1 m (f .answered) in omega arith)
 
   pub number-7 : answer c .report .number ≡ 7 → Filled c
   unfolding refusal ending reportWith
@@ -111,6 +101,6 @@ module _ (c : Call) where
     where
       go : Came c → Filled c
       go (checked k e q) = absurd (let z : cause c ≡ 7 = number-of 7 h q in omega (arith, cause-small c))
-      go (halted f) = absurd (let z : _≡_ {A = ℕ} 0 7 = number-of 7 h (f .answered) in omega arith)
+      go (spent f) = absurd (let z : _≡_ {A = ℕ} 0 7 = number-of 7 h (f .answered) in omega arith)
       go (overran f) = f
       go (ended f) = absurd (let z : _≡_ {A = ℕ} 0 7 = number-of 7 h (f .answered) in omega arith)

@@ -6,11 +6,11 @@
 --                                 the next step does not fit
 use mathlib.Core.Path.{_≡_, refl, sym, _∙_, ap, subst}
 use mathlib.Core.Bool.{Bool, true, false}
-use mathlib.Core.List.{List, [], _∷_, List·Memᴰ·not-nil}
+use mathlib.Core.List.{List, List·Memᴰ·not-nil}
 use Prim.Native.Nat.{ℕ, _+_}
 use native.Mathlib.Omega.{arith}
 use lib.Dec.{T, ltb}
-use lib.ListN.{length, length-append}
+use lib.ListN.{length}
 use Rattle.lists.specs.Lists.{In}
 use Rattle.lists.proofs.Tests.{to-true}
 use Rattle.search.specs.Problem.{Problem, Choices, State, start}
@@ -18,6 +18,7 @@ use Rattle.search.specs.Selection.{Choice, nothing, chosen, select, finishes}
 use Rattle.search.specs.Step.{step}
 use Rattle.search.specs.Run.{finish, unless, ifAllowed, goUnless, fitting, decide, next, held, finished, stopped, full, Steps, none, more}
 use Rattle.search.proofs.Pick.{picked-none}
+use Rattle.search.proofs.Budget.{stepped-adds}
 use Rattle.search.proofs.Plain.{planOf}
 use Rattle.search.proofs.PlainSelection.{select-is-pick}
 use Rattle.orders.specs.Orders.{Node}
@@ -68,12 +69,8 @@ module _ (c : Call) (s : State Node) where
 made-branched :
     {N : Type 0} {P : Problem N} {C : Choices N} {capacity : ℕ} {s e : State N} (steps : Steps P C capacity s e)
     → length (e .branched) ≡ length (s .branched) + made steps
-unfolding step
 made-branched none = omega arith
-made-branched {P = P} {C = C} (more {s′} {e} before last) =
-    let one : e ≡ step P C s′ (last .b) (last .rest) = last .steps in
-    let same : length (e .branched) ≡ length (step P C s′ (last .b) (last .rest) .branched) = ap (λ (z : State _). length (z .branched)) one in
-    omega (arith, same, length-append (s′ .branched) (last .b ∷ []), made-branched before)
+made-branched {P = P} {C = C} {capacity} (more before last) = omega (arith, stepped-adds P C capacity last, made-branched before)
 
 pub steps-branched : (c : Call) {s : State Node} (steps : StateOf c s) → length (s .branched) ≡ made steps
 unfolding start

@@ -1,17 +1,24 @@
--- At every state of a call's run the order known, if one is, is an order of the n stops (`best-known`).
-use mathlib.Core.Path.{_≡_, refl}
+-- At every state of a call's run the order known, if one is, is an order of the n stops (`best-known`), and a report with it has that order and
+-- its cost (`order-reported`).
+use mathlib.Core.Path.{_≡_, refl, sym, ap}
 use mathlib.Core.Option.{Option, none, some}
+use Prim.Native.Nat.{ℕ, _-_}
+use lib.ListN.{length, take, replicate}
+use lib.Seq.{take-at}
+use Rattle.sizes.specs.Sizes.{orderPlaces}
+use Rattle.lists.specs.Lists.{padded}
 use Rattle.search.specs.Problem.{State}
 use Rattle.search.proofs.Laws.{KnownIn, unknown as unknownIn, known as knownIn}
 use Rattle.search.proofs.Plain.{tree, planOf, cutOf}
 use Rattle.search.proofs.Optimal.{reached-known}
 use Rattle.orders.specs.Orders.{Node, size, Order}
-use Rattle.orders.proofs.Order.{leads-order}
+use Rattle.orders.proofs.Order.{leads-order, order-length}
 use Rattle.days.specs.Days.{problem}
 use Rattle.records.specs.Records.{recordsIn}
 use Rattle.answer.specs.Call.{Call}
 use Rattle.answer.specs.Checks.{cause}
-use Rattle.answer.specs.Answer.{problemOf, choicesOf, given, StateOf}
+use Rattle.answer.specs.Answer.{dayOf, problemOf, choicesOf, given, StateOf, reportWith}
+use Rattle.answer.specs.Ends.{HasOrder}
 use Rattle.answer.proofs.Passes.{Passes, passes}
 use Rattle.answer.proofs.Instance.{call-lawful, bound-laws, start-known, state-reached}
 
@@ -33,3 +40,16 @@ best-known c passed {s} steps =
     at : (best : Option Node) → KnownIn (problemOf c) best → BestKnown c best
     at best unknownIn = unknown
     at best (knownIn x whole leads) = known x (leads-order (c .job .n) (problemOf c) (λ y. refl) x whole leads)
+
+-- a report's first n places hold its order
+padded-front : (n : ℕ) (x : Node) → Order n x → take n (padded orderPlaces x) ≡ x
+unfolding padded
+padded-front n x o = take-at x (replicate (orderPlaces - length x) 0) n (order-length n x o)
+
+pub order-reported :
+    (c : Call) (number mark floor : ℕ) (x : Node) (s : State Node) → Order (c .job .n) x
+    → HasOrder c (reportWith number mark (dayOf c .cost x) floor x s)
+unfolding reportWith
+order-reported c number mark floor x s o =
+    let front : take (c .job .n) (padded orderPlaces x) ≡ x = padded-front (c .job .n) x o in
+    record { is-order = rw front o; zeros-past-n = ap (padded orderPlaces) (sym front); cost-is-its = ap (dayOf c .cost) (sym front) }

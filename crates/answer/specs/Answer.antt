@@ -37,7 +37,7 @@ unfoldable pub outcome : Call → Outcome Node
 outcome c =
     run (problemOf c) (choicesOf c) (recordsIn (c .pool)) (suc (nodes (c .job .n))) (start (problemOf c) (given (c .start)))
 
--- The states of a call's run: what steps of the written run come to, each of which the budget allowed and fitted the pool.
+-- The states of a call's run: what steps of the written run come to, each allowed by the budget and fitting the pool.
 abbrev pub StateOf : Call → State Node → Type 0
 StateOf c s = Steps (problemOf c) (choicesOf c) (recordsIn (c .pool)) (start (problemOf c) (given (c .start))) s
 
@@ -70,17 +70,26 @@ reportWith number mark cost floor order s = record {
   most = s .most;
 }
 
+-- A finished run reports U and its order.
+abbrev pub finishedReport : Call → State Node → Report
+finishedReport c s = reportWith 0 0 (upper (problemOf c) (s .best)) 0 (stopsOf (s .best)) s
+
+-- One that the budget stopped (request A.3) reports mark 1, the best order known with its cost, or zeros, and the floor.
+abbrev pub stoppedReport : Call → State Node → Report
+stoppedReport c s = reportWith 0 1 (costOf (problemOf c) (s .best)) (floorOf c s) (stopsOf (s .best)) s
+
+-- One that filled the pool reports number 7, and zeros beside the counts.
+abbrev pub fullReport : Call → State Node → Report
+fullReport c s = reportWith 7 0 0 0 [] s
+
 -- Of the pool before the run, only the length is looked at.
 unfoldable pub wordsOf : Call → State Node → List ℕ
 wordsOf c s = poolWords (c .job .n) (dayOf c) (c .job .bound) (c .job .rules) (length (c .pool)) s
 
--- A finished run has U and its order. One that the budget stopped (request A.3) has mark 1, the best order known and the floor. One that
--- filled the pool has number 7, and zeros.
 unfoldable pub ending : Call → Outcome Node → Answer
-ending c (finished s) = record { report = reportWith 0 0 (upper (problemOf c) (s .best)) 0 (stopsOf (s .best)) s; pool = wordsOf c s }
-ending c (stopped s) =
-    record { report = reportWith 0 1 (costOf (problemOf c) (s .best)) (floorOf c s) (stopsOf (s .best)) s; pool = wordsOf c s }
-ending c (full s) = record { report = reportWith 7 0 0 0 [] s; pool = wordsOf c s }
+ending c (finished s) = record { report = finishedReport c s; pool = wordsOf c s }
+ending c (stopped s) = record { report = stoppedReport c s; pool = wordsOf c s }
+ending c (full s) = record { report = fullReport c s; pool = wordsOf c s }
 -- never comes, and has no number in document 01
 ending c (unfinished s) = record { report = refusal 255; pool = c .pool }
 

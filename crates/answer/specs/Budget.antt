@@ -1,22 +1,24 @@
 -- What request A.3 says of a budget of branchings, a type for each of its sentences and in its order, as in `Demands`; proofs/ has a theorem for
 -- each, of the written run, and crate `planner` one of what the code returns. That costs of two finished runs are equal and how A is held
 -- against B are `OneCost` and `Favours` of `Demands`.
---   MarkedIff, StoppedAsWritten, OtherwiseZero, ExactBudget    when the mark comes, and what stands beside it
---   Shown, NoDearerThanStart, FloorHolds, BestExists, Between  the order shown, the starting order, the floor and the best of all orders
---   LargerBudget                                               of two stopped runs of one job
---   BudgetPlaysNoPart, NoRunReaches                            where the budget does not stop the run, and the largest 64-bit number
+--   MarkedIff, OtherwiseZero, StoppedAsWritten    when the mark comes, and what stands beside it
+--   ExactBudget, WithinBudget                     how many nodes are branched
+--   OrderOrZeros, NoDearerThanStart               the order shown
+--   FloorHolds, BestExists, Between               the floor, the best of all orders and the order shown
+--   LargerBudget                                  of two stopped runs of one job
+--   UnstoppedAsWithout, NoRunReaches              where the budget does not stop the run, and the largest 64-bit number
 use mathlib.Core.Path.{_≡_}
 use mathlib.Core.List.{[]}
 use mathlib.Core.Logic.{_⊎_, _≢_, _↔_}
 use Prim.Native.Nat.{ℕ, _≤_, _<_}
-use lib.ListN.{replicate}
+use lib.ListN.{replicate, getD}
 use Rattle.sizes.specs.Sizes.{orderPlaces, noBudget}
-use Rattle.lists.specs.Lists.{In, padded}
+use Rattle.lists.specs.Lists.{In}
 use Rattle.orders.specs.Orders.{Node, Order, orders}
 use Rattle.answer.specs.Call.{Call, Answer}
 use Rattle.answer.specs.declared.Report.{Report}
 use Rattle.answer.specs.Answer.{dayOf}
-use Rattle.answer.specs.Ends.{BudgetIsSpent, ComesTo, StoppedAt, orderIn}
+use Rattle.answer.specs.Ends.{BudgetIsSpent, ComesTo, StoppedAt, HasOrder}
 use Rattle.answer.specs.Demands.{Planner}
 
 -- Mark 1 comes when, and only when, the run comes to a state where the finish test does not hold and the budget is spent; so a spent budget is
@@ -24,33 +26,31 @@ use Rattle.answer.specs.Demands.{Planner}
 abbrev pub MarkedIff : Planner → Type 0
 MarkedIff P = (c : Call) (a : Answer) → P c a → (a .report .mark ≡ 1) ↔ ComesTo c BudgetIsSpent
 
--- Number, cost, order, floor, counts and pool are then those of that state.
-abbrev pub StoppedAsWritten : Planner → Type 0
-StoppedAsWritten P = (c : Call) (a : Answer) → P c a → a .report .mark ≡ 1 → StoppedAt c a
-
--- Mark and floor are 0 unless the budget stops the run.
+-- Any other report has mark 0 and floor 0.
 abbrev pub OtherwiseZero : Planner → Type 0
 OtherwiseZero P = (c : Call) (a : Answer) → P c a → a .report .mark ≢ 1 → (a .report .mark ≡ 0) × (a .report .floor ≡ 0)
+
+-- With mark 1, number, cost, order, floor, counts and pool are those of that state.
+abbrev pub StoppedAsWritten : Planner → Type 0
+StoppedAsWritten P = (c : Call) (a : Answer) → P c a → a .report .mark ≡ 1 → StoppedAt c a
 
 -- A stopped run made exactly the budget's branchings.
 abbrev pub ExactBudget : Planner → Type 0
 ExactBudget P = (c : Call) (a : Answer) → P c a → a .report .mark ≡ 1 → a .report .branched ≡ c .budget
 
--- A report shows an order.
+-- No run, however it ends, makes more.
+abbrev pub WithinBudget : Planner → Type 0
+WithinBudget P = (c : Call) (a : Answer) → P c a → a .report .branched ≤ c .budget
+
+-- A report shows an order: its first place is not 0.
 abbrev pub ShowsOrder : Report → Type 0
-ShowsOrder r = r .order ≢ replicate orderPlaces 0
+ShowsOrder r = getD (r .order) 0 0 ≢ 0
 
--- What a stopped run shows: an order of the n stops with its cost, or zeros.
-pub record OrderShown (c : Call) (r : Report) : Type 0 where
-  pub is-order : Order (c .job .n) (orderIn c r)
-  pub zeros-past-n : r .order ≡ padded orderPlaces (orderIn c r)
-  pub cost-is-its : r .cost ≡ dayOf c .cost (orderIn c r)
-
-abbrev pub NoneShown : Report → Type 0
-NoneShown r = (r .order ≡ replicate orderPlaces 0) × (r .cost ≡ 0)
-
-abbrev pub Shown : Planner → Type 0
-Shown P = (c : Call) (a : Answer) → P c a → a .report .mark ≡ 1 → OrderShown c (a .report) ⊎ NoneShown (a .report)
+-- A stopped run shows an order of the n stops with its cost, or zeros alone.
+abbrev pub OrderOrZeros : Planner → Type 0
+OrderOrZeros P =
+    (c : Call) (a : Answer) → P c a → a .report .mark ≡ 1
+    → (ShowsOrder (a .report) × HasOrder c (a .report)) ⊎ ((a .report .order ≡ replicate orderPlaces 0) × (a .report .cost ≡ 0))
 
 -- Where there is a starting order, an order is shown, and it is no dearer.
 abbrev pub NoDearerThanStart : Planner → Type 0
@@ -74,7 +74,7 @@ pub record BestCost (c : Call) (v : ℕ) : Type 0 where
 abbrev pub BestExists : Type 0
 BestExists = (c : Call) → (v : ℕ) × BestCost c v
 
--- The best of all orders costs at least the floor and, if an order is shown, at most that order.
+-- The floor is at most what that best one costs; an order that is shown costs at least as much.
 abbrev pub Between : Planner → Type 0
 Between P =
     (c : Call) (a : Answer) → P c a → a .report .mark ≡ 1 → (v : ℕ) → BestCost c v
@@ -86,7 +86,8 @@ pub record OneJob (a b : Call) : Type 0 where
   pub table : a .table ≡ b .table
   pub start : a .start ≡ b .start
 
--- Of two stopped runs of one job the one with the larger budget has no lower floor and, if the other shows an order, shows one that is no dearer.
+-- Two of its runs, both stopped: with the larger budget the floor is as high or higher; and where the other shows an order, so does this one, as
+-- cheap or cheaper.
 abbrev pub LargerBudget : Planner → Type 0
 LargerBudget P =
     (a b : Call) (x y : Answer) → P a x → P b y → OneJob a b → a .budget ≤ b .budget → x .report .mark ≡ 1 → y .report .mark ≡ 1
@@ -95,8 +96,8 @@ LargerBudget P =
 
 -- A run that the budget does not stop, a finished one among them, has the report and the pool that it has with any larger budget, and so
 -- without one.
-abbrev pub BudgetPlaysNoPart : Planner → Type 0
-BudgetPlaysNoPart P =
+abbrev pub UnstoppedAsWithout : Planner → Type 0
+UnstoppedAsWithout P =
     (a b : Call) (x y : Answer) → P a x → P b y → OneJob a b → a .pool ≡ b .pool → a .budget ≤ b .budget → x .report .mark ≢ 1 → x ≡ y
 
 -- No run reaches the largest 64-bit number: it branches fewer nodes, and with it as budget no run is stopped.

@@ -12,20 +12,24 @@ use Rattle.answer.specs.Cases.{call, found, refused, computed, Case, rep
 abbrev within : ℕ → Call → Call
 within budget c = record { job = c .job; table = c .table; start = c .start; budget = budget; pool = c .pool }
 
--- a report of a stopped run: cost, floor, order, and branched, generated, eliminated, active, most
-abbrev soFar : ℕ → ℕ → List ℕ → ℕ → ℕ → ℕ → ℕ → ℕ → Report
-soFar cost floor order branched generated eliminated active most = record {
+-- the report of a stopped run: the floor, and for the rest what a finished one would have
+abbrev soFar : ℕ → Report → Report
+soFar floor r = record {
   number = 0;
   mark = 1;
-  cost = cost;
+  cost = r .cost;
   floor = floor;
-  order = order;
-  branched = branched;
-  generated = generated;
-  eliminated = eliminated;
-  active = active;
-  most = most;
+  order = r .order;
+  branched = r .branched;
+  generated = r .generated;
+  eliminated = r .eliminated;
+  active = r .active;
+  most = r .most;
 }
+
+-- no order
+abbrev none : List ℕ
+none = replicate orderPlaces 0
 
 -- case b (FIFO, no rules, plain), which branches ten nodes
 b : Call
@@ -33,7 +37,7 @@ b = call 3 tableT 2 0 0 [] 9
 
 -- Budget 0: nothing is branched, no order is known, and the floor is the bound of e.
 b₀ : Case
-b₀ = reports (within 0 b) (soFar 0 0 (replicate orderPlaces 0) 0 1 0 1 1)
+b₀ = reports (within 0 b) (soFar 0 (found 0 none 0 1 0 1 1))
 
 nothing-branched : Holds b₀
 unfolding b₀ b tableT computed
@@ -41,7 +45,7 @@ nothing-branched = refl
 
 -- Budget 5: 12 was branched, so 123 is known. The floor is the least bound, that of 23, and not the bound of 13, which is chosen next.
 b₅ : Case
-b₅ = reports (within 5 b) (soFar 13 8 order123 5 11 0 6 6)
+b₅ = reports (within 5 b) (soFar 8 (found 13 order123 5 11 0 6 6))
 
 five-branched : Holds b₅
 unfolding b₅ b tableT computed
@@ -49,7 +53,7 @@ five-branched = refl
 
 -- Budget 9: one branching is lacking, though the order shown is a cheapest one.
 b₉ : Case
-b₉ = reports (within 9 b) (soFar 13 13 order123 9 15 0 6 6)
+b₉ = reports (within 9 b) (soFar 13 (found 13 order123 9 15 0 6 6))
 
 one-lacking : Holds b₉
 unfolding b₉ b tableT computed
@@ -63,38 +67,46 @@ budget-suffices : Holds b₁₀
 unfolding b₁₀ b tableT computed
 budget-suffices = refl
 
+-- Case c (LIFO, rules 1, plain) with budget 1: the floor is the bound of 1, and not that of 3, which is chosen next.
+c₁ : Case
+c₁ = reports (within 1 (call 3 tableT 3 1 0 [] 9)) (soFar 4 (found 0 none 1 4 0 3 3))
+
+least-under-LIFO : Holds c₁
+unfolding c₁ tableT computed
+least-under-LIFO = refl
+
 -- Case e (LIFO, rules 1, close, from 123) with budget 0: the starting order is shown.
 e₀ : Case
-e₀ = reports (within 0 (call 3 tableT 3 1 1 (1 ∷ 2 ∷ 3 ∷ []) 9)) (soFar 13 10 order123 0 1 0 1 1)
+e₀ = reports (within 0 (call 3 tableT 3 1 1 (1 ∷ 2 ∷ 3 ∷ []) 9)) (soFar 10 (found 13 order123 0 1 0 1 1))
 
 start-is-shown : Holds e₀
 unfolding e₀ tableT computed
 start-is-shown = refl
 
 -- One stop, close, from the only order: its cost is the bound of e, so with budget 0 the run is finished.
-h₀ : Case
-h₀ = reports (within 0 (call 1 (0 ∷ 3 ∷ 5 ∷ 0 ∷ []) 0 0 1 (1 ∷ []) 9)) (found 8 (1 ∷ replicate 15 0) 0 1 0 1 1)
+one₀ : Case
+one₀ = reports (within 0 (call 1 (0 ∷ 3 ∷ 5 ∷ 0 ∷ []) 0 0 1 (1 ∷ []) 9)) (found 8 (1 ∷ replicate 15 0) 0 1 0 1 1)
 
-finished-unbranched : Holds h₀
-unfolding h₀ computed
+finished-unbranched : Holds one₀
+unfolding one₀ computed
 finished-unbranched = refl
 
 -- Case f₂, one record, where the first step does not fit: with budget 0 the run is stopped before that is asked, and the pool has e ..
-f₀ : Case
-f₀ =
+full₀ : Case
+full₀ =
     answers (within 0 (call 3 tableT 3 1 1 [] 1))
-    (record { report = soFar 0 10 (replicate orderPlaces 0) 0 1 0 1 1; pool = 0 ∷ 0 ∷ 0 ∷ 10 ∷ 0 ∷ 0 ∷ [] })
+    (record { report = soFar 10 (found 0 none 0 1 0 1 1); pool = 0 ∷ 0 ∷ 0 ∷ 10 ∷ 0 ∷ 0 ∷ [] })
 
-budget-before-pool : Holds f₀
-unfolding f₀ tableT computed
+budget-before-pool : Holds full₀
+unfolding full₀ tableT computed
 budget-before-pool = refl
 
 -- .. with budget 1 the pool is full, and mark and floor are 0.
-f₁ : Case
-f₁ = reports (within 1 (call 3 tableT 3 1 1 [] 1)) (refused 7 0 1 0 1 1)
+full₁ : Case
+full₁ = reports (within 1 (call 3 tableT 3 1 1 [] 1)) (refused 7 0 1 0 1 1)
 
-full-is-unmarked : Holds f₁
-unfolding f₁ tableT computed
+full-is-unmarked : Holds full₁
+unfolding full₁ tableT computed
 full-is-unmarked = refl
 
 -- A budget changes no refusal by 1 to 6.
@@ -106,8 +118,8 @@ unfolding j₀ computed
 refused-as-before = refl
 
 pub budgetCases : List Case
-budgetCases = b₀ ∷ b₅ ∷ b₉ ∷ b₁₀ ∷ e₀ ∷ h₀ ∷ f₀ ∷ f₁ ∷ j₀ ∷ []
+budgetCases = b₀ ∷ b₅ ∷ b₉ ∷ b₁₀ ∷ c₁ ∷ e₀ ∷ one₀ ∷ full₀ ∷ full₁ ∷ j₀ ∷ []
 
 pub budget-cases-hold : AllHold budgetCases
 unfolding budgetCases
-budget-cases-hold = (nothing-branched, (five-branched, (one-lacking, (budget-suffices, (start-is-shown, (finished-unbranched, (budget-before-pool, (full-is-unmarked, (refused-as-before, tt)))))))))
+budget-cases-hold = (nothing-branched, (five-branched, (one-lacking, (budget-suffices, (least-under-LIFO, (start-is-shown, (finished-unbranched, (budget-before-pool, (full-is-unmarked, (refused-as-before, tt))))))))))

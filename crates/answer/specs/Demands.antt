@@ -8,8 +8,7 @@ use mathlib.Core.Logic.{_⊎_, _≢_, _↔_}
 use Prim.Native.Nat.{ℕ, _+_, _≤_}
 use lib.Dec.{T}
 use lib.ListN.{length}
-use Rattle.sizes.specs.Sizes.{orderPlaces}
-use Rattle.lists.specs.Lists.{In, padded, Distinct}
+use Rattle.lists.specs.Lists.{In, Distinct}
 use Rattle.search.specs.Step.{on}
 use Rattle.orders.specs.Orders.{Node, Order, orders, factorial}
 use Rattle.answer.specs.Call.{Call, Answer}
@@ -17,7 +16,7 @@ use Rattle.answer.specs.declared.Job.{Job}
 use Rattle.answer.specs.declared.Report.{Report}
 use Rattle.answer.specs.Checks.{cause}
 use Rattle.answer.specs.Answer.{dayOf, answer}
-use Rattle.answer.specs.Ends.{Finishes, NextDoesNotFit, ComesTo, FullAt, RefusedAt, orderIn, Ended}
+use Rattle.answer.specs.Ends.{Finishes, NextDoesNotFit, ComesTo, FullAt, RefusedAt, HasOrder, Ended}
 
 -- A planner as its callers see it: which answers it gives to a call. An answer is the report and the words that the pool holds afterwards.
 abbrev pub Planner : Type 1
@@ -74,9 +73,7 @@ OneCost P =
 
 -- The cost is that of the order reported with it, and each of the n! orders of the stops costs at least as much.
 pub record Cheapest (c : Call) (r : Report) : Type 0 where
-  pub is-order : Order (c .job .n) (orderIn c r)
-  pub zeros-past-n : r .order ≡ padded orderPlaces (orderIn c r)
-  pub cost-is-its : r .cost ≡ dayOf c .cost (orderIn c r)
+  pub has-order : HasOrder c r
   pub least : (y : Node) → In y (orders (c .job .n)) → r .cost ≤ dayOf c .cost y
 
 abbrev pub CheapestOfAll : Planner → Type 0

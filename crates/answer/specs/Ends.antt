@@ -1,18 +1,21 @@
 -- How a call's run ends: what the demands (`Demands`) and request A.3 (`Budget`) speak of. Document 01, "One run", "The pool", "The report"
 -- and "Causes and numbers"; document 02, A.3.
---   Finishes                                           what a report of a finished run says
---   made                                               how many steps a run made
+--   Finishes                           what a report of a finished run says
+--   made                               how many steps a run made
 --   FinishTestHolds, BudgetIsSpent, NextDoesNotFit, Ends    what ends a run at a state
---   ComesTo                                            the run of a call comes to such a state
---   FinishedAt, StoppedAt, FullAt, RefusedAt, Ended    an answer with number 0, with 0 and mark 1, with 7, with 1 to 6; one of these
---   orderIn                                            the order of a report
+--   ComesTo, EndsAt                    the run of a call comes to such a state; an answer is that of such a state
+--   FinishedAt, StoppedAt, FullAt      an answer with number 0 and mark 0, with 0 and mark 1, with 7
+--   RefusedAt, Ended                   an answer with 1 to 6; one of the four
+--   orderIn, HasOrder                  the order of a report, and that it has one
 use mathlib.Core.Path.{_≡_}
-use mathlib.Core.List.{List, []}
+use mathlib.Core.List.{List}
 use mathlib.Core.Logic.{_⊎_}
 use Prim.Native.Nat.{ℕ, suc, _≤_}
 use lib.Dec.{T}
 use lib.ListN.{take}
-use Rattle.search.specs.Problem.{Problem, Choices, State, upper}
+use Rattle.sizes.specs.Sizes.{orderPlaces}
+use Rattle.lists.specs.Lists.{padded}
+use Rattle.search.specs.Problem.{Problem, Choices, State}
 use Rattle.search.specs.Selection.{chosen, select, finishes}
 use Rattle.search.specs.Run.{Steps, none, more, Halts, Overflows}
 use Rattle.orders.specs.Orders.{Node, Order}
@@ -20,7 +23,7 @@ use Rattle.records.specs.Records.{recordsIn}
 use Rattle.answer.specs.Call.{Call, Answer, refusal}
 use Rattle.answer.specs.declared.Report.{Report}
 use Rattle.answer.specs.Checks.{cause}
-use Rattle.answer.specs.Answer.{problemOf, choicesOf, StateOf, stopsOf, costOf, floorOf, reportWith, wordsOf}
+use Rattle.answer.specs.Answer.{dayOf, problemOf, choicesOf, StateOf, finishedReport, stoppedReport, fullReport, wordsOf}
 
 -- A report of a finished run. Number 0 alone does not say so: with mark 1 the budget stopped the run (request A.3).
 abbrev pub Finishes : Report → Type 0
@@ -55,30 +58,27 @@ pub record ComesTo (c : Call) (Q : Call → State Node → Type 0) : Type 0 wher
   -- no check refuses the call
   pub passed : cause c ≡ 0
   pub state : State Node
-  -- steps of the written run lead there, each of which the budget allowed and fitted the pool
+  -- steps of the written run lead there, each allowed by the budget and fitting the pool
   pub steps : StateOf c state
   pub there : Q c state
 
--- Number 0 with mark 0: cost and order are U and its order where the finish test held; counts and pool are those of that state.
-pub record FinishedAt (c : Call) (a : Answer) : Type 0 where
-  pub comes : ComesTo c FinishTestHolds
-  pub reported : a .report ≡ reportWith 0 0 (upper (problemOf c) (comes .state .best)) 0 (stopsOf (comes .state .best)) (comes .state)
+-- The run comes to a state that ends it; what is reported is a report of that state, and the pool holds it.
+pub record EndsAt (c : Call) (a : Answer) (Q : Call → State Node → Type 0) (report : Call → State Node → Report) : Type 0 where
+  pub comes : ComesTo c Q
+  pub reported : a .report ≡ report c (comes .state)
   pub pool-holds : a .pool ≡ wordsOf c (comes .state)
 
--- Number 0 with mark 1 (request A.3): cost and order are those of the best order known where the budget was spent, zeros if none was; the floor
--- is the least bound among the active nodes; counts and pool are those of that state.
-pub record StoppedAt (c : Call) (a : Answer) : Type 0 where
-  pub comes : ComesTo c BudgetIsSpent
-  pub reported :
-      a .report
-      ≡ reportWith 0 1 (costOf (problemOf c) (comes .state .best)) (floorOf c (comes .state)) (stopsOf (comes .state .best)) (comes .state)
-  pub pool-holds : a .pool ≡ wordsOf c (comes .state)
+-- Number 0 with mark 0: where the finish test holds.
+abbrev pub FinishedAt : Call → Answer → Type 0
+FinishedAt c a = EndsAt c a FinishTestHolds finishedReport
 
--- Number 7: mark, floor, cost and order are zero; counts and pool are those of the state before the step that did not fit.
-pub record FullAt (c : Call) (a : Answer) : Type 0 where
-  pub comes : ComesTo c NextDoesNotFit
-  pub reported : a .report ≡ reportWith 7 0 0 0 [] (comes .state)
-  pub pool-holds : a .pool ≡ wordsOf c (comes .state)
+-- Number 0 with mark 1 (request A.3): where the budget is spent.
+abbrev pub StoppedAt : Call → Answer → Type 0
+StoppedAt c a = EndsAt c a BudgetIsSpent stoppedReport
+
+-- Number 7: before the step that does not fit.
+abbrev pub FullAt : Call → Answer → Type 0
+FullAt c a = EndsAt c a NextDoesNotFit fullReport
 
 -- Numbers 1 to 6: the first cause that applies and zeros; the pool is as it was.
 pub record RefusedAt (c : Call) (a : Answer) : Type 0 where
@@ -90,6 +90,12 @@ pub record RefusedAt (c : Call) (a : Answer) : Type 0 where
 -- the order of a report: its first n places
 abbrev pub orderIn : Call → Report → Node
 orderIn c r = take (c .job .n) (r .order)
+
+-- A report has an order of the n stops, zeros past n, and that order's own cost.
+pub record HasOrder (c : Call) (r : Report) : Type 0 where
+  pub is-order : Order (c .job .n) (orderIn c r)
+  pub zeros-past-n : r .order ≡ padded orderPlaces (orderIn c r)
+  pub cost-is-its : r .cost ≡ dayOf c .cost (orderIn c r)
 
 -- How a call can end: with an order of the n stops, stopped by the budget, with a full pool, or refused by a check.
 pub data Ended (c : Call) (a : Answer) : Type 0 where

@@ -3,7 +3,7 @@
 --   setting-counts                           no count of a run is above that of all nodes
 --   choice-selection, choice-rules           the caller's choices are the setting's
 --   given-known, given-valid                 a starting order is a complete node of the tree, and a partial order
---   encode-size, order-words                 the record of a node has its size; that of an order has its cost and its words
+--   encode-size, encode-bound, order-words    the record of a node has its size and its bound; that of an order has its cost and its words
 --   call-rows, call-problem, call-choices    a call's problem and choices are those of its setting and its table's rows
 --   call-words                               and its words are those of such nodes' records
 use mathlib.Core.Path.{_≡_, refl, ap, sym, subst}
@@ -104,7 +104,7 @@ module _ {d : Setting} {t : Table} (ok : Rows d t) where
   order-words x o = (bound-exact (rows-walk (d .n) t) (d .bound) (ok .bound) x (order-complete (d .n) x o), refl, refl)
 
 module _ (c : Call) {t : Table} (e : t ≡ rows (c .job .n) (c .table)) where
-  pub call-rows : Passes c → Rows (settingOf (c .job) (c .budget)) t
+  pub call-rows : Passes c → Rows (settingOf c) t
   call-rows ok = record {
     some = ok .some;
     few = ok .few;
@@ -112,11 +112,11 @@ module _ (c : Call) {t : Table} (e : t ≡ rows (c .job .n) (c .table)) where
     bound = ok .bound;
   }
 
-  pub call-problem : problemOf (settingOf (c .job) (c .budget)) t ≡ callProblem c
+  pub call-problem : problemOf (settingOf c) t ≡ callProblem c
   unfolding problemOf callProblem dayOf
   call-problem = ap (λ (u : Table). problem (c .job .n) (dayOn (c .job .n) u)) e
 
-  pub call-choices : choicesOf (settingOf (c .job) (c .budget)) t ≡ callChoices c
+  pub call-choices : choicesOf (settingOf c) t ≡ callChoices c
   unfolding choicesOf callChoices dayOf
   call-choices = ap (λ (u : Table). choices (dayOn (c .job .n) u) (c .job .selection) (c .job .rules) (c .job .bound) (c .budget)) e
 
@@ -124,7 +124,7 @@ module _ (c : Call) {t : Table} (e : t ≡ rows (c .job .n) (c .table)) where
   pub call-words :
       (s : State Node) (w : List ℕ) → length w ≡ length (c .pool) → length w % recordWords ≡ 0
       → records w
-      ≡ map (encodeOf (settingOf (c .job) (c .budget)) t) (held (c .job .rules) s)
+      ≡ map (encodeOf (settingOf c) t) (held (c .job .rules) s)
       ++ replicate (length (records w) - length (held (c .job .rules) s)) emptyRecord
       → w ≡ wordsOf c s
   unfolding wordsOf poolWords dayOf encodeOf

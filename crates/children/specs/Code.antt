@@ -1,7 +1,7 @@
 -- A setting and a table's rows as a problem on records, and what the functions of this crate compute. `proofs/` shows that it is the
 -- problem of their day, node by node. These definitions are the code's own: a reader of the promise needs none of them.
 --   Rows                              what a run asks of both
---   settingOf, jobOf                  the setting of a job and a budget, and the job of a setting
+--   settingOf, jobOf                  the setting of a call, and the job of a setting
 --   problemOf, choicesOf, encodeOf    the problem and the caller's choices on nodes, and the record of a node
 --   childrenOf, rootOf                the children of a record, in ascending stop order, and the record of e
 --   recProblem, recChoices            the same problem and choices on records
@@ -29,6 +29,7 @@ use Rattle.stops.specs.declared.node_record.Record.{Record}
 use Rattle.records.specs.Code.{encode, inSlot}
 use Rattle.passes.specs.Code.{isWithin}
 use Rattle.rivals.specs.Code.{isFree}
+use Rattle.answer.specs.Call.{Call}
 use Rattle.answer.specs.declared.Job.{Job}
 use Rattle.children.specs.declared.best.Best.{Best}
 use Rattle.children.specs.declared.setting.Setting.{Setting}
@@ -37,8 +38,9 @@ use Rattle.children.specs.declared.spot.Spot.{Spot}
 abbrev pub Table : Type 0
 Table = List (List ℕ)
 
-abbrev pub settingOf : Job → ℕ → Setting
-settingOf job budget = record { n = job .n; selection = job .selection; rules = job .rules; bound = job .bound; budget = budget }
+abbrev pub settingOf : Call → Setting
+settingOf c =
+    record { n = c .job .n; selection = c .job .selection; rules = c .job .rules; bound = c .job .bound; budget = c .budget }
 
 abbrev pub jobOf : Setting → Job
 jobOf d = record { n = d .n; selection = d .selection; rules = d .rules; bound = d .bound }

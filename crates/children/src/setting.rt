@@ -1,4 +1,4 @@
-// What a run goes by: how many stops there are, the caller's choices, and how many nodes may be branched.
+// What a run goes by: how many stops there are, the caller's choices, and how many nodes may be branched (request A.3).
 pub struct Setting {
     pub n: u32,
     pub selection: u32,

@@ -28,6 +28,6 @@ problem n D = record {
   above = aboveEveryCost;
 }
 
--- the choices of a caller: selection, sum of the rules, bound, budget
+-- the choices of a caller: selection, sum of the rules, bound, and budget (request A.3)
 unfoldable pub choices : Day → ℕ → ℕ → ℕ → ℕ → Choices Node
 choices D selection rules bound budget = record { selection = selection; rules = rules; bound = D .bound bound; budget = budget }

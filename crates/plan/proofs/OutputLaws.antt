@@ -2,18 +2,21 @@
 --   text-fits                     a text is within its array
 --   file-refused, job-printed     a file that the reader refuses, and one whose job is planned
 --   long-output, short-output     input longer than the longest job, and the others
---   never-stopped                 no run of the program is stopped by its budget
-use mathlib.Core.Path.{_≡_, refl, ap, sym, _∙_}
+--   never-stopped                 a refusal's line is printed, or a cheapest order; never a stopped run
+use mathlib.Core.Path.{_≡_, refl, ap, ap₂, sym, _∙_}
+use mathlib.Core.Bool.{Bool, true, false}
 use mathlib.Core.List.{List}
 use mathlib.Core.Logic.{_≢_}
 use Prim.Native.Nat.{ℕ, zero, suc, _≤_, _<_}
 use lib.ListN.{length, take, replicate}
+use lib.Dec.{ltb}
 use borrow.Author.Tests.{lt-ltb, le-ltb}
 use Rattle.lists.proofs.Padded.{padded-longer}
 use Rattle.sizes.specs.Sizes.{longest, noBudget}
 use Rattle.answer.specs.Call.{Answer, callOf}
 use Rattle.answer.specs.declared.Report.{Report}
 use Rattle.answer.specs.Answer.{answer}
+use Rattle.answer.proofs.Demand3.{cheapest-of-all}
 use Rattle.answer.proofs.Budget.{no-run-reaches}
 use Rattle.job_format.specs.Contents.{Contents, contentsOf, area}
 use Rattle.job_format.specs.Reader.{read}
@@ -24,7 +27,7 @@ use Rattle.planner.specs.Promise.{Promised}
 use Rattle.report_format.specs.Printed.{refusedLine, printedBy, printed}
 use Rattle.printing.specs.Promise.{textPlaces, textOf}
 use Rattle.printing.specs.declared.Text.{Text}
-use Rattle.plan.specs.Output.{poolLength, callBy, answered, output, NeverStopped}
+use Rattle.plan.specs.Output.{poolLength, callBy, answered, outputBy, output, Prints, refusal, plan, NeverStopped}
 use Rattle.plan.specs.Cases
 
 pub text-fits : (t : Text) (xs : List ℕ) → t ≡ textOf xs → t .length ≤ length (t .bytes)
@@ -63,9 +66,30 @@ pub short-output : (input : List ℕ) → length input ≤ longest → answered 
 unfolding output
 short-output input h = rw (le-ltb longest (length input) h)
 
+-- by the length of the input, the number that the reader gives, and the number of the report
 pub never-stopped : NeverStopped
-unfolding callBy callOf printed
-never-stopped c =
-    let r : Report = answer (callBy c) .report in
-    let unmarked : r .mark ≡ 0 = no-run-reaches (callBy c) (answer (callBy c)) refl .1 refl in
-    (unmarked, ap (λ (m : ℕ). printedBy (r .number) m (c .job .n) r) unmarked)
+unfolding callBy callOf printed printedBy answered output
+never-stopped input = by-length (ltb longest (length input)) refl
+  where
+    c : Contents
+    c = read input .contents
+
+    r : Report
+    r = answer (callBy c) .report
+
+    unmarked : r .mark ≡ 0
+    unmarked = no-run-reaches (callBy c) (answer (callBy c)) refl .1 refl
+
+    by-report : (number : ℕ) → r .number ≡ number → output input ≡ printed (c .job .n) r → Prints input
+    by-report zero e same =
+        plan c (e, unmarked) (cheapest-of-all (callBy c) (answer (callBy c)) refl (e, unmarked))
+        (same ∙ ap₂ (λ (k m : ℕ). printedBy k m (c .job .n) r) e unmarked)
+    by-report (suc k) e same = refusal (suc k) (same ∙ ap (λ (j : ℕ). printedBy j (r .mark) (c .job .n) r) e)
+
+    by-reader : (number : ℕ) → read input .number ≡ number → output input ≡ answered (read input .number) c → Prints input
+    by-reader zero e same = by-report (r .number) refl (same ∙ ap (λ (k : ℕ). answered k c) e)
+    by-reader (suc k) e same = refusal (suc k) (same ∙ ap (λ (j : ℕ). answered j c) e)
+
+    by-length : (long : Bool) → ltb longest (length input) ≡ long → Prints input
+    by-length true e = refusal 9 (ap (λ (b : Bool). outputBy b input) e)
+    by-length false e = by-reader (read input .number) refl (ap (λ (b : Bool). outputBy b input) e)

@@ -8,9 +8,11 @@ use lib.ListN.{length, replicate}
 use Rattle.sizes.specs.Sizes.{recordWords, longest, noBudget}
 use Rattle.answer.specs.Call.{Call, callOf}
 use Rattle.answer.specs.Answer.{answer}
+use Rattle.answer.specs.Ends.{Finishes}
+use Rattle.answer.specs.Demands.{Cheapest}
 use Rattle.job_format.specs.Contents.{Contents}
 use Rattle.job_format.specs.Reader.{read}
-use Rattle.report_format.specs.Printed.{refusedLine, printedBy, printed}
+use Rattle.report_format.specs.Printed.{refusedLine, sevenLines, printed}
 
 -- the program's pool: its records, and its words
 abbrev pub poolRecords : ℕ
@@ -37,9 +39,12 @@ outputBy false input = answered (read input .number) (read input .contents)
 unfoldable pub output : List ℕ → List ℕ
 output input = outputBy (ltb longest (length input)) input
 
--- Document 02, A.3: the program never prints the text of a stopped run. Whatever a file holds, what is printed of its job is what is printed with
--- mark 0: document 01's seven lines, or a refusal.
+-- Document 02, A.3: whatever the input, the program prints a refusal's line, or the seven lines of a cheapest order; never the text of a stopped run.
+pub data Prints (input : List ℕ) : Type 0 where
+  refusal : (number : ℕ) → output input ≡ refusedLine number → Prints input
+  plan :
+      (c : Contents) → Finishes (answer (callBy c) .report) → Cheapest (callBy c) (answer (callBy c) .report)
+      → output input ≡ sevenLines (c .job .n) (answer (callBy c) .report) → Prints input
+
 abbrev pub NeverStopped : Type 0
-NeverStopped =
-    (c : Contents)
-    → (let r = answer (callBy c) .report in (r .mark ≡ 0) × (printed (c .job .n) r ≡ printedBy (r .number) 0 (c .job .n) r))
+NeverStopped = (input : List ℕ) → Prints input

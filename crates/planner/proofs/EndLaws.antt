@@ -2,7 +2,7 @@
 --   Stands            the run of a call, at a state that the pool's words and the counts show
 --   Settled           the pool after `settle`: the active records, the branched ones with the earliest first, empty ones
 --   settle-ready, floor-ready    what `settle` and `floor` ask
---   finish-answers    the state is finished: number 0, U and its order
+--   finish-answers    the state is finished: number 0, mark 0, U and its order
 --   stop-answers      the budget is spent: mark 1, the best order known and the floor
 --   full-answers      the next step does not fit: number 7, cost and order zero
 --   never-refused     no other selection is left, since the call passed
@@ -32,7 +32,7 @@ use Rattle.records.proofs.OrderStops.{order-stops}
 use Rattle.answer.specs.Call.{Call}
 use Rattle.answer.specs.declared.Report.{Report}
 use Rattle.answer.specs.Checks.{cause}
-use Rattle.answer.specs.Answer.{problemOf, choicesOf, outcome, StateOf, stopsOf, costOf, floorOf, reportWith, wordsOf, ending, respond, answer}
+use Rattle.answer.specs.Answer.{problemOf, choicesOf, outcome, StateOf, stopsOf, costOf, floorOf, reportWith, finishedReport, wordsOf, ending, respond, answer}
 use Rattle.answer.proofs.Passes.{passes}
 use Rattle.answer.proofs.Instance.{overflow-outcome, halt-outcome, finish-outcome, known-cheap}
 use Rattle.answer.proofs.Ending.{Finished}
@@ -53,7 +53,7 @@ pub record Stands (c : Call) (t : Table) (w : List ℕ) (r : Run) : Type 0 where
   pub table : t ≡ rows (c .job .n) (c .table)
   pub long : length w ≡ length (c .pool)
   pub state : State Node
-  pub running : Running (settingOf (c .job) (c .budget)) t (c .start) w r state
+  pub running : Running (settingOf c) t (c .start) w r state
 
 -- w′ is what `settle` makes of w
 pub record Settled (capacity : ℕ) (w : List ℕ) (r : Run) (w′ : List ℕ) : Type 0 where
@@ -85,13 +85,13 @@ module _ {c : Call} {t : Table} {w : List ℕ} {r : Run} (here : Stands c t w r)
   s = here .state
 
   abbrev d : Setting
-  d = settingOf (c .job) (c .budget)
+  d = settingOf c
 
   -- the record of a node
   abbrev f : Node → Record
-  f = encodeOf (settingOf (c .job) (c .budget)) t
+  f = encodeOf (settingOf c) t
 
-  abbrev shown : Shown (settingOf (c .job) (c .budget)) w r (recordsOf (settingOf (c .job) (c .budget)) t s)
+  abbrev shown : Shown (settingOf c) w r (recordsOf (settingOf c) t s)
   shown = here .running .shows
 
   capacity-same : length (records w) ≡ recordsIn (c .pool)
@@ -159,6 +159,13 @@ module _ {c : Call} {t : Table} {w : List ℕ} {r : Run} (here : Stands c t w r)
     most = shown .most i;
   }
 
+  -- So the answer is the written one where the report is that of the state and the run ends there.
+  ends-there :
+      {w₁ w₂ : List ℕ} → w₁ ≡ w → Settled (recordsIn (c .pool)) w₁ r w₂ → {q report : Report} → q ≡ report
+      → record { report = report; pool = wordsOf c s } ≡ ending c (outcome c) → Ended c q w₂
+  ends-there {w₁} {w₂} same settled e ends =
+      ap₂ (λ (a : Report) (p : List ℕ). record { report = a; pool = p }) e (settled-words w₁ w₂ same settled) ∙ ends
+
   -- what stands for U and its order are its cost and its stops
   order-said :
       (x : Node) → Order (c .job .n) x → s .best ≡ some x
@@ -180,7 +187,7 @@ module _ {c : Call} {t : Table} {w : List ℕ} {r : Run} (here : Stands c t w r)
     unfolding answer respond
     ended = record { state = s; passed = here .passed; ran = ran; answered = ap (respond c) (here .passed) ∙ ap (ending c) ran }
 
-    finish-reported : finishedBy (c .job .n) r ≡ reportWith 0 0 (upper (problemOf c) (s .best)) 0 (stopsOf (s .best)) s
+    finish-reported : finishedBy (c .job .n) r ≡ finishedReport c s
     unfolding finishedBy ended
     finish-reported =
         let known : Solved c s = solved c ended in
@@ -190,14 +197,10 @@ module _ {c : Call} {t : Table} {w : List ℕ} {r : Run} (here : Stands c t w r)
         ∙ ap (λ (b : Option Node). reportWith 0 0 (upper (problemOf c) b) 0 (stopsOf b) s) (sym (known .best))
 
   pub finish-answers :
-      {w₁ w₂ : List ℕ} → Turned (settingOf (c .job) (c .budget)) t w w₁ (here .state) Finish → Settled (recordsIn (c .pool)) w₁ r w₂
+      {w₁ w₂ : List ℕ} → Turned d t w w₁ (here .state) Finish → Settled (recordsIn (c .pool)) w₁ r w₂
       → (q : Report) → q ≡ finishedBy (c .job .n) r → Ended c q w₂
   unfolding ending
-  finish-answers {w₁} {w₂} turned settled q e =
-      ap₂ (λ (a : Report) (p : List ℕ). record { report = a; pool = p })
-      (e ∙ finish-reported end)
-      (settled-words w₁ w₂ (turned .1) settled)
-      ∙ ap (ending c) (sym (ran end))
+  finish-answers turned settled q e = ends-there (turned .1) settled (e ∙ finish-reported end) (ap (ending c) (sym (ran end)))
     where
       end : next (problemOf c) (choicesOf c) (recordsIn (c .pool)) s ≡ finish
       end = sym next-same ∙ turned .0
@@ -223,33 +226,30 @@ module _ {c : Call} {t : Table} {w : List ℕ} {r : Run} (here : Stands c t w r)
       (counts-reported 0 1 (r .best .upper) floor _ x places ∙ ap (λ (u : ℕ). reportWith 0 1 u floor x s) cost)
 
   pub stop-answers :
-      {w₁ w₂ : List ℕ} → Turned (settingOf (c .job) (c .budget)) t w w₁ (here .state) Stop → Settled (recordsIn (c .pool)) w₁ r w₂
+      {w₁ w₂ : List ℕ} → Turned d t w w₁ (here .state) Stop → Settled (recordsIn (c .pool)) w₁ r w₂
       → (floor : ℕ) → floor ≡ least (λ (x : Record). x .bound) (take (r .active) (records w₁))
       → (q : Report) → q ≡ stoppedBy (c .job .n) floor r → Ended c q w₂
   unfolding ending
-  stop-answers {w₁} {w₂} turned settled floor least q e =
-      ap₂ (λ (a : Report) (p : List ℕ). record { report = a; pool = p })
+  stop-answers {w₁} turned settled floor least q e =
+      ends-there (turned .1) settled
       (e
       ∙ stop-reported floor (s .best) (best-known c (here .passed) state-of) refl
       ∙ ap (λ (m : ℕ). reportWith 0 1 (costOf (problemOf c) (s .best)) m (stopsOf (s .best)) s) (least ∙ floor-said w₁ (turned .1)))
-      (settled-words w₁ w₂ (turned .1) settled)
-      ∙ ap (ending c) (sym (halt-outcome c state-of spent))
+      (ap (ending c) (sym (halt-outcome c state-of spent)))
     where
       spent : Halts (problemOf c) (choicesOf c) (recordsIn (c .pool)) s
       spent = next-halts (problemOf c) (choicesOf c) (recordsIn (c .pool)) (sym next-same ∙ turned .0)
 
   pub full-answers :
-      {w₁ w₂ : List ℕ} → Turned (settingOf (c .job) (c .budget)) t w w₁ (here .state) Full → Settled (recordsIn (c .pool)) w₁ r w₂
+      {w₁ w₂ : List ℕ} → Turned d t w w₁ (here .state) Full → Settled (recordsIn (c .pool)) w₁ r w₂
       → (q : Report) → q ≡ fullBy r → Ended c q w₂
   unfolding ending padded fullBy
-  full-answers {w₁} {w₂} turned settled q e =
-      ap₂ (λ (a : Report) (p : List ℕ). record { report = a; pool = p })
-      (e ∙ counts-reported 7 0 0 0 (replicate orderPlaces 0) [] refl)
-      (settled-words w₁ w₂ (turned .1) settled)
-      ∙ ap (ending c) (sym (overflow-outcome c state-of over))
+  full-answers turned settled q e =
+      ends-there (turned .1) settled (e ∙ counts-reported 7 0 0 0 (replicate orderPlaces 0) [] refl)
+      (ap (ending c) (sym (overflow-outcome c state-of over)))
     where
       over : Overflows (problemOf c) (choicesOf c) (recordsIn (c .pool)) s
       over = next-overflows (problemOf c) (choicesOf c) (recordsIn (c .pool)) (sym next-same ∙ turned .0)
 
-  pub never-refused : {w₁ : List ℕ} {number : ℕ} → Turned (settingOf (c .job) (c .budget)) t w w₁ (here .state) (Refused number) → ⊥
+  pub never-refused : {w₁ : List ℕ} {number : ℕ} → Turned d t w w₁ (here .state) (Refused number) → ⊥
   never-refused turned = omega (arith, here .running .selects)

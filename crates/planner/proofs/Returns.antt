@@ -1,15 +1,15 @@
 -- The letter's demands and request A.3 of what `plan` returns and leaves in the pool, from its promise alone: that is an equation with `answer`, of which crate
 -- `answer` proves them.
 use Rattle.answer.specs.Demands.{EveryCallIsAnswered, EveryCallEnds, OneAnswer, RefusalsFixed, RunIsWritten, CountsBalance, FullIff, OneCost, CheapestOfAll, FavouredFinishes}
-use Rattle.answer.specs.Budget.{MarkedIff, StoppedAsWritten, OtherwiseZero, ExactBudget, Shown, NoDearerThanStart, FloorHolds, Between, LargerBudget, BudgetPlaysNoPart, NoRunReaches}
+use Rattle.answer.specs.Budget.{MarkedIff, StoppedAsWritten, OtherwiseZero, ExactBudget, WithinBudget, OrderOrZeros, NoDearerThanStart, FloorHolds, Between, LargerBudget, UnstoppedAsWithout, NoRunReaches}
 use Rattle.answer.specs.Document01.{FinishedIff, BranchedAreSteps, ContentsPlayNoPart}
 use Rattle.answer.proofs.Demand1.{call-answered, call-ends, one-answer, refusals-fixed}
 use Rattle.answer.proofs.Demand2.{run-is-written, counts-balance, full-iff, finished-iff, branched-are-steps}
 use Rattle.answer.proofs.Demand3.{one-cost, cheapest-of-all}
 use Rattle.answer.proofs.Demand3Pairs.{favoured-finishes}
 use Rattle.answer.proofs.Contents.{contents-play-no-part}
-use Rattle.answer.proofs.Budget.{marked-iff, stopped-as-written, otherwise-zero, exact-budget, order-shown, floor-holds, best-between, no-run-reaches}
-use Rattle.answer.proofs.BudgetPairs.{no-dearer-than-start, larger-budget, budget-plays-no-part}
+use Rattle.answer.proofs.Budget.{marked-iff, stopped-as-written, otherwise-zero, exact-budget, within-budget, order-or-zeros, floor-holds, best-between, no-run-reaches}
+use Rattle.answer.proofs.BudgetPairs.{no-dearer-than-start, larger-budget, unstopped-as-without}
 use Rattle.planner.specs.Demands.{returned}
 
 -- demand 1 (that the code's call returns at all is what every proved contract says)
@@ -68,8 +68,11 @@ returned-otherwise-zero = otherwise-zero
 pub returned-exact-budget : ExactBudget returned
 returned-exact-budget = exact-budget
 
-pub returned-shown : Shown returned
-returned-shown = order-shown
+pub returned-within-budget : WithinBudget returned
+returned-within-budget = within-budget
+
+pub returned-order-or-zeros : OrderOrZeros returned
+returned-order-or-zeros = order-or-zeros
 
 pub returned-no-dearer : NoDearerThanStart returned
 returned-no-dearer = no-dearer-than-start
@@ -83,8 +86,8 @@ returned-between = best-between
 pub returned-larger-budget : LargerBudget returned
 returned-larger-budget = larger-budget
 
-pub returned-no-part : BudgetPlaysNoPart returned
-returned-no-part = budget-plays-no-part
+pub returned-as-without : UnstoppedAsWithout returned
+returned-as-without = unstopped-as-without
 
 pub returned-never-reached : NoRunReaches returned
 returned-never-reached = no-run-reaches

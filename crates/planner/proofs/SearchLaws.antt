@@ -2,15 +2,15 @@
 --   run-begins      the start is a state of the run
 --   turn-keeps      a turn that goes on leads to a state of the run, which pool and counts show
 --   turn-falls      each turn branches one node more, and no run branches more nodes than there are
-use mathlib.Core.Path.{_≡_, ap, _∙_}
+use mathlib.Core.Path.{_≡_, _∙_}
 use mathlib.Core.List.{List}
-use Prim.Native.Nat.{ℕ, _+_, _-_, _<_}
+use Prim.Native.Nat.{ℕ, _-_, _<_}
 use native.Mathlib.Omega.{arith}
-use lib.ListN.{length, length-map, length-append}
+use lib.ListN.{length, length-map}
 use Rattle.search.specs.Problem.{Problem, Choices, State, start}
-use Rattle.search.specs.Step.{step}
 use Rattle.search.specs.Run.{Stepped, Steps, none, more}
 use Rattle.search.proofs.Outcome.{next-stepped}
+use Rattle.search.proofs.Budget.{stepped-adds}
 use Rattle.orders.specs.Orders.{Node, nodes}
 use Rattle.stops.specs.Tables.{rows}
 use Rattle.records.specs.Code.{records}
@@ -28,18 +28,11 @@ use Rattle.planner.specs.declared.run.Turn.the-variants.{Go}
 
 pub run-begins :
     (c : Call) → Passes c → {t : Table} → t ≡ rows (c .job .n) (c .table) → {w : List ℕ} {r : Run}
-    → (let d = settingOf (c .job) (c .budget) in
+    → (let d = settingOf c in
     Shown d w r (recordsOf d t (start (problemOf d t) (given (c .start))))
     → Running d t (c .start) w r (start (problemOf d t) (given (c .start))))
 run-begins c ok e shown =
     record { rows = call-rows c e ok; selects = ok .selection; starts = ok .start; steps = none; shows = shown }
-
--- a step branches one node
-stepped-branched :
-    {N : Type 0} (P : Problem N) (C : Choices N) (capacity : ℕ) {s s′ : State N} → Stepped P C capacity s s′
-    → length (s′ .branched) ≡ length (s .branched) + 1
-unfolding step
-stepped-branched {N} P C capacity {s} h = ap (λ (u : State N). length (u .branched)) (h .steps) ∙ length-append (s .branched) _
 
 -- the run counts the branched nodes
 branched-shown :
@@ -76,5 +69,5 @@ module _
           setting-counts d t (length (records w)) (given first) (here .selects) steps .branched,
           branched-shown d t s (here .shows),
           branched-shown d t (turned .0) (turned .2),
-          stepped-branched P C (length (records w)) stepped,
+          stepped-adds P C (length (records w)) stepped,
         )

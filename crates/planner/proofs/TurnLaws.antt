@@ -189,7 +189,7 @@ module _
             let e : b .size ≡ size (d .n) x = ap (λ (y : Record). y .size) (chosen-encoded .same) ∙ encode-size d t x in
             omega (arith, setting-lawful (running .rows) .sized .small x)
 
-        -- What comes next of the records: the selection, the finish test and the step, one after the other.
+        -- What comes next of the records: the selection, the finish test, the budget and the step, one after the other.
         shown-selects : select Q D (S .active) ≡ chosen b (dropAt i (S .active))
         unfolding select recProblem recChoices
         shown-selects =

@@ -2,6 +2,7 @@
 -- written run. These definitions are the code's own: a reader of the promise needs none of them.
 --   recordsOf    a state with each node as its record
 --   Running      the run goes on at a state, which the pool and the counts show
+--   nextOf       what comes next of it
 --   Turned       what a turn gives
 --   reported, placesOf, finishedBy, fullBy, stoppedBy    the report of a run that has ended, and by how it ended
 --   Ended        what is returned and left in the pool is what the call's run ends with
@@ -63,7 +64,7 @@ Turned d t w w′ s Full = (nextOf d t w s ≡ overflow) × (w′ ≡ w)
 Turned d t w w′ s (Refused number) = ((3 < d .selection) × (number ≡ 4)) × (w′ ≡ w)
 Turned d t w w′ s (Go r) = (s′ : State Node) × (nextOf d t w s ≡ go s′) × Shown d w′ r (recordsOf d t s′)
 
--- with a number, a mark, a cost, a floor and an order's places
+-- a report with a number, a mark, a cost, a floor and an order's places, and the counts of a run
 unfoldable pub reported : ℕ → ℕ → ℕ → ℕ → List ℕ → Run → Report
 reported number mark cost floor order r = record {
   number = number;

@@ -1,4 +1,4 @@
-// The report of a call, by how it ended. These functions are this crate's own, and what they require `search` meets.
+// The report of a call, by how it ended. These functions are this crate's own, and what they require `search` and `plan` meet.
 ghost use mathlib.Core.Path.{_≡_};
 ghost use Prim.Native.Nat.{_≤_};
 ghost use Rattle.sizes.specs.Sizes.{mostStops};
@@ -28,7 +28,7 @@ pub fn refused(number: u32) -> Report
     }
 }
 
-// With the counts of a run that has ended.
+// A report with these numbers and the counts of a run that has ended.
 fn ended(number: u32, mark: u32, cost: u32, floor: u32, order: [u8; ORDER_PLACES], r: Run) -> Report
     ensures { λ q. ⌜ q ≡ reported number mark cost floor order r ⌝ }
 {
@@ -46,7 +46,7 @@ fn ended(number: u32, mark: u32, cost: u32, floor: u32, order: [u8; ORDER_PLACES
     }
 }
 
-// Of a finished run: U and its order.
+// The report of a finished run: U and its order.
 pub fn finished(n: u32, r: Run) -> Report
     requires { ⌜ n ≤ mostStops ⌝ }
     ensures { λ q. ⌜ q ≡ finishedBy n r ⌝ }
@@ -56,7 +56,7 @@ pub fn finished(n: u32, r: Run) -> Report
     ended(0, 0, best.upper, 0, order, r)
 }
 
-// Of a run that the budget stopped: mark 1, the floor, and the best order known with its cost, or zeros while none is known.
+// The report of a run that the budget stopped (request A.3): mark 1, the floor, and the best order known with its cost, or zeros while none is known.
 pub fn stopped(n: u32, floor: u32, r: Run) -> Report
     requires { ⌜ n ≤ mostStops ⌝ }
     ensures { λ q. ⌜ q ≡ stoppedBy n floor r ⌝ }
@@ -69,7 +69,7 @@ pub fn stopped(n: u32, floor: u32, r: Run) -> Report
     ended(0, 1, best.upper, floor, order, r)
 }
 
-// Of a run that filled the pool: number 7, and zeros beside the counts.
+// The report of a run that filled the pool: number 7, and zeros beside the counts.
 pub fn full(r: Run) -> Report
     ensures { λ q. ⌜ q ≡ fullBy r ⌝ }
 {

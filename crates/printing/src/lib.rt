@@ -30,7 +30,8 @@ pub fn refusal_text(number: u32) -> Text
     Text { bytes, length }
 }
 
-// The text of a report of n stops.
+// The text of a report of n stops: of a finished run seven lines; of a stopped one (request A.3) two more, its mark and its floor, and no cost and no
+// order where none is known; of any other the refusal's line.
 pub fn report_text(n: u32, report: Report) -> Text
     ensures { λ r. ⌜ r ≡ textOf (printed n report) ⌝ }
 {

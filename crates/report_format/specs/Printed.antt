@@ -32,8 +32,8 @@ unfoldable pub knownLines : ℕ → ℕ → Report → List ℕ
 knownLines zero n r = []
 knownLines (suc stop) n r = answerLines n r
 
--- Request A.3: a run that its budget stopped. Its last two lines are the mark and the floor, which no other text has, so that its order, which
--- need not be the cheapest, is not taken for the answer.
+-- Request A.3: a run that its budget stopped. Its last two lines are the mark and the floor, so that its order, which need not be
+-- the cheapest, is not taken for the answer.
 unfoldable pub stoppedLines : ℕ → Report → List ℕ
 stoppedLines n r =
     knownLines (getD (r .order) 0 0) n r

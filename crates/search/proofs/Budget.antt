@@ -1,7 +1,8 @@
 -- The budget of document 02, A.3. A step looks neither at the budget nor at the pool: these only say where a run breaks off. So runs that
 -- differ in nothing else go through the same states, one of them at least as far as the other.
 --   withBudget                       choices with another budget
---   exact-budget                     where the budget stops a run, there are as many branchings as it has
+--   stepped-adds                     a step branches one node
+--   steps-within, halts-exactly      no state has more branchings than the budget; where the budget stops a run, there are exactly as many
 --   best-never-dearer                once an order is known, one is known that costs no more
 --   halts-active                     where the budget stops a run, a node is active
 --   least-never-falls                the least bound among active nodes does not fall
@@ -45,7 +46,7 @@ learn-keeps {N} P x (c ∷ cs) = at (P .complete c && ltb (P .cost c) (P .cost x
     at false again = again x
 
 module _ {N : Type 0} (P : Problem N) (C : Choices N) (capacity : ℕ) where
-  stepped-adds : {s s′ : State N} → Stepped P C capacity s s′ → length (s′ .branched) ≡ suc (length (s .branched))
+  pub stepped-adds : {s s′ : State N} → Stepped P C capacity s s′ → length (s′ .branched) ≡ suc (length (s .branched))
   unfolding step
   stepped-adds {s} h = rw (h .steps) (omega (arith, length-append (s .branched) (h .b ∷ [])))
 
@@ -53,14 +54,14 @@ module _ {N : Type 0} (P : Problem N) (C : Choices N) (capacity : ℕ) where
   steps-grow none = omega arith
   steps-grow (more r h) = omega (arith, steps-grow r, stepped-adds h)
 
-  steps-within : {s e : State N} → Steps P C capacity s e → length (s .branched) ≤ C .budget → length (e .branched) ≤ C .budget
+  pub steps-within : {s e : State N} → Steps P C capacity s e → length (s .branched) ≤ C .budget → length (e .branched) ≤ C .budget
   steps-within none low = low
   steps-within (more r h) low = omega (arith, stepped-adds h)
 
-  pub exact-budget :
+  pub halts-exactly :
       (best : Option N) {e : State N} → Steps P C capacity (start P best) e → Halts P C capacity e → length (e .branched) ≡ C .budget
   unfolding start
-  exact-budget best r h = omega (arith, steps-within r (omega arith))
+  halts-exactly best r h = omega (arith, steps-within r (omega arith))
 
   pub best-never-dearer :
       {s e : State N} → Steps P C capacity s e → (x : N) → s .best ≡ some x → (y : N) × (e .best ≡ some y) × (P .cost y ≤ P .cost x)

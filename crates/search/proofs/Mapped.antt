@@ -1,6 +1,6 @@
 -- A problem and its image under a map f of nodes, and that choosing and learning commute with the map.
 --   Maps f Valid P Q C D    of valid nodes, Q and D say of f x what P and C say of x; the root is valid, and so is a valid node's child
---   mapChoice, mapState, mapNext, mapOutcome    a choice, a state, what comes next and an outcome, with each node mapped
+--   mapChoice, mapState, mapNext    a choice, a state and what comes next, with each node mapped
 --   ValidState              the nodes of a state are valid, and its best node is complete
 --   select-maps, finishes-maps, learn-maps    the selection, the finish test and part 2 of a step commute with the map
 -- That a step does so is in `MappedStep`, that runs do in `MappedRun`.
@@ -17,7 +17,7 @@ use Rattle.lists.proofs.Map.{least-map}
 use Rattle.search.specs.Problem.{Problem, Choices, State, upper}
 use Rattle.search.specs.Selection.{Choice, nothing, chosen, behind, orElse, earliest, latest, selectBy, select, empty, finishes}
 use Rattle.search.specs.Step.{replace, learn}
-use Rattle.search.specs.Run.{Next, finish, halt, overflow, go, Outcome, finished, stopped, full, unfinished}
+use Rattle.search.specs.Run.{Next, finish, halt, overflow, go}
 use Rattle.search.proofs.Learn.{taught}
 
 pub record Maps
@@ -56,12 +56,6 @@ module _ {N M : Type 0} (f : N → M) where
   mapNext halt = halt
   mapNext overflow = overflow
   mapNext (go s) = go (mapState s)
-
-  abbrev pub mapOutcome : Outcome N → Outcome M
-  mapOutcome (finished s) = finished (mapState s)
-  mapOutcome (stopped s) = stopped (mapState s)
-  mapOutcome (full s) = full (mapState s)
-  mapOutcome (unfinished s) = unfinished (mapState s)
 
 -- all of xs are valid
 abbrev pub AllValid : {N : Type 0} → (N → Type 0) → List N → Type 0

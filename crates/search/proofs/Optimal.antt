@@ -1,7 +1,7 @@
 -- Optimality, of the run from `start`. At each of its states, if the root leads to an order that costs at most v, and v is at most the
 -- upper cost, then some active node leads to such an order (`reached-alive`, the paper's Lemma 1). Hence no order is cheaper than what
 -- an ended run knows (`ended-least`). Where the problem has an order, an ended run knows one (`ended-known`), and no state is without
--- active nodes (`active-some`). The bounds of the active nodes give the floor of document 02, A.3 (`floor-holds`).
+-- active nodes (`active-some`). The bounds of the active nodes give the floor of document 02, A.3 (`active-below`).
 use mathlib.Core.Path.{_≡_, refl, subst}
 use mathlib.Core.Bool.{not}
 use mathlib.Core.List.{List, [], List·Memᴰ·not-nil, List·Memᴰ·eq-of-singleton}
@@ -185,10 +185,10 @@ module _
 
       -- The floor: some active node's bound is at most the price of any order. Of an order dearer than the upper cost it is, for some active node's
       -- is at most the price of the upper cost.
-      pub floor-holds :
+      pub active-below :
           (s : State N) → Reached t p c pool (start (t .problem) best₀) s → (y : N) → T (t .problem .complete y)
           → Leads (t .problem) (t .problem .root) y → (x : N) × In x (s .active) × (c .bound x ≤ t .price (t .problem .cost y))
-      floor-holds s r y whole leads = at (ordered (t .problem .cost y) (upper (t .problem) (s .best)))
+      active-below s r y whole leads = at (ordered (t .problem .cost y) (upper (t .problem) (s .best)))
         where
           at :
               (t .problem .cost y ≤ upper (t .problem) (s .best)) ⊎ (upper (t .problem) (s .best) < t .problem .cost y)

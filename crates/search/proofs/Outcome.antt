@@ -3,9 +3,9 @@
 --   next-stepped, next-halts, next-overflows    what comes next of a state, as a step, a budget that is spent or a step that does not fit
 --   full-means, overflow-full       the pool is called full when, and only when, some steps come to a step that does not fit: the first
 --   stopped-means, halt-stopped     the run is stopped when, and only when, some steps come to a state where the budget is spent
---   finished-means, finish-finished, finish-whatever-pool    the run is finished just at the state that the finish test ends, in any pool
---   steps-reached, reached-steps    what is proved of reached states is true of the states of the written run
-use mathlib.Core.Path.{_≡_, refl, ap, sym, _∙_, subst}
+--   finished-means, finish-finished  the run is finished just at the state that the finish test ends
+--   steps-reached                    what is proved of reached states is true of the states of the written run
+use mathlib.Core.Path.{_≡_, refl, ap, _∙_, subst}
 use mathlib.Core.Bool.{Bool, true, false, not}
 use mathlib.Core.List.{List}
 use Prim.Native.Nat.{ℕ, zero, suc, _≤_, _<_}
@@ -103,7 +103,7 @@ module _ {N : Type 0} (P : Problem N) (C : Choices N) (capacity : ℕ) where
         to-true (ltb (length (s .branched)) (C .budget)) (lt→ltb (length (s .branched)) (C .budget) k),
       )
 
-  pub halts-next : {s : State N} → Halts P C capacity s → next P C capacity s ≡ halt
+  halts-next : {s : State N} → Halts P C capacity s → next P C capacity s ≡ halt
   unfolding next decide
   halts-next {s} h =
       rw (
@@ -129,25 +129,6 @@ module _ {N : Type 0} (P : Problem N) (C : Choices N) (capacity : ℕ) where
         goes-next s (h .b) (h .rest) (h .selects) (h .goes) (h .allows),
         to-true (ltb capacity (length (held (C .rules) (step P C s (h .b) (h .rest))))) (omega (arith, tests)),
       )
-
-  -- Where the finish test ends a run, the pool has no say.
-  pub finish-whatever-pool : (s : State N) → next P C capacity s ≡ finish → (r : ℕ) → next P C r s ≡ finish
-  unfolding next decide fitting
-  finish-whatever-pool s e r = at (select P C (s .active)) e
-    where
-      at : (c : Choice N) → decide P C capacity s c ≡ finish → decide P C r s c ≡ finish
-      at nothing e = refl
-      at (chosen b rest) e =
-          cases (finishes P C (s .best) b rest) (ltb (length (s .branched)) (C .budget))
-          (ltb capacity (length (held (C .rules) (step P C s b rest)))) e
-        where
-          cases :
-              (f a o : Bool) → unless f (ifAllowed a (goUnless o (step P C s b rest))) ≡ finish
-              → unless f (ifAllowed a (fitting P C r (step P C s b rest))) ≡ finish
-          cases true a o e = refl
-          cases false false o e = cc
-          cases false true true e = cc
-          cases false true false e = cc
 
   -- What an outcome says of the state that the run began at.
   abbrev Means : State N → Outcome N → Type 0
@@ -230,14 +211,3 @@ module _ {N : Type 0} (P : Problem N) (C : Choices N) (capacity : ℕ) where
     pub steps-reached : {s e : State N} → Steps P C capacity s e → Reached (tree P) (planOf P C) (cutOf C) capacity s e
     steps-reached none = here
     steps-reached (more {s′} r h) = then (steps-reached r) (next-is-verdict P C capacity known s′ ∙ ap verdictOf (stepped-next h))
-
-    pub reached-steps : {s e : State N} → Reached (tree P) (planOf P C) (cutOf C) capacity s e → Steps P C capacity s e
-    reached-steps here = none
-    reached-steps (then {s′} {s″} r v) =
-        more (reached-steps r) (cases (next P C capacity s′) (next-says s′) (sym (next-is-verdict P C capacity known s′) ∙ v))
-      where
-        cases : (n : Next N) → Says s′ n → verdictOf n ≡ onward s″ → Stepped P C capacity s′ s″
-        cases finish h e = absurd (let z : _≡_ {A = ℕ} 0 1 = cc in omega arith)
-        cases halt h e = absurd (let z : _≡_ {A = ℕ} 0 1 = cc in omega arith)
-        cases overflow h e = absurd (let z : _≡_ {A = ℕ} 0 1 = cc in omega arith)
-        cases (go s‴) h e = let q : s‴ ≡ s″ = cc in subst (Stepped P C capacity s′) q h

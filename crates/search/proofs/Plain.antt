@@ -155,10 +155,6 @@ module _ {N : Type 0} (P : Problem N) (C : Choices N) where
           (e : State N) → (run P C capacity fuel s ≡ finished e) ↔ (search (tree P) (planOf P C) (cutOf C) capacity fuel s ≡ done e)
       finished-iff-done e = (λ q. search-is-run known fuel s ∙ ap resultOf q, λ q. run-is-search ∙ ap plainly q)
 
-      pub full-iff-overfull :
-          (e : State N) → (run P C capacity fuel s ≡ full e) ↔ (search (tree P) (planOf P C) (cutOf C) capacity fuel s ≡ overfull e)
-      full-iff-overfull e = (λ q. search-is-run known fuel s ∙ ap resultOf q, λ q. run-is-search ∙ ap plainly q)
-
       pub unfinished-stuck :
           (e : State N) → run P C capacity fuel s ≡ unfinished e → search (tree P) (planOf P C) (cutOf C) capacity fuel s ≡ stuck e
       unfinished-stuck e q = search-is-run known fuel s ∙ ap resultOf q

@@ -24,9 +24,9 @@ record Free : Type 0 where
   bounds : List ℕ
   rivals : List ℕ
 
-withBudget : ℕ → Free → ℕ → ℕ → ℕ → Outcome ℕ
+outcomeWithin : ℕ → Free → ℕ → ℕ → ℕ → Outcome ℕ
 unfolding children₁ best₂ over₃ children₃ rest₃ dominated₄ children₄ dominated₅ children₅ dominated₆ rest₆ active₇ step selectBy select finishes held fitting decide next run start
-withBudget budget f selection rules capacity =
+outcomeWithin budget f selection rules capacity =
     let P : Problem ℕ = record {
       root = 0;
       children = λ x. getD (f .kids) x [];
@@ -39,7 +39,7 @@ withBudget budget f selection rules capacity =
 
 -- with a budget that no run here reaches
 abbrev outcomeOf : Free → ℕ → ℕ → ℕ → Outcome ℕ
-outcomeOf = withBudget 30
+outcomeOf = outcomeWithin 30
 
 abbrev state : List ℕ → List ℕ → Option ℕ → ℕ → ℕ → ℕ → State ℕ
 state active branched best generated eliminated most =
@@ -51,22 +51,22 @@ twins = record { kids = (1 ∷ 2 ∷ []) ∷ (3 ∷ []) ∷ (4 ∷ []) ∷ []; l
 
 -- FIFO, rule 1: nodes whose bound equals U stay active, and 4, as cheap as 3, does not replace it.
 equal-bounds-stay : outcomeOf twins 2 1 9 ≡ finished (state (3 ∷ 4 ∷ []) (0 ∷ 1 ∷ 2 ∷ []) (some 3) 5 0 2)
-unfolding withBudget twins
+unfolding outcomeWithin twins
 equal-bounds-stay = refl
 
 -- Least bound, the earliest of equals: 1 is branched before 2, and 2 then ends the run.
 earliest-of-equals : outcomeOf twins 0 0 9 ≡ finished (state (2 ∷ 3 ∷ []) (0 ∷ 1 ∷ []) (some 3) 4 0 2)
-unfolding withBudget twins
+unfolding outcomeWithin twins
 earliest-of-equals = refl
 
 -- Least bound, the latest of equals.
 latest-of-equals : outcomeOf twins 1 0 9 ≡ finished (state (1 ∷ 4 ∷ []) (0 ∷ 2 ∷ []) (some 4) 4 0 2)
-unfolding withBudget twins
+unfolding outcomeWithin twins
 latest-of-equals = refl
 
 -- LIFO: behind the complete 4 the incomplete 1 is branched; the run ends when all are complete.
 complete-nodes-skipped : outcomeOf twins 3 0 9 ≡ finished (state (4 ∷ 3 ∷ []) (0 ∷ 2 ∷ 1 ∷ []) (some 4) 5 0 2)
-unfolding withBudget twins
+unfolding outcomeWithin twins
 complete-nodes-skipped = refl
 
 -- 1 has 3, 2 has 4, which have the complete 5 and 6; 3 and 4 dominate each other, as orders of equal path cost do.
@@ -80,22 +80,22 @@ rivals = record {
 
 -- FIFO, rules 2 and 8: the child 4 falls to the active 3 and, eliminated, does not eliminate it; 3 goes on to 5.
 eliminated-child-spares : outcomeOf rivals 2 10 9 ≡ finished (state (5 ∷ []) (0 ∷ 1 ∷ 2 ∷ 3 ∷ []) (some 5) 6 1 2)
-unfolding withBudget rivals
+unfolding outcomeWithin rivals
 eliminated-child-spares = refl
 
 -- FIFO, rule 8 alone: the child 4 eliminates the active 3.
 child-eliminates : outcomeOf rivals 2 8 9 ≡ finished (state (6 ∷ []) (0 ∷ 1 ∷ 2 ∷ 4 ∷ []) (some 6) 6 1 2)
-unfolding withBudget rivals
+unfolding outcomeWithin rivals
 child-eliminates = refl
 
 -- Least bound, rule 4: 3 is branched before 4 is generated, and eliminates it.
 branched-node-eliminates : outcomeOf rivals 0 4 9 ≡ finished (state (5 ∷ []) (0 ∷ 1 ∷ 3 ∷ 2 ∷ []) (some 5) 6 1 2)
-unfolding withBudget rivals
+unfolding outcomeWithin rivals
 branched-node-eliminates = refl
 
 -- The same in four records: the third step would leave two active and three branched nodes, so the state before it stands.
 branched-nodes-fill : outcomeOf rivals 0 4 4 ≡ full (state (2 ∷ 3 ∷ []) (0 ∷ 1 ∷ []) none 4 0 2)
-unfolding withBudget rivals
+unfolding outcomeWithin rivals
 branched-nodes-fill = refl
 
 -- FIFO, rule 1: when 4 is found at cost 3, the active 2 falls and 3 stays; then its child 5 falls.
@@ -103,30 +103,30 @@ dear : Free
 dear = record { kids = (1 ∷ 2 ∷ 3 ∷ []) ∷ (4 ∷ []) ∷ [] ∷ (5 ∷ []) ∷ []; leaves = 4 ∷ []; bounds = 1 ∷ 1 ∷ 4 ∷ 2 ∷ 3 ∷ 7 ∷ []; rivals = [] }
 
 dear-nodes-fall : outcomeOf dear 2 1 9 ≡ finished (state (4 ∷ []) (0 ∷ 1 ∷ 3 ∷ []) (some 4) 6 2 3)
-unfolding withBudget dear
+unfolding outcomeWithin dear
 dear-nodes-fall = refl
 
 -- Request A.3, FIFO. A budget of 2 stops the run before its third branching, with the order that is then known; ..
-budget-stops : withBudget 2 twins 2 0 9 ≡ stopped (state (2 ∷ 3 ∷ []) (0 ∷ 1 ∷ []) (some 3) 4 0 2)
-unfolding withBudget twins
+budget-stops : outcomeWithin 2 twins 2 0 9 ≡ stopped (state (2 ∷ 3 ∷ []) (0 ∷ 1 ∷ []) (some 3) 4 0 2)
+unfolding outcomeWithin twins
 budget-stops = refl
 
 -- .. a budget of 3 is all that the run needs; ..
-budget-suffices : withBudget 3 twins 2 0 9 ≡ outcomeOf twins 2 0 9
-unfolding withBudget twins
+budget-suffices : outcomeWithin 3 twins 2 0 9 ≡ outcomeOf twins 2 0 9
+unfolding outcomeWithin twins
 budget-suffices = refl
 
 -- .. and with a budget of 0 nothing is branched.
-nothing-branched : withBudget 0 twins 2 0 9 ≡ stopped (state (0 ∷ []) [] none 1 0 1)
-unfolding withBudget twins
+nothing-branched : outcomeWithin 0 twins 2 0 9 ≡ stopped (state (0 ∷ []) [] none 1 0 1)
+unfolding outcomeWithin twins
 nothing-branched = refl
 
 -- The finish test is asked first: least bound, where the third state ends the run by a bound, is finished with a budget of 2.
-finish-before-budget : withBudget 2 twins 0 0 9 ≡ finished (state (2 ∷ 3 ∷ []) (0 ∷ 1 ∷ []) (some 3) 4 0 2)
-unfolding withBudget twins
+finish-before-budget : outcomeWithin 2 twins 0 0 9 ≡ finished (state (2 ∷ 3 ∷ []) (0 ∷ 1 ∷ []) (some 3) 4 0 2)
+unfolding outcomeWithin twins
 finish-before-budget = refl
 
 -- The budget is asked before the pool: the step that fills four records is not looked at.
-budget-before-pool : withBudget 2 rivals 0 4 4 ≡ stopped (state (2 ∷ 3 ∷ []) (0 ∷ 1 ∷ []) none 4 0 2)
-unfolding withBudget rivals
+budget-before-pool : outcomeWithin 2 rivals 0 4 4 ≡ stopped (state (2 ∷ 3 ∷ []) (0 ∷ 1 ∷ []) none 4 0 2)
+unfolding outcomeWithin rivals
 budget-before-pool = refl

@@ -87,7 +87,7 @@ module _ {N : Type 0} (P : Problem N) (C : Choices N) (capacity : ℕ) where
     none : Steps s s
     more : {s′ e : State N} → Steps s s′ → Stepped s′ e → Steps s e
 
-  -- The run goes on from s, but the budget is spent.
+  -- The run would go on from s, but the budget is spent (request A.3).
   pub record Halts (s : State N) : Type 0 where
     pub b : N
     pub rest : List N

@@ -108,7 +108,7 @@ fn latest_open(w: &[u32], a: usize, n: u32) -> usize
     a - 1
 }
 
-// The least bound among the first a records.
+// The floor of request A.3: the least bound among the first a records.
 pub fn floor(w: &[u32], a: usize) -> u32
     requires { ⌜ (0 < a) × (a ≤ length (records (now w))) ⌝ }
     ensures { λ r. ⌜ r ≡ least (λ x. x .bound) (take a (records (now (w .entry)))) ⌝ }

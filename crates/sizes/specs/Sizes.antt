@@ -1,5 +1,6 @@
 -- The numbers that documents 01 and 02 fix, by name. Each is written here, and for the code in src/lib.rt, and nowhere else; what follows from
 -- another is reckoned from it.
+use mathlib.Core.Path.{_≡_, refl}
 use Prim.Native.Nat.{ℕ, suc, _+_, _*_, _^_}
 
 -- "Legs and orders": the stops of a day, its places (the stops and home), the numbers of its table, and the dearest leg
@@ -43,6 +44,9 @@ wordStops = 8
 -- Document 02, A.3: the largest 64-bit number, as a budget that no run reaches (proved in `answer`)
 abbrev pub noBudget : ℕ
 noBudget = 18_446_744_073_709_551_615
+
+largest-of-64-bits : suc noBudget ≡ 2 ^ 64
+largest-of-64-bits = refl
 
 -- "Job file and program": the bytes of the longest job file, which are those of its table, its starting order and its trailer
 abbrev pub longest : ℕ

@@ -32,7 +32,7 @@ pub const ABOVE_EVERY_COST: u32 = 4_294_967_295;
 // A limit on bounds that every bound keeps.
 pub const NO_LIMIT: u32 = 4_294_967_295;
 
-// A budget that no run reaches: the largest 64-bit number.
+// A budget that no run reaches (request A.3): the largest 64-bit number.
 pub const NO_BUDGET: u64 = 18_446_744_073_709_551_615;
 
 // Bytes of the longest job file: its table, its starting order and its trailer.
