@@ -160,8 +160,8 @@ struct gondamuy_record {
  *              branched ones, report.branched records, earliest branched first; zeros behind.
  *   0, mark 1  Stopped: the budget was spent before the search finished, and report.branched is the budget. Every order
  *              costs at least report.floor, the least bound among the active nodes. Cost and order are those of the
- *              cheapest order that the search knows, so that a cheapest order costs at most that; they are zeros if it
- *              knows none (gondamuy_shows_order). The pool holds the nodes there, in the same layout.
+ *              cheapest order that the search knows, start included, so that a cheapest order costs at most that; they
+ *              are zeros if it knows none (gondamuy_shows_order). The pool holds the nodes there, in the same layout.
  *   1 to 6     The number, and zeros in every other field. The pool is as it was.
  *   7          The number and the counts up to there; all other fields are zeros, since the search ran short. The pool
  *              holds, in the same layout, the nodes before the branching whose nodes it could not hold.
@@ -169,7 +169,7 @@ struct gondamuy_record {
  * Before each branching it is asked first whether the search is finished, then whether the budget is spent, then
  * whether the pool holds what comes of it. So a search that finishes within its budget gives the same as without one,
  * and one whose budget is spent is never refused by 7. Planned again with a larger budget and stopped again, the same
- * job has a floor at least as high and, where an order was shown before, one at most as dear.
+ * job from the same start has a floor at least as high and, where an order was shown before, one at most as dear.
  */
 struct gondamuy_report gondamuy_plan(struct gondamuy_job job,
                                      const uint32_t *table, size_t table_len,
