@@ -4,8 +4,8 @@
  * NUMBER 0 ALONE DOES NOT SAY "CHEAPEST". A search that its budget stopped comes back with number 0 and mark 1, and a
  * cheaper order may be left. The order is a cheapest one where number and mark are both 0: gondamuy_is_finished.
  *
- * Nothing is asked of the numbers and the bytes: whatever they are, each call ends and answers what it is asked for
- * (number 0) or a refusal (number 1 to 10). What is asked is what C asks of any pointer:
+ * Nothing is asked of the numbers and the bytes: whatever they are, each call ends, with number 0 or a refusal (number
+ * 1 to 10). What is asked is what C asks of any pointer:
  *   - each points to as many elements as its length says, aligned as its type is;
  *   - pool and buffer, which are written to, overlap nothing else that the call is given;
  *   - with a length of 0 any pointer will do, a null one too.
@@ -64,7 +64,8 @@ enum gondamuy_bound {
     GONDAMUY_BOUND_CLOSE = 1  /* the legs flown and the cheapest legs to come */
 };
 
-/* Whether its budget stopped a search. Beside a refusal the mark is 0 too, so that mark 0 alone says nothing either. */
+/* Whether its budget stopped a search (request A.3). Beside a refusal the mark is 0 too, so that mark 0 alone says
+ * nothing either. */
 enum gondamuy_mark {
     GONDAMUY_NOT_STOPPED = 0, /* beside number 0: the search finished, and its order is a cheapest one */
     GONDAMUY_STOPPED = 1      /* it did not finish, and another order may be cheaper than the one shown */
@@ -106,9 +107,9 @@ struct gondamuy_job {
 /* What gondamuy_plan answers: see there, and read number and mark before anything else. */
 struct gondamuy_report {
     uint32_t number;    /* 0, or the number of the refusal: 1 to 7 */
-    uint32_t mark;      /* of enum gondamuy_mark; 0 beside a refusal */
-    uint32_t cost;      /* of the order below */
-    uint32_t floor;     /* of a stopped search: no order costs less; 0 otherwise */
+    uint32_t mark;      /* of enum gondamuy_mark (request A.3); 0 beside a refusal */
+    uint32_t cost;      /* of the order below; 0 if none is known */
+    uint32_t floor;     /* of a stopped search: no order costs less (request A.3); 0 otherwise */
     uint8_t order[GONDAMUY_ORDER_PLACES]; /* the stops as they are flown, zeros past n; all zeros if none is known */
     uint64_t branched;  /* nodes branched */
     uint64_t generated; /* the empty node and every child: branched + eliminated + active */
@@ -159,8 +160,8 @@ struct gondamuy_record {
  *              branched ones, report.branched records, earliest branched first; zeros behind.
  *   0, mark 1  Stopped: the budget was spent before the search finished, and report.branched is the budget. Every order
  *              costs at least report.floor, the least bound among the active nodes. Cost and order are those of the
- *              cheapest order that the search knows, so that a cheapest order costs at most that; they are zeros if it
- *              knows none (gondamuy_shows_order). The pool holds the nodes there, in the same layout.
+ *              cheapest order that the search knows, start included, so that a cheapest order costs at most that; they
+ *              are zeros if it knows none (gondamuy_shows_order). The pool holds the nodes there, in the same layout.
  *   1 to 6     The number, and zeros in every other field. The pool is as it was.
  *   7          The number and the counts up to there; all other fields are zeros, since the search ran short. The pool
  *              holds, in the same layout, the nodes before the branching whose nodes it could not hold.
@@ -168,7 +169,7 @@ struct gondamuy_record {
  * Before each branching it is asked first whether the search is finished, then whether the budget is spent, then
  * whether the pool holds what comes of it. So a search that finishes within its budget gives the same as without one,
  * and one whose budget is spent is never refused by 7. Planned again with a larger budget and stopped again, the same
- * job has a floor at least as high and, where an order was shown before, one at most as dear.
+ * job from the same start has a floor at least as high and, where an order was shown before, one at most as dear.
  */
 struct gondamuy_report gondamuy_plan(struct gondamuy_job job,
                                      const uint32_t *table, size_t table_len,

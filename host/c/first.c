@@ -1,7 +1,8 @@
 /* Reads a job file from standard input, prints the first order of its table, and plans it in a pool of few records:
  * from no order, from the file's own, if it has one, and from the first order. A refusal ends it with a status other
- * than 0. */
+ * than 0, and so would a search that did not finish. */
 #include <inttypes.h>
+#include <stdbool.h>
 #include <stdio.h>
 #include <stdlib.h>
 
@@ -29,18 +30,22 @@ static void print_first(const struct gondamuy_first *first, uint32_t n)
     printf("\n");
 }
 
-/* Returns the report's number. */
-static uint32_t planned(const struct gondamuy_reading *reading, size_t legs, const char *from, const uint8_t *start,
-                        size_t stops)
+/* Whether the search finished. If not, it says why. */
+static bool planned(const struct gondamuy_reading *reading, size_t legs, const char *from, const uint8_t *start,
+                    size_t stops)
 {
     static struct gondamuy_record pool[RECORDS];
 
     struct gondamuy_report report = gondamuy_plan_records(reading->job, reading->table, legs, start, stops,
                                                           GONDAMUY_NO_BUDGET, pool, RECORDS);
-    if (gondamuy_is_finished(&report))
+    if (report.number != GONDAMUY_NOT_REFUSED)
+        refused(report.number);
+    else if (!gondamuy_is_finished(&report))
+        failed("stopped");
+    else
         printf("plan from %s: cost %" PRIu32 ", branched %" PRIu64 ", most %" PRIu64 "\n", from, report.cost,
                report.branched, report.most);
-    return report.number;
+    return gondamuy_is_finished(&report);
 }
 
 int main(void)
@@ -62,10 +67,8 @@ int main(void)
     if (first.number != GONDAMUY_NOT_REFUSED)
         return refused(first.number);
     print_first(&first, n);
-    uint32_t number = planned(&reading, legs, "none", NULL, 0);
-    if (number == GONDAMUY_NOT_REFUSED)
-        number = planned(&reading, legs, "the file's order", reading.start, reading.stops);
-    if (number == GONDAMUY_NOT_REFUSED)
-        number = planned(&reading, legs, "the first order", first.order, n);
-    return number == GONDAMUY_NOT_REFUSED ? EXIT_SUCCESS : refused(number);
+    bool finished = planned(&reading, legs, "none", NULL, 0)
+                    && planned(&reading, legs, "the file's order", reading.start, reading.stops)
+                    && planned(&reading, legs, "the first order", first.order, n);
+    return finished ? EXIT_SUCCESS : EXIT_FAILURE;
 }

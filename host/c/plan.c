@@ -1,6 +1,6 @@
 /* Writes the job file of document 01's case a (three stops, least bound first, rule 1, close), reads it back and plans
  * it; then plans case b (earliest first, no rules, plain) within three budgets, of which the first two stop it. A
- * refusal ends it with a status other than 0. */
+ * refusal ends it with a status other than 0, and so would a search of case a that did not finish. */
 #include <inttypes.h>
 #include <stdio.h>
 #include <stdlib.h>
@@ -12,6 +12,12 @@
 static const uint32_t table[16] = {0, 4, 7, 9, 5, 0, 2, 6, 3, 8, 0, 1, 6, 5, 4, 0};
 static uint32_t pool[RECORDS * GONDAMUY_RECORD_WORDS];
 static const size_t words = sizeof pool / sizeof pool[0];
+
+static int failed(const char *what)
+{
+    fprintf(stderr, "%s\n", what);
+    return EXIT_FAILURE;
+}
 
 static int refused(uint32_t number)
 {
@@ -55,8 +61,10 @@ int main(void)
     size_t places = reading.job.n + 1;
     struct gondamuy_report report = gondamuy_plan(reading.job, reading.table, places * places, reading.start,
                                                   reading.stops, GONDAMUY_NO_BUDGET, pool, words);
-    if (!gondamuy_is_finished(&report))
+    if (report.number != GONDAMUY_NOT_REFUSED)
         return refused(report.number);
+    if (!gondamuy_is_finished(&report))
+        return failed("stopped");
     printf("bytes %zu\n", written.length);
     printf("cost %" PRIu32 "\n", report.cost);
     printf("order %d %d %d\n", report.order[0], report.order[1], report.order[2]);

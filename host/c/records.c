@@ -1,6 +1,6 @@
 /* Plans document 01's case a as plan.c does, with a pool of records, and beside it with the same pool as words: the
- * reports and the memory are equal. A refusal, and a pool that is not as it should be, end it with a status other than
- * 0. */
+ * reports and the memory are equal. A refusal, a search that did not finish, and a pool that is not as it should be,
+ * end it with a status other than 0. */
 #include <inttypes.h>
 #include <stdio.h>
 #include <stdlib.h>
@@ -28,10 +28,12 @@ int main(void)
     struct gondamuy_report report = gondamuy_plan_records(job, table, 16, NULL, 0, GONDAMUY_NO_BUDGET, pool, RECORDS);
     struct gondamuy_report other = gondamuy_plan(job, table, 16, NULL, 0, GONDAMUY_NO_BUDGET, words,
                                                  RECORDS * GONDAMUY_RECORD_WORDS);
-    if (!gondamuy_is_finished(&report)) {
+    if (report.number != GONDAMUY_NOT_REFUSED) {
         fprintf(stderr, "refused %" PRIu32 "\n", report.number);
         return EXIT_FAILURE;
     }
+    if (!gondamuy_is_finished(&report))
+        return failed("stopped");
     if (report.active != 1 || memcmp(&pool[0], &left, sizeof left) != 0)
         return failed("record 0 is not the node 123");
     if (memcmp(&report, &other, sizeof report) != 0 || memcmp(pool, words, sizeof pool) != 0)

@@ -34,6 +34,7 @@ pub struct Counts {
 /// # Ok::<(), Refused>(())
 /// ```
 #[derive(Clone, Copy, Debug, PartialEq, Eq)]
+#[must_use = "the search may have been stopped, with no plan"]
 pub enum Planned {
     /// The search finished: a cheapest order.
     Finished(Plan),
@@ -82,6 +83,7 @@ fn flown(order: &[u8; ORDER_PLACES]) -> &[u8] {
 
 /// A cheapest order of the stops: no order costs less.
 #[derive(Clone, Copy, Debug, PartialEq, Eq)]
+#[must_use]
 pub struct Plan {
     /// What it costs.
     pub cost: u32,
@@ -103,6 +105,7 @@ impl Plan {
 /// A larger budget that stops the same search has no lower floor and, where the smaller one has a known order, one that
 /// is no dearer.
 #[derive(Clone, Copy, Debug, PartialEq, Eq)]
+#[must_use]
 pub struct Stopped {
     /// What every order costs at least: the least bound among the active nodes.
     pub floor: u32,
@@ -114,8 +117,9 @@ pub struct Stopped {
 
 impl Stopped {
     /// How far off the known order is at most: what it costs above the floor. A cheapest order saves no more than that.
+    /// No call answers with a floor above that cost (a theorem); for a made-up report that has one it is 0.
     pub fn far_off(&self) -> Option<u32> {
-        self.known.map(|known| known.cost - self.floor)
+        self.known.map(|known| known.cost.saturating_sub(self.floor))
     }
 }
 

@@ -1,6 +1,7 @@
 //! The proved planner against the second planner: every field of the report and every word of the pool, over random
-//! jobs of many kinds. Half of them start from the first order of request A.1. Each is planned without a budget and, in
-//! the same pool, within one (request A.3), and the two reports are held to each other as well.
+//! jobs of many kinds, without a starting order and with one, at times the first order of request A.1. Most are planned
+//! without a budget and, in the same pool, within one (request A.3), and then the two reports are held to each other as
+//! well; `large_jobs_within_a_budget` has those that are planned within one alone.
 
 mod common;
 

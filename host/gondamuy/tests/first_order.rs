@@ -1,10 +1,9 @@
-//! The first order (request A.1): every field against the second planner's, the worked calls of host/vectors, and what
-//! `plan` makes of it as a starting order:
+//! The first order (request A.1): every field against the second planner's, and what `plan` makes of it as a starting
+//! order:
 //!
 //! - 60,000 tables of 1 to 6 stops and 20,000 of 7 to 16, most of them with so few values that ties are common, and the
 //!   dearest table;
 //! - 128,000 calls with causes 1 to 3, each in half of them and in every mixture, where the number is known beforehand;
-//! - 200 worked calls;
 //! - 20,000 plans of 1 to 6 stops under all choices and 100 of 7 to 16 in the pilot's way, each with and without it.
 
 mod common;
@@ -83,14 +82,6 @@ fn every_mixture_of_causes() {
         if first.number != 0 {
             assert_eq!(first, FirstOrder { number: first.number, ..FirstOrder::default() });
         }
-    }
-}
-
-#[test]
-fn worked_calls() {
-    for call in vectors::first() {
-        let told = FirstOrder { number: call.number, cost: call.cost, order: call.order };
-        assert_eq!(first_order(call.n, &call.table), told, "{call:?}");
     }
 }
 

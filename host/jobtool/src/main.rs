@@ -39,10 +39,9 @@ fn main() -> ExitCode {
         ["show"] => input().and_then(|file| text_of(&file)),
         ["first"] => input().and_then(|text| first_of(&text)),
         ["first", "start"] => input().and_then(|text| started(&text)),
-        ["plan", ref words @ ..] => match plan::Asked::of(words) {
-            Some(asked) => input().and_then(|job| plan::planned(&job, &asked)),
-            None => Err(USAGE.to_string()),
-        },
+        ["plan", ref words @ ..] => {
+            plan::Asked::of(words).and_then(|asked| input().and_then(|job| plan::planned(&job, &asked)))
+        }
         ["refusal", word] => word.parse().map(in_words).map_err(|_| USAGE.to_string()),
         _ => Err(USAGE.to_string()),
     };

@@ -1,5 +1,5 @@
 //! `jobtool plan`: what the planner makes of a job, in words. What a finished search says and what a stopped one says
-//! have no line in common but that of the counts, and a stopped one calls no order cheapest.
+//! have no line in common but that of the counts, and a stopped one calls no order cheapest and no search finished.
 
 use gondamuy::{plan_records, raw, read, Counts, Plan, Planned, Record, Refusal, Refused, Stopped, NO_BUDGET};
 use jobtext::Job;
@@ -7,37 +7,55 @@ use jobtext::Job;
 use crate::{at_line, flown, parsed};
 
 /// As many records as the pool of the program `plan` has.
-const RECORDS: usize = 2_000;
+const RECORDS: u64 = 2_000;
+
+/// As many records as may be asked for: 240 MB.
+const MOST_RECORDS: u64 = 10_000_000;
 
 /// How a job is to be planned.
 pub struct Asked {
     budget: u64,
-    records: usize,
+    records: u64,
 }
 
 impl Asked {
-    /// `budget` and `records`, each with its number, in any sequence; either may be left out.
-    pub fn of(words: &[&str]) -> Option<Asked> {
+    /// `budget` and `records`, each with its number, in any sequence; either may be left out. Or which word is wrong.
+    pub fn of(words: &[&str]) -> Result<Asked, String> {
         let (mut budget, mut records) = (None, None);
         for pair in words.chunks(2) {
+            let (asked, most) = match pair[0] {
+                "budget" => (&mut budget, u64::MAX),
+                "records" => (&mut records, MOST_RECORDS),
+                word => return Err(format!("`{word}` in the place of `budget` or `records`")),
+            };
             match *pair {
-                ["budget", number] if budget.is_none() => budget = Some(number.parse().ok()?),
-                ["records", number] if records.is_none() => records = Some(number.parse().ok()?),
-                _ => return None,
+                [name, _] if asked.is_some() => return Err(format!("`{name}` twice")),
+                [name, word] => *asked = Some(number(name, word, most)?),
+                _ => return Err(format!("`{}` without its number", pair[0])),
             }
         }
-        Some(Asked { budget: budget.unwrap_or(NO_BUDGET), records: records.unwrap_or(RECORDS) })
+        Ok(Asked { budget: budget.unwrap_or(NO_BUDGET), records: records.unwrap_or(RECORDS) })
     }
 
     fn pool(&self) -> Result<Vec<Record>, String> {
-        let mut pool = Vec::new();
-        pool.try_reserve_exact(self.records).map_err(|_| format!("no memory for {} records", self.records))?;
-        pool.resize(self.records, Record::default());
+        let (mut pool, records) = (Vec::new(), self.records as usize);
+        pool.try_reserve_exact(records).map_err(|_| format!("no memory for {records} records"))?;
+        pool.resize(records, Record::default());
         Ok(pool)
     }
 }
 
-/// A job file always holds a zero byte, the first of its trailer, and a text never does.
+/// A number in plain digits, from 0 to `most`.
+fn number(name: &str, word: &str, most: u64) -> Result<u64, String> {
+    let digits = word.bytes().all(|byte| byte.is_ascii_digit());
+    match word.parse() {
+        Ok(number) if digits && number <= most => Ok(number),
+        _ => Err(format!("`{word}` behind `{name}` is no number from 0 to {most} in plain digits")),
+    }
+}
+
+/// A job file always holds a zero byte, the first of its trailer. So what holds none is a text; a text with one is not
+/// told from a file.
 pub fn planned(job: &[u8], asked: &Asked) -> Result<Vec<u8>, String> {
     let answer = match job.contains(&0) {
         true => of_file(job, asked),
@@ -47,7 +65,8 @@ pub fn planned(job: &[u8], asked: &Asked) -> Result<Vec<u8>, String> {
 }
 
 fn of_file(file: &[u8], asked: &Asked) -> Result<Planned, String> {
-    let contents = read(file).map_err(|refusal| refusal.to_string())?;
+    let taken = "the input was taken for a job file, since it holds a zero byte";
+    let contents = read(file).map_err(|refusal| format!("{refusal}\n{taken}"))?;
     let (table, start) = (contents.table(), contents.start());
     plan_records(contents.job, table, start, asked.budget, &mut asked.pool()?).map_err(|refused| refusal(&refused))
 }
@@ -95,7 +114,7 @@ fn stopped(answer: &Stopped) -> String {
         _ => "no order is known so far\n".to_string(),
     };
     format!(
-        "stopped after {}, before the search was finished\nno order costs less than {floor}\n{known}{}\n",
+        "stopped after {}: the budget is spent\nno order costs less than {floor}\n{known}{}\n",
         branchings(done),
         counts(done)
     )

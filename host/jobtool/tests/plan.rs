@@ -41,16 +41,16 @@ fn stopped() {
     let after = |budget| plan(&["budget", budget], case_b().as_bytes()).unwrap();
     assert_eq!(
         after("0"),
-        "stopped after 0 branchings, before the search was finished\nno order costs less than 0\n\
+        "stopped after 0 branchings: the budget is spent\nno order costs less than 0\n\
          no order is known so far\nbranched 0, generated 1, eliminated 0, active 1, most 1\n"
     );
     assert_eq!(
         after("5"),
-        "stopped after 5 branchings, before the search was finished\nno order costs less than 8\n\
+        "stopped after 5 branchings: the budget is spent\nno order costs less than 8\n\
          the order known so far costs 13: 1 2 3\nanother order saves 5 at most\n\
          branched 5, generated 11, eliminated 0, active 6, most 6\n"
     );
-    assert!(after("1").starts_with("stopped after 1 branching, before the search was finished\n"));
+    assert!(after("1").starts_with("stopped after 1 branching: the budget is spent\n"));
     assert!(after("9").contains("\nanother order saves 0 at most\n"));
 }
 
@@ -60,9 +60,8 @@ fn a_stopped_search_calls_no_order_cheapest() {
     for budget in 0..10 {
         let text = plan(&["budget", &budget.to_string()], case_b().as_bytes()).unwrap();
         assert!(text.starts_with("stopped after "), "{text}");
-        assert!(["cheapest", "best", "finished after"].iter().all(|word| !text.contains(word)), "{text}");
+        assert!(["finished", "cheapest", "best"].iter().all(|word| !text.contains(word)), "{text}");
     }
-    assert!(!OF_B.contains("stopped"));
 }
 
 #[test]
@@ -103,9 +102,19 @@ fn files() {
     assert_eq!(plan(&words, &file), plan(&words, case_b().as_bytes()));
     assert!(plan(&["records", "0"], &file).unwrap_err().starts_with("refused 6:"));
     assert!(plan(&["records", "5"], &file).unwrap_err().starts_with("refused 7: the pool is full\nbranched 3,"));
-    assert_eq!(plan(&[], &[0; 12]).unwrap_err(), "refused 8: the file is shorter than 13 bytes\n");
     assert!(plan(&[], &[&file[..], &[0]].concat()).unwrap_err().starts_with("refused 1:"));
     assert!(plan(&[], &[&[0], &file[..]].concat()).unwrap_err().starts_with("refused 9:"));
+}
+
+/// What is refused is no text either, if somebody meant one: so it says what it was taken for.
+#[test]
+fn a_zero_byte_makes_a_job_file() {
+    let taken = "the input was taken for a job file, since it holds a zero byte\n";
+    let short = format!("refused 8: the file is shorter than 13 bytes\n{taken}");
+    assert_eq!(plan(&[], &[0; 12]).unwrap_err(), short);
+    let text = case_b().replace("0 4 7 9", "0 4 7 9\0");
+    let told = format!("refused 1: the number of stops is 0 or above 16\n{taken}");
+    assert_eq!(plan(&[], text.as_bytes()).unwrap_err(), told);
 }
 
 /// What the second planner says of a sample's job, in 2,000 records.
@@ -130,7 +139,7 @@ fn samples() {
             let Report { cost, floor, branched, .. } = report;
             let begins = match (report.number, report.mark) {
                 (0, 0) => format!("finished after {branched} branchings\na cheapest order costs {cost}:{stops}\n"),
-                (0, _) => format!("before the search was finished\nno order costs less than {floor}\n"),
+                (0, _) => format!(": the budget is spent\nno order costs less than {floor}\n"),
                 _ => format!("refused {}", report.number),
             };
             let text = match report.number {
@@ -151,22 +160,39 @@ fn samples() {
 
 #[test]
 fn arguments() {
-    let none = [
-        &["budget"][..],
-        &["records"],
-        &["5"],
-        &["budget", "x"],
-        &["budget", "-1"],
-        &["budget", "18446744073709551616"],
-        &["records", "6", "budget"],
-        &["budget", "5", "budget", "5"],
-        &["records", "6", "records", "6"],
-        &["pool", "6"],
+    let told = [
+        (&["budget"][..], "`budget` without its number\n"),
+        (&["records"], "`records` without its number\n"),
+        (&["records", "6", "budget"], "`budget` without its number\n"),
+        (&["budget", "5", "budget", "5"], "`budget` twice\n"),
+        (&["records", "6", "budget", "5", "records", "6"], "`records` twice\n"),
+        (&["5"], "`5` in the place of `budget` or `records`\n"),
+        (&["pool", "6"], "`pool` in the place of `budget` or `records`\n"),
+        (&["budget", "5", "6"], "`6` in the place of `budget` or `records`\n"),
     ];
-    for words in none {
-        assert!(plan(words, b"").unwrap_err().starts_with("jobtool write < TEXT > FILE\n"), "{words:?}");
+    for (words, fault) in told {
+        assert_eq!(plan(words, b"").unwrap_err(), fault, "{words:?}");
     }
-    let many = u64::MAX.to_string();
-    let told = format!("no memory for {many} records\n");
-    assert_eq!(plan(&["records", &many], case_b().as_bytes()).unwrap_err(), told);
+}
+
+/// The word and the range are named, and the largest numbers are taken: then it is the empty text that is at fault.
+#[test]
+fn numbers() {
+    for (name, largest, above) in
+        [("budget", "18446744073709551615", "18446744073709551616"), ("records", "10000000", "10000001")]
+    {
+        for word in
+            [above, "99999999999999999999999", "+5", "-1", "x", "5x", "0x5", "1_000", " 5", "5.0", "\u{663}", ""]
+        {
+            let told = format!("`{word}` behind `{name}` is no number from 0 to {largest} in plain digits\n");
+            assert_eq!(plan(&[name, word], b"").unwrap_err(), told);
+        }
+        for word in [largest, "0", "007"] {
+            assert_eq!(
+                plan(&[name, word], b"").unwrap_err(),
+                "line 1: the text ends without `stops`\n",
+                "{name} {word}"
+            );
+        }
+    }
 }

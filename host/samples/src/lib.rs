@@ -1,6 +1,9 @@
 //! What the tests and the bench try planners on: a fixed generator with the
 //! tables and orders drawn from it, and some that need none.
 
+/// Document 01's table T, of three stops.
+pub const T: [u32; 16] = [0, 4, 7, 9, 5, 0, 2, 6, 3, 8, 0, 1, 6, 5, 4, 0];
+
 /// splitmix64, by its seed.
 pub struct Random(pub u64);
 

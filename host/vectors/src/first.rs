@@ -1,7 +1,7 @@
 //! The first order (request A.1).
 
 use crate::words::Words;
-use crate::{lines, PLACES};
+use crate::{lines, ORDER_PLACES};
 
 /// A call for the first order and its answer.
 #[derive(Clone, Debug, PartialEq, Eq)]
@@ -12,7 +12,7 @@ pub struct First {
     pub number: u32,
     pub cost: u32,
     /// Zeros past n.
-    pub order: [u8; PLACES],
+    pub order: [u8; ORDER_PLACES],
 }
 
 impl First {

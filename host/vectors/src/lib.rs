@@ -11,7 +11,7 @@ pub use hash::fnv1a;
 pub use run::{runs, Run};
 
 /// Places of an order in an answer.
-pub const PLACES: usize = 16;
+pub const ORDER_PLACES: usize = 16;
 
 /// What each line of a file says, which has so many of them.
 fn lines<T>(name: &str, text: &str, count: usize, parse: fn(&str) -> Result<T, String>) -> Vec<T> {

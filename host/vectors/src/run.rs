@@ -1,7 +1,7 @@
 //! Runs (document 01 with requests A.1 to A.3).
 
 use crate::words::Words;
-use crate::{lines, PLACES};
+use crate::{lines, ORDER_PLACES};
 
 /// Words in a record of the pool.
 const RECORD: usize = 6;
@@ -27,7 +27,7 @@ pub struct Run {
     pub number: u32,
     pub cost: u32,
     /// Zeros past n.
-    pub order: [u8; PLACES],
+    pub order: [u8; ORDER_PLACES],
     /// Branched, generated, eliminated, active, most.
     pub counts: [u64; 5],
     pub mark: u32,

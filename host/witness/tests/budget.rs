@@ -2,8 +2,8 @@
 
 mod common;
 
-use common::{choices, Job, T};
-use samples::level;
+use common::{choices, Job};
+use samples::{level, T};
 use witness::{Report, LARGEST_BUDGET, STOPPED};
 
 fn on_t(choices: [u64; 3], start: &[u32]) -> Job {

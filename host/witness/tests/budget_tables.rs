@@ -60,7 +60,9 @@ impl Course<'_> {
 
 /// The report and the pool, which holds other words before the call, and how
 /// many states were seen.
-fn run(job: &Job, records: usize) -> (Report, Vec<u32>, u64) {
+type Ended = (Report, Vec<u32>, u64);
+
+fn run(job: &Job, records: usize) -> Ended {
     let mut pool = vec![0xDEAD_BEEF; records * WORDS];
     let mut seen = 0;
     let report = plan_watched(&job.request(), &mut pool, &mut |_| seen += 1);
@@ -96,28 +98,36 @@ fn check_state(course: &Course, state: &State, report: &Report, pool: &[u32]) {
     assert_eq!(best.is_empty(), report.order[0] == 0, "{job:?}");
 }
 
-/// One run of the job; its report if the budget stopped it.
-fn check_budget(course: &Course, records: usize, budget: u64) -> Option<Report> {
-    let (report, pool, seen) = run(&course.job.within(budget), records);
-    if course.stops(records, budget) {
-        assert_eq!(seen, budget + 1, "{:?}", course.job);
-        check_stopped(course, budget, &report);
-        check_state(course, &course.states[budget as usize], &report, &pool);
-        return Some(report);
-    }
-    let unlimited = run(course.job, records);
-    assert_eq!((report, &pool, seen), (unlimited.0, &unlimited.1, unlimited.2), "{budget} {:?}", course.job);
-    assert_eq!((report.mark, report.floor), (0, 0), "{budget} {:?}", course.job);
+/// The run with the largest budget: finished or full.
+fn check_unlimited(course: &Course, records: usize) -> Ended {
+    let (job, ended) = (course.job, run(course.job, records));
+    let (report, pool, _) = &ended;
+    assert_eq!((report.mark, report.floor), (0, 0), "{job:?}");
     if course.branchings_in(records) == course.branchings() {
-        check_finished(course.job, &report, &pool, course.least);
+        check_finished(job, report, pool, course.least);
     } else {
-        assert_eq!(report.number, 7, "{:?}", course.job);
+        assert_eq!(report.number, 7, "{job:?}");
     }
-    None
+    ended
 }
 
-/// Stopped runs of one job, whatever their pools: the larger budget has no
-/// lower floor and, if the smaller shows an order, one no dearer.
+/// One run of the job; its report if the budget stopped it. Otherwise it ends
+/// as the one with the largest budget in as many records.
+fn check_budget(course: &Course, records: usize, budget: u64, unlimited: &Ended) -> Option<Report> {
+    let ended = run(&course.job.within(budget), records);
+    if !course.stops(records, budget) {
+        assert_eq!(&ended, unlimited, "{budget} {:?}", course.job);
+        return None;
+    }
+    let (report, pool, seen) = ended;
+    assert_eq!(seen, budget + 1, "{:?}", course.job);
+    check_stopped(course, budget, &report);
+    check_state(course, &course.states[budget as usize], &report, &pool);
+    Some(report)
+}
+
+/// Of one job, in whatever pools: with more branchings the floor stays or
+/// rises, and a known order is kept or bettered.
 fn check_larger_budgets(job: &Job, mut stopped: Vec<Report>) {
     stopped.sort_by_key(|report| report.branched);
     for pair in stopped.windows(2) {
@@ -136,8 +146,9 @@ fn check_budgets(job: &Job, budgets: impl Fn(u64) -> Vec<u64>) {
     let course = Course::of(job);
     let mut stopped = Vec::new();
     for records in course.pools() {
+        let unlimited = check_unlimited(&course, records);
         for budget in budgets(course.branchings()) {
-            stopped.extend(check_budget(&course, records, budget));
+            stopped.extend(check_budget(&course, records, budget, &unlimited));
         }
     }
     check_larger_budgets(job, stopped);

@@ -2,8 +2,8 @@
 
 mod common;
 
-use common::{check_finished, Job, T};
-use samples::level;
+use common::{check_finished, Job};
+use samples::{level, T};
 use witness::enumerate::{all_orders, cheapest_orders, least_cost};
 use witness::legs::Legs;
 use witness::node::{Bound, Node};
@@ -83,16 +83,20 @@ fn case_i() {
 
 #[test]
 fn case_j() {
+    let end = |job: &Job| {
+        let (report, _) = job.run(1);
+        (report.number, report.mark)
+    };
     let table = [0; 17 * 17];
     let job = Job::new(16, &table, [0, 0, 0], &(1..=16).collect::<Vec<u32>>());
-    assert_eq!(job.run(1).0.number, 0);
+    assert_eq!(end(&job), (0, 0));
     let table = [0; 18 * 18];
     let job = Job::new(17, &table, [0, 0, 0], &[]);
-    assert_eq!(job.run(1).0.number, 1);
+    assert_eq!(end(&job), (1, 0));
     let dear = Job::new(1, &[0, 1_000_000, 0, 0], [0, 0, 0], &[]);
-    assert_eq!(dear.run(1).0.number, 0);
+    assert_eq!(end(&dear), (0, 0));
     let dearer = Job::new(1, &[0, 1_000_001, 0, 0], [0, 0, 0], &[]);
-    assert_eq!(dearer.run(1).0.number, 3);
+    assert_eq!(end(&dearer), (3, 0));
 }
 
 #[test]
@@ -129,7 +133,7 @@ fn equal_complete_child_does_not_replace() {
 fn pool_with_branched_nodes() {
     let job = Job::new(2, &[0, 1, 2, 3, 0, 4, 5, 6, 0], [2, 4, 0], &[]);
     let (report, pool) = job.run(5);
-    assert_eq!((report.number, report.cost), (0, 10));
+    assert_eq!((report.number, report.mark, report.cost), (0, 0, 10));
     assert_eq!(report.counts(), [3, 5, 0, 2, 2]);
     let (n12, n21) = ([2, 3, 5, 10, 0x10, 0], [2, 3, 8, 11, 0x01, 0]);
     let (e, n1, n2) = ([0; 6], [1, 1, 1, 1, 0, 0], [1, 2, 2, 2, 1, 0]);

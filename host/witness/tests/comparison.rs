@@ -129,8 +129,7 @@ fn costs_of_runs_that_finish() {
     for n in 1..=4 {
         for_each_table(&mut Random(28), n, 100, |random, table| both += finish_both(random, n, table));
     }
-    println!("both of two runs finished {both} times");
-    assert!(both > 500);
+    assert!(both > 500, "{both}");
 }
 
 /// With a smaller budget than B's, A may be stopped where B finishes.

@@ -3,8 +3,8 @@
 
 mod common;
 
-use common::{course, T};
-use samples::level;
+use common::course;
+use samples::{level, T};
 use witness::enumerate::least_cost;
 use witness::first_order::{exchanges, first_order};
 use witness::legs::{Legs, Place};

@@ -1,9 +1,7 @@
 //! Job files: document 01's case l, the bytes of a file one by one, and what
 //! the program prints.
 
-mod common;
-
-use common::T;
+use samples::T;
 use witness::job_file::{read, write, Contents, LONGEST};
 use witness::program::output;
 use witness::Request;

@@ -3,16 +3,17 @@
 
 mod common;
 
-use common::{Job, T};
-use samples::level;
+use common::Job;
+use samples::{level, T};
 
 const NINE: [u32; 9] = [0; 9];
 
-/// Number, cost, order, counts, and the records of the pool, zeros behind.
+/// Number, cost, order, counts, and the records of the pool, zeros behind;
+/// nothing stops it.
 fn expect(job: Job, records: usize, told: (u32, u32, &[u32], [u64; 5]), nodes: &[[u32; 6]]) {
     let (report, pool) = job.run(records);
     let (number, cost, order, counts) = told;
-    assert_eq!((report.number, report.cost), (number, cost));
+    assert_eq!((report.number, report.mark, report.cost), (number, 0, cost));
     assert_eq!(&report.order[..order.len()], order);
     assert!(report.order[order.len()..].iter().all(|&s| s == 0));
     assert_eq!(report.counts(), counts);

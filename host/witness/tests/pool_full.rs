@@ -17,13 +17,13 @@ fn check_size(job: &Job, states: &[State], keeps: &[usize], records: usize) {
     });
     assert_eq!(seen, stands + 1, "{job:?}");
     assert_eq!(report.number, if refused.is_some() { 7 } else { 0 }, "{job:?}");
+    assert_eq!((report.mark, report.floor), (0, 0), "{job:?}");
     assert_eq!(report.counts(), counts_of(&states[stands]), "{job:?}");
     assert_eq!(pool, told_words(job, &states[stands], records), "{job:?}");
     let parts = report.branched + report.eliminated + report.active;
     assert_eq!(report.generated, parts, "{job:?}");
     if refused.is_some() {
         assert_eq!((report.cost, report.order), (0, [0; 16]), "{job:?}");
-        assert_eq!((report.mark, report.floor), (0, 0), "{job:?}");
     } else {
         assert_eq!(report, job.run(ample(job.n)).0, "{job:?}");
     }
@@ -69,7 +69,7 @@ fn finish_comes_before_the_step() {
     let identity: Vec<u32> = (1..=16).collect();
     let job = Job::new(16, &[0; 17 * 17], [0, 0, 0], &identity);
     let (report, pool) = job.run(1);
-    assert_eq!((report.number, report.cost), (0, 0));
+    assert_eq!((report.number, report.mark, report.cost), (0, 0, 0));
     assert_eq!(report.order[..], identity);
     assert_eq!(report.counts(), [0, 1, 0, 1, 1]);
     assert_eq!(pool, [0; 6]);

@@ -3,8 +3,7 @@
 
 mod common;
 
-use common::T;
-use samples::Random;
+use samples::{Random, T};
 use witness::{plan, Report, Request, LARGEST_BUDGET};
 
 /// A call on table T that passes every check, to be spoiled in places.

@@ -115,7 +115,7 @@ fn check_run(job: &Job) {
 fn check_report(job: &Job, last: &State) {
     let (report, pool) = job.run(ample(job.n));
     let (upper, best) = upper_of(last);
-    assert_eq!((report.number, report.cost), (0, upper));
+    assert_eq!((report.number, report.mark, report.cost), (0, 0, upper));
     assert_eq!(&report.order[..job.n], best);
     assert_eq!(report.counts(), counts_of(last));
     let (active, branched) = common::read_pool(job, &report, &pool);

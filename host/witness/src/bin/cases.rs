@@ -41,13 +41,14 @@ fn main() {
         let (table, start, budget) = (case.table, case.start, LARGEST_BUDGET);
         let request = Request { n: case.n, table, selection, rules, bound, start, budget };
         let report = plan(&request, &mut pool);
-        let found = match report.number {
-            0 => {
+        let found = match (report.number, report.mark) {
+            (0, 0) => {
                 let stops = &report.order[..case.n as usize];
                 let order: String = stops.iter().map(|s| s.to_string()).collect();
                 format!("{}, {}", report.cost, order)
             }
-            number => format!("refused {number}"),
+            (0, _) => unreachable!("the largest budget stops no run"),
+            (number, _) => format!("refused {number}"),
         };
         let counts: Vec<String> = report.counts().iter().map(|k| k.to_string()).collect();
         println!("{:<34}{}; {}", case.name, found, counts.join(", "));

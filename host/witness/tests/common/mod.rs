@@ -8,8 +8,6 @@ use witness::legs::{Legs, Place};
 use witness::words::{in_places, record};
 use witness::{first_order, plan, plan_watched, FirstOrder, Report, Request, State, LARGEST_BUDGET, WORDS};
 
-pub const T: [u32; 16] = [0, 4, 7, 9, 5, 0, 2, 6, 3, 8, 0, 1, 6, 5, 4, 0];
-
 /// A job without its pool.
 #[derive(Clone, Debug)]
 pub struct Job {
