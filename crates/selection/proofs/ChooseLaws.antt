@@ -1,8 +1,8 @@
 -- Which place among some records a selection picks, told by the places' ranks alone: place i leads on a side if no place has a smaller
 -- rank and, of those of its rank, it is the earliest or the latest. The node at the place that leads is the one that `pick`, and so
 -- document 01's selection, chooses; the others are the list without it. A loop goes from each place that leads so far to the next that goes
--- before it.
-use mathlib.Core.Path.{_≡_, refl, ap, _∙_}
+-- before it. What selection 0 picks has the floor of the records (`floor-at`).
+use mathlib.Core.Path.{_≡_, refl, ap, sym, _∙_}
 use mathlib.Core.Bool.{Bool, true, false, not, cond}
 use mathlib.Core.List.{List, [], _∷_, _++_}
 use mathlib.Core.Logic.{_⊎_, inl, inr, _≢_}
@@ -19,7 +19,7 @@ use borrow.Author.Tests.{
   ltb-false,
 }
 use lib.Dec.{T, ltb, eqb, eqb→eq}
-use lib.ListN.{length, getD, take, drop, length-append}
+use lib.ListN.{length, getD, take, drop, length-append, length-take}
 use lib.Seq.{getD-append-seam, getD-take, length-take-le}
 use Rattle.lists.specs.Lists.{dropAt, least}
 use Rattle.sizes.specs.Sizes.{recordWords}
@@ -247,7 +247,7 @@ earliest-passes {N} test (x ∷ xs) {b} {rest} e = go (test x) refl (earliest te
     go false q (chosen y ys) again k = let same : y ≡ b = cc in again ys (rw same)
 
 -- selection 0 picks a record of the least bound
-pub chosen-floor : (xs : List Record) (i : ℕ) → Chosen 0 xs 0 i → boundAt xs i ≡ least (λ x. x .bound) xs
+chosen-floor : (xs : List Record) (i : ℕ) → Chosen 0 xs 0 i → boundAt xs i ≡ least (λ x. x .bound) xs
 unfolding selectBy
 chosen-floor xs i h =
     eqb→eq (boundAt xs i) (least (λ x. x .bound) xs)
@@ -262,3 +262,12 @@ chosen-floor xs i h =
       above = 0;
     })
     (λ x. refl)))
+
+-- so it has the floor of the first a records, among which it stands
+pub floor-at :
+    (xs : List Record) (a i : ℕ) → Chosen 0 (take a xs) 0 i → (i < length xs) × (boundAt xs i ≡ least (λ x. x .bound) (take a xs))
+floor-at xs a i h =
+    let among : i < length (take a xs) = h .inside in (
+      omega (arith, length-take a xs),
+      ap (λ (x : Record). x .bound) (sym (getD-take a xs i emptyRecord (omega (arith, length-take a xs)))) ∙ chosen-floor (take a xs) i h,
+    )

@@ -171,7 +171,7 @@ returns c =
     (c .finished .ensures)
 
 floor-requires : tie.Need-floor-requires Inv-loop μ-loop
-floor-requires c κs = let turn = stop (c .before) in floor-ready (stands (head turn)) (pool turn) (kept turn)
+floor-requires c κs = let turn = stop (c .before) in let ready = floor-ready (stands (head turn)) (pool turn) (kept turn) in omega arith
 
 settle-requires-2 : tie.Need-settle-requires-2 Inv-loop μ-loop
 unfolding callOf recordsIn
