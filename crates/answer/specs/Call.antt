@@ -1,5 +1,5 @@
--- What a caller hands in and what comes back: document 01, "The report", and document 02, A.3. A `Job` (n, selection, rules, bound) and a `Report` are the structs of
--- src/lib.rt.
+-- What a caller hands in and what comes back: document 01, "The report", and document 02, A.3. A `Job` (n, selection, rules, bound) and a
+-- `Report` are the structs of src/lib.rt.
 use mathlib.Core.List.{List}
 use Prim.Native.Nat.{ℕ}
 use lib.ListN.{replicate}

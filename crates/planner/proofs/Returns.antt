@@ -1,5 +1,5 @@
--- The letter's demands and request A.3 of what `plan` returns and leaves in the pool, from its promise alone: that is an equation with `answer`, of which crate
--- `answer` proves them.
+-- The letter's demands and request A.3 of what `plan` returns and leaves in the pool, from its promise alone: that is an equation with
+-- `answer`, of which crate `answer` proves them.
 use Rattle.answer.specs.Demands.{EveryCallIsAnswered, EveryCallEnds, OneAnswer, RefusalsFixed, RunIsWritten, CountsBalance, FullIff, OneCost, CheapestOfAll, FavouredFinishes}
 use Rattle.answer.specs.Budget.{MarkedIff, StoppedAsWritten, OtherwiseZero, ExactBudget, WithinBudget, OrderOrZeros, NoDearerThanStart, FloorHolds, Between, LargerBudget, UnstoppedAsWithout, NoRunReaches}
 use Rattle.answer.specs.Document01.{FinishedIff, BranchedAreSteps, ContentsPlayNoPart}
