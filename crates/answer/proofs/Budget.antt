@@ -171,7 +171,7 @@ few-branched c h =
     let ok : Passes c = passes c (h .passed) in
     let counts : Bounded (weight c (problemOf c .root)) (h .state) =
     counts-bounded (problemOf c) (choicesOf c) (recordsIn (c .pool)) (call-weighs c) (given (c .start)) (selection-small c ok) (h .steps) in
-    omega (arith, root-light c, nodes-rise (c .job .n) mostStops (ok .few))
+    omega (arith, root-light c, nodes-rise (c .job .n) mostStops (ok .priced .few))
 
 pub no-run-reaches : NoRunReaches written
 unfolding refusal reportWith

@@ -105,11 +105,11 @@ one-day a b one = ap₂ (λ (k : ℕ) (t : List ℕ). dayOn k (rows k t)) (one .
 
 module _ (c : Call) (ok : Passes c) where
   pub call-cheap : Cheap (rows (c .job .n) (c .table))
-  call-cheap = rows-cheap (c .job .n) (c .table) (ok .cheap)
+  call-cheap = rows-cheap (c .job .n) (c .table) (ok .priced)
 
   pub order-cheap : (x : Node) → Order (c .job .n) x → dayOf c .cost x < aboveEveryCost
   unfolding dayOf
-  order-cheap x o = order-below (rows (c .job .n) (c .table)) call-cheap (c .job .n) (ok .few) x o
+  order-cheap x o = order-below (rows (c .job .n) (c .table)) call-cheap (c .job .n) (ok .priced .few) x o
 
   pub known-cheap : (x : Node) → Order (c .job .n) x → problemOf c .cost x < aboveEveryCost
   unfolding problemOf problem

@@ -13,3 +13,4 @@ pub mod Demand3
 pub mod Demand3Pairs
 pub mod Budget
 pub mod BudgetPairs
+pub mod Charges

@@ -9,23 +9,23 @@ use lib.Dec.{T, T-not, not-T, ltb, eqb, nltb→le, eqb→eq}
 use lib.ListN.{length}
 use Rattle.lists.specs.Lists.{In, any, from}
 use Rattle.lists.proofs.Tests.{neq, not-either, twice-not}
-use Rattle.lists.proofs.Members.{in-any}
+use Rattle.lists.proofs.Members.{in-any, from-in}
 use Rattle.orders.specs.Orders.{Order, isOrder}
 use Rattle.orders.proofs.Order.{isOrder-order}
-use Rattle.stops.specs.Tables.{entry}
-use Rattle.sizes.specs.Sizes.{mostStops, dearest, recordWords}
+use Rattle.stops.specs.Tables.{charge}
+use Rattle.stops.specs.Code.{Priced}
+use Rattle.sizes.specs.Sizes.{mostStops, dearestLeg, dearestCharge, recordWords}
 use Rattle.records.specs.Records.{recordsIn}
 use Rattle.answer.specs.Call.{Call}
 use Rattle.answer.specs.declared.Job.{Job}
 use Rattle.answer.specs.Checks.{cause₁, cause₂, cause₃, cause₄, cause₅, cause₆, isEmpty, orLater, tableCause, jobCause, cause}
 use Rattle.answer.specs.Cases
 use Rattle.answer.specs.BudgetCases
+use Rattle.answer.specs.ChargeCases
 
 pub record TablePasses (n : ℕ) (table : List ℕ) : Type 0 where
   pub some : 1 ≤ n
-  pub few : n ≤ mostStops
-  pub square : length table ≡ suc n * suc n
-  pub cheap : (w : ℕ) → In w table → w ≤ dearest
+  pub priced : Priced n table
 
 pub record JobPasses (job : Job) (table order : List ℕ) : Type 0 where
   pub legs : TablePasses (job .n) table
@@ -36,9 +36,7 @@ pub record JobPasses (job : Job) (table order : List ℕ) : Type 0 where
 
 pub record Passes (c : Call) : Type 0 where
   pub some : 1 ≤ c .job .n
-  pub few : c .job .n ≤ mostStops
-  pub square : length (c .table) ≡ suc (c .job .n) * suc (c .job .n)
-  pub cheap : (w : ℕ) → In w (c .table) → w ≤ dearest
+  pub priced : Priced (c .job .n) (c .table)
   pub selection : c .job .selection ≤ 3
   pub rules : c .job .rules ≤ 15
   pub bound : c .job .bound ≤ 1
@@ -58,6 +56,10 @@ start-given n (s ∷ x) h = inr (isOrder-order n (s ∷ x) h)
 positive : (k : ℕ) → T (not (eqb k 0)) → 1 ≤ k
 positive k h = let e : k ≢ 0 = neq k 0 h in omega arith
 
+-- no element has what none has
+pub none-found : (test : ℕ → Bool) (l : List ℕ) → T (not (any test l)) → (w : ℕ) → In w l → T (not (test w))
+none-found test l h w m = not-T (test w) (λ k. T-not (any test l) h (in-any test l w m k))
+
 -- what each check lets pass
 module _ (n : ℕ) (table : List ℕ) where
   stops-pass : T (not (cause₁ n)) → (1 ≤ n) × (n ≤ mostStops)
@@ -68,11 +70,20 @@ module _ (n : ℕ) (table : List ℕ) where
   unfolding cause₂
   table-square h = let area : ℕ = suc n * suc n in eqb→eq (length table) area (twice-not (eqb (length table) area) h)
 
-  legs-pass : T (not (cause₃ n table)) → (w : ℕ) → In w table → w ≤ dearest
+  abbrev dear : ℕ → Bool
+  dear j = ltb dearestCharge (charge n table j)
+
+  numbers-pass : T (not (cause₃ n table)) → T (not (any (ltb dearestLeg) table)) × T (not (any dear (from 0 (suc n))))
   unfolding cause₃
-  legs-pass h w m =
-      let (p, q) = not-either (any (ltb dearest) table) (any (λ i. not (eqb (entry n table i i) 0)) (from 0 (suc n))) h in
-      nltb→le dearest w (not-T (ltb dearest w) (λ k. T-not (any (ltb dearest) table) p (in-any (ltb dearest) table w m k)))
+  numbers-pass h = not-either (any (ltb dearestLeg) table) (any dear (from 0 (suc n))) h
+
+  legs-pass : T (not (cause₃ n table)) → (w : ℕ) → In w table → w ≤ dearestLeg
+  legs-pass h w m = nltb→le dearestLeg w (none-found (ltb dearestLeg) table (numbers-pass h .0) w m)
+
+  charges-pass : T (not (cause₃ n table)) → (j : ℕ) → j ≤ n → charge n table j ≤ dearestCharge
+  charges-pass h j k =
+      nltb→le dearestCharge (charge n table j)
+      (none-found dear (from 0 (suc n)) (numbers-pass h .1) j (from-in 0 (suc n) j (omega arith) (omega arith)))
 
 choices-pass : (job : Job) → T (not (cause₄ job)) → (job .selection ≤ 3) × (job .rules ≤ 15) × (job .bound ≤ 1)
 unfolding cause₄
@@ -102,9 +113,12 @@ table-passed n table later e =
     let (h₃, e₃) = none-first (cause₃ n table) 2 later e₂ in
     let passed : TablePasses n table = record {
       some = stops-pass n table h₁ .0;
-      few = stops-pass n table h₁ .1;
-      square = table-square n table h₂;
-      cheap = legs-pass n table h₃;
+      priced = record {
+        few = stops-pass n table h₁ .1;
+        square = table-square n table h₂;
+        legs = legs-pass n table h₃;
+        charges = charges-pass n table h₃;
+      };
     } in
     (passed, e₃)
 
@@ -132,9 +146,7 @@ passes c e =
     let (h₆, e₆) = none-first (cause₆ (c .pool)) 5 0 e₅ in
     record {
       some = p .legs .some;
-      few = p .legs .few;
-      square = p .legs .square;
-      cheap = p .legs .cheap;
+      priced = p .legs .priced;
       selection = p .selection;
       rules = p .rules;
       bound = p .bound;

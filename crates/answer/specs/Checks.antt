@@ -1,13 +1,13 @@
--- Causes 1 to 6, each over just what it looks at, and which is returned: document 01, "Causes and numbers".
+-- Causes 1 to 6, each over just what it looks at, and which is returned: document 01, "Causes and numbers"; document 02, A.4.
 use mathlib.Core.Bool.{Bool, true, false, not, _||_}
 use mathlib.Core.List.{List, [], _∷_}
 use Prim.Native.Nat.{ℕ, suc, _*_, _%_}
 use lib.Dec.{ltb, eqb}
 use lib.ListN.{length}
-use Rattle.sizes.specs.Sizes.{mostStops, dearest, recordWords}
+use Rattle.sizes.specs.Sizes.{mostStops, dearestLeg, dearestCharge, recordWords}
 use Rattle.lists.specs.Lists.{any, from}
 use Rattle.orders.specs.Orders.{isOrder}
-use Rattle.stops.specs.Tables.{entry}
+use Rattle.stops.specs.Tables.{charge}
 use Rattle.records.specs.Records.{recordsIn}
 use Rattle.answer.specs.Call.{Call}
 use Rattle.answer.specs.declared.Job.{Job}
@@ -20,9 +20,9 @@ cause₁ n = eqb n 0 || ltb mostStops n
 unfoldable pub cause₂ : ℕ → List ℕ → Bool
 cause₂ n table = not (eqb (length table) (suc n * suc n))
 
--- a leg is too dear, or an entry on the diagonal is not 0
+-- A number is above the dearest leg, or a landing charge is too dear (request A.4). The table's own numbers are looked at, and no sum of them.
 unfoldable pub cause₃ : ℕ → List ℕ → Bool
-cause₃ n table = any (ltb dearest) table || any (λ i. not (eqb (entry n table i i) 0)) (from 0 (suc n))
+cause₃ n table = any (ltb dearestLeg) table || any (λ j. ltb dearestCharge (charge n table j)) (from 0 (suc n))
 
 -- no such selection, sum of rules or bound
 unfoldable pub cause₄ : Job → Bool

@@ -8,3 +8,5 @@ pub mod Demands
 pub mod Document01
 pub mod Budget
 pub mod BudgetCases
+pub mod ChargeCases
+pub mod Charges

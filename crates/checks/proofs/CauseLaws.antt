@@ -10,11 +10,11 @@ use native.Mathlib.Omega.{arith}
 use lib.Dec.{ltb, eqb}
 use lib.ListN.{length}
 use borrow.Author.Tests.{eq-eqb, ne-eqb, lt-ltb, le-ltb, ltb-false}
-use Rattle.sizes.specs.Sizes.{mostStops, dearest}
+use Rattle.sizes.specs.Sizes.{mostStops, dearestLeg, dearestCharge}
 use Rattle.lists.specs.Lists.{any, from}
 use Rattle.lists.proofs.Tests.{both-false}
 use Rattle.orders.specs.Orders.{isOrder}
-use Rattle.stops.specs.Tables.{entry}
+use Rattle.stops.specs.Tables.{charge}
 use Rattle.answer.specs.declared.Job.{Job}
 use Rattle.answer.specs.Checks.{cause₁, cause₂, cause₃, cause₄, cause₅, isEmpty, orLater, tableCause, jobCause}
 use Rattle.answer.proofs.JobCause.{table-causes}
@@ -36,12 +36,12 @@ module _ (n : ℕ) where
 
 -- a table for n stops
 module _ (n : ℕ) (table : List ℕ) where
-  -- some leg is too dear; some entry of the diagonal is not 0
+  -- some number is above the dearest leg; some charge is too dear
   abbrev large : Bool
-  large = any (ltb dearest) table
+  large = any (ltb dearestLeg) table
 
-  abbrev nonzero : Bool
-  nonzero = any (λ i. not (eqb (entry n table i i) 0)) (from 0 (suc n))
+  abbrev charged : Bool
+  charged = any (λ j. ltb dearestCharge (charge n table j)) (from 0 (suc n))
 
   pub other-area : length table ≢ suc n * suc n → cause₂ n table ≡ true
   unfolding cause₂
@@ -55,11 +55,11 @@ module _ (n : ℕ) (table : List ℕ) where
   unfolding cause₃
   large-leg e = rw e
 
-  pub nonzero-diagonal : nonzero ≡ true → cause₃ n table ≡ true
+  pub large-charge : charged ≡ true → cause₃ n table ≡ true
   unfolding cause₃
-  nonzero-diagonal e = rw (e, or-true)
+  large-charge e = rw (e, or-true)
 
-  pub legs-pass : large ≡ false → nonzero ≡ false → cause₃ n table ≡ false
+  pub legs-pass : large ≡ false → charged ≡ false → cause₃ n table ≡ false
   unfolding cause₃
   legs-pass e f = rw (e, f)
 

@@ -11,8 +11,8 @@ mod order;
 use crate::order::is_order;
 use answer::Job;
 use sizes::MOST_STOPS;
-use stops::table::diagonal;
 use stops::table::small;
+use stops::table::small_charges;
 
 // Whether cause 1 applies.
 pub fn wrong_n(n: u32) -> bool
@@ -38,7 +38,7 @@ pub fn table_cause(n: u32, table: &[u32]) -> u32
     if !small(table) {
         return 3;
     }
-    if !diagonal(n as usize, table) {
+    if !small_charges(n as usize, table) {
         return 3;
     }
     0

@@ -107,7 +107,7 @@ module _ (c : Call) {t : Table} (e : t ≡ rows (c .job .n) (c .table)) where
   pub call-rows : Passes c → Rows (settingOf c) t
   call-rows ok = record {
     some = ok .some;
-    few = ok .few;
+    few = ok .priced .few;
     cheap = subst Cheap (sym e) (call-cheap c ok);
     bound = ok .bound;
   }

@@ -140,7 +140,7 @@ promised-places n table r e = go (tableCause n table 0) refl e
   where
     go : (k : ℕ) → tableCause n table 0 ≡ k → r ≡ respond n table k → length (r .order) ≡ orderPlaces
     go zero none e =
-        let few : n ≤ mostStops = table-passed n table 0 none .0 .few in
+        let few : n ≤ mostStops = table-passed n table 0 none .0 .priced .few in
         rw e
         (simp (length-append, length-replicate) (omega (arith, order-length n (firstOf n table) (firstOf-order n table))))
     go (suc k) some e = rw e refl

@@ -6,7 +6,7 @@ use Prim.Native.Nat.{ℕ, _/_}
 use lib.ListN.{replicate}
 use Rattle.lists.specs.Lists.{padded}
 use Rattle.orders.specs.Orders.{flown, left, last}
-use Rattle.stops.specs.Tables.{entry, rows}
+use Rattle.stops.specs.Tables.{entry, charge, flying, inRows, rows}
 use Rattle.stops.specs.Legs.{rowLeg, legs, path, cost}
 use Rattle.answer.specs.Cases.{tableT}
 use Rattle.answer.specs.Checks.{cause₁, cause₂, cause₃, tableCause}
@@ -17,7 +17,7 @@ use Rattle.first_answer.specs.declared.FirstOrder.{FirstOrder}
 
 -- an answer, with every definition that it rests on open: a proof that says `unfolding computed` computes it
 computed : ℕ → List ℕ → FirstOrder
-unfolding padded flown left last entry rows rowLeg legs path cost cause₁ cause₂ cause₃ tableCause nextStops nearest exchanged behind exchanges bestExchange improved legsOf nearestOf firstOf respond firstAnswer
+unfolding padded flown left last entry charge flying inRows rows rowLeg legs path cost cause₁ cause₂ cause₃ tableCause nextStops nearest exchanged behind exchanges bestExchange improved legsOf nearestOf firstOf respond firstAnswer
 computed = firstAnswer
 
 -- an answer to three stops
@@ -92,12 +92,29 @@ one-stop : firstAnswer 1 (0 ∷ 3 ∷ 5 ∷ 0 ∷ []) ≡ three 8 1 0 0
 unfolding computed three
 one-stop = refl
 
+-- T with charges of 2 at home and of 1, 20 and 3 at the stops (request A.4): the nearest stop is 1 at 4 + 1, then 3 at 6 + 3, where 2 costs
+-- 2 + 20; an exchange leads to 123, which costs its legs, 13, and every charge, 26
+charged-table : List ℕ
+charged-table = 2 ∷ 4 ∷ 7 ∷ 9 ∷ 5 ∷ 1 ∷ 2 ∷ 6 ∷ 3 ∷ 8 ∷ 20 ∷ 1 ∷ 6 ∷ 5 ∷ 4 ∷ 3 ∷ []
+
+nearest-with-charges : nearestOf 3 charged-table ≡ 1 ∷ 3 ∷ 2 ∷ []
+unfolding computed charged-table
+nearest-with-charges = refl
+
+first-with-charges : firstAnswer 3 charged-table ≡ three 39 1 2 3
+unfolding computed charged-table three
+first-with-charges = refl
+
 -- causes 1 to 3, the lowest that applies, and zeros
-refusals : map (λ n. firstAnswer n (0 ∷ 3 ∷ 5 ∷ 1 ∷ [])) (0 ∷ 17 ∷ 2 ∷ 1 ∷ []) ≡ map refused (1 ∷ 1 ∷ 2 ∷ 3 ∷ [])
+refusals : map (λ n. firstAnswer n (0 ∷ 3 ∷ 5 ∷ 100_001 ∷ [])) (0 ∷ 17 ∷ 2 ∷ 1 ∷ []) ≡ map refused (1 ∷ 1 ∷ 2 ∷ 3 ∷ [])
 unfolding computed refused
 refusals = refl
 
--- a leg above the dearest
+-- a leg above the dearest; and a leg and a charge that are the dearest, whose sum is above it
 dear-leg : firstAnswer 1 (0 ∷ 1_000_001 ∷ 5 ∷ 0 ∷ []) .number ≡ 3
 unfolding computed
 dear-leg = refl
+
+dearest-flying : firstAnswer 1 (0 ∷ 1_000_000 ∷ 5 ∷ 100_000 ∷ []) .number ≡ 0
+unfolding computed
+dearest-flying = refl

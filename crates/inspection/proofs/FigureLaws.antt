@@ -14,7 +14,7 @@ use Rattle.orders.specs.Orders.{size}
 use Rattle.orders.proofs.Sets.{size-left}
 use Rattle.stops.specs.Tables.{rows}
 use Rattle.stops.specs.Stops.{dayOn}
-use Rattle.stops.specs.Code.{stopsIn, reckonOn, Cheap}
+use Rattle.stops.specs.Code.{stopsIn, reckonOn, Priced, Cheap}
 use Rattle.stops.specs.declared.node_record.Record.{Record}
 use Rattle.stops.proofs.SetBits.{all-small}
 use Rattle.stops.proofs.LegTable.{rows-cheap}
@@ -34,14 +34,14 @@ module _ (job : Job) (table : List ℕ) (none : jobCause job table [] 0 ≡ 0) w
   passed : JobPasses job table []
   passed = job-passed job table [] 0 none .0
 
-  pub job-few : job .n ≤ mostStops
-  job-few = passed .legs .few
+  pub job-priced : Priced (job .n) table
+  job-priced = passed .legs .priced
 
-  pub job-square : length table ≡ suc (job .n) * suc (job .n)
-  job-square = passed .legs .square
+  pub job-few : job .n ≤ mostStops
+  job-few = job-priced .few
 
   pub job-cheap : Cheap (rows (job .n) table)
-  job-cheap = rows-cheap (job .n) table (passed .legs .cheap)
+  job-cheap = rows-cheap (job .n) table job-priced
 
   pub job-bound : job .bound ≤ 1
   job-bound = passed .bound

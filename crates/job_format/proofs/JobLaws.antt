@@ -7,7 +7,7 @@ use mathlib.Core.Logic.{_⊎_, inl, inr}
 use Prim.Native.Nat.{ℕ, _*_, _≤_}
 use native.Mathlib.Omega.{arith}
 use lib.ListN.{length, length-append}
-use Rattle.sizes.specs.Sizes.{mostStops, orderPlaces, dearest, longest}
+use Rattle.sizes.specs.Sizes.{mostStops, orderPlaces, dearestLeg, longest}
 use Rattle.lists.specs.Lists.{In, each}
 use Rattle.orders.specs.Orders.{Order}
 use Rattle.orders.proofs.Order.{order-length}
@@ -22,7 +22,7 @@ pub record Passed (c : Contents) : Type 0 where
   pub some : 1 ≤ c .job .n
   pub few : c .job .n ≤ mostStops
   pub square : length (c .table) ≡ area (c .job .n)
-  pub cheap : (w : ℕ) → In w (c .table) → w ≤ dearest
+  pub cheap : (w : ℕ) → In w (c .table) → w ≤ dearestLeg
   pub selection : c .job .selection ≤ 3
   pub rules : c .job .rules ≤ 15
   pub bound : c .job .bound ≤ 1
@@ -37,12 +37,12 @@ order-short n x h (inr o) = (omega (arith, order-length n x o), λ b m. omega (a
 pub passed : (c : Contents) → Passes c → Passed c
 passed c e =
     let p = job-passed (c .job) (c .table) (c .start) 0 e .0 in
-    let order = order-short (c .job .n) (c .start) (p .legs .few) (p .start) in
+    let order = order-short (c .job .n) (c .start) (p .legs .priced .few) (p .start) in
     record {
       some = p .legs .some;
-      few = p .legs .few;
-      square = p .legs .square;
-      cheap = p .legs .cheap;
+      few = p .legs .priced .few;
+      square = p .legs .priced .square;
+      cheap = p .legs .priced .legs;
       selection = p .selection;
       rules = p .rules;
       bound = p .bound;

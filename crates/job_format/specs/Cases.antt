@@ -7,7 +7,7 @@ use lib.ListN.{length, replicate, take, drop}
 use Rattle.sizes.specs.Sizes.{mostStops, longest}
 use Rattle.lists.specs.Lists.{each}
 use Rattle.orders.specs.Orders.{flown, count, isOrder}
-use Rattle.stops.specs.Tables.{entry}
+use Rattle.stops.specs.Tables.{entry, charge}
 use Rattle.answer.specs.declared.Job.{Job}
 use Rattle.answer.specs.Checks.{cause₁, cause₂, cause₃, cause₄, cause₅, tableCause, jobCause}
 use Rattle.answer.specs.Cases.{tableT}
@@ -25,7 +25,7 @@ contents n table selection rules bound start = record { job = job n selection ru
 
 -- what case a's file holds, with every definition that the cases rest on open
 a : Contents
-unfolding flown count isOrder entry tableT cause₁ cause₂ cause₃ cause₄ cause₅ tableCause jobCause word wordAt overwrite trailerOf trailerBytes bytesOf trailerFrom trailerIn wordsIn contentsBy contentsIn misplaced fileCause refusal readingBy read writeCause writingBy write
+unfolding flown count isOrder entry charge tableT cause₁ cause₂ cause₃ cause₄ cause₅ tableCause jobCause word wordAt overwrite trailerOf trailerBytes bytesOf trailerFrom trailerIn wordsIn contentsBy contentsIn misplaced fileCause refusal readingBy read writeCause writingBy write
 a = contents 3 tableT 0 1 1 []
 
 -- l. Its length and its trailer.
@@ -130,7 +130,7 @@ too-long = refl
 later-causes :
     map fileCause
     (bytesOf (contents 1 (0 ∷ 1_000_001 ∷ 5 ∷ 0 ∷ []) 4 0 0 (2 ∷ []))
-    ∷ bytesOf (contents 1 (0 ∷ 3 ∷ 5 ∷ 1 ∷ []) 4 0 0 (2 ∷ []))
+    ∷ bytesOf (contents 1 (0 ∷ 3 ∷ 5 ∷ 100_001 ∷ []) 4 0 0 (2 ∷ []))
     ∷ file (2 ∷ []) (trailer 0 16 1 1 4 0 0)
     ∷ file [] (trailer 0 16 1 0 0 16 0)
     ∷ file [] (trailer 0 16 1 0 0 0 2)
@@ -169,7 +169,7 @@ one-to-five-before-ten :
     map (λ c. writeCause c [])
     (contents 0 [] 4 0 0 (2 ∷ [])
     ∷ contents 1 [] 4 0 0 (2 ∷ [])
-    ∷ contents 1 (1 ∷ 3 ∷ 5 ∷ 0 ∷ []) 4 0 0 (2 ∷ [])
+    ∷ contents 1 (100_001 ∷ 3 ∷ 5 ∷ 0 ∷ []) 4 0 0 (2 ∷ [])
     ∷ contents 1 (0 ∷ 3 ∷ 5 ∷ 0 ∷ []) 4 0 0 (2 ∷ [])
     ∷ contents 1 (0 ∷ 3 ∷ 5 ∷ 0 ∷ []) 0 0 0 (2 ∷ [])
     ∷ h

@@ -1,5 +1,5 @@
 -- Laws of lists in which no element stands twice: when joined, mapped and `each` lists are distinct, and what taking one number out
--- does to a sum, a length and a least value.
+-- does to a sum, a length and a least value; and that a sum lies with the members alone.
 use mathlib.Core.Path.{_≡_, refl, ap, sym, subst}
 use mathlib.Core.Bool.{not}
 use mathlib.Core.List.{List, [], _∷_, _++_, map, List·Memᴰ·head, List·Memᴰ·tail, List·Memᴰ·cases-cons, List·Memᴰ·not-nil, Memᴰ·append-right, List·Memᴰ·append-cases}
@@ -9,8 +9,8 @@ use native.Mathlib.Omega.{arith}
 use lib.Dec.{eqb, eqb-refl}
 use lib.ListN.{length}
 use Rattle.lists.specs.Lists.{In, sum, least, each, without, Distinct, none, more}
-use Rattle.lists.proofs.Tests.{compared, to-true, to-false, ne-neqb}
-use Rattle.lists.proofs.Members.{in-head, in-keep, keep-in, in-map, in-each}
+use Rattle.lists.proofs.Tests.{compared, neq, to-true, to-false, ne-neqb}
+use Rattle.lists.proofs.Members.{in-head, in-keep, keep-in, in-map, in-each, distinct-keep}
 use Rattle.lists.proofs.Numbers.{sum-const, least-same}
 
 module _ {A : Type 0} where
@@ -71,6 +71,28 @@ sum-without f s (more {x} {xs} new d) m = go (List·Memᴰ·cases-cons m) (λ k.
 
 pub length-without : (s : ℕ) {xs : List ℕ} → Distinct xs → In s xs → length xs ≡ suc (length (without s xs))
 length-without s {xs} d m = omega (arith, sum-without (λ r. 1) s d m, sum-const 1 xs, sum-const 1 (without s xs))
+
+-- two lists of the same numbers, none twice in either, have one sum
+pub sum-members :
+    (f : ℕ → ℕ) {xs : List ℕ} → Distinct xs → (ys : List ℕ) → Distinct ys
+    → ((s : ℕ) → In s xs → In s ys) → ((s : ℕ) → In s ys → In s xs) → sum f xs ≡ sum f ys
+sum-members f none [] e there back = refl
+sum-members f none (y ∷ ys) e there back = absurd (List·Memᴰ·not-nil (back y in-head))
+sum-members f (more {x} {xs} new d) ys e there back =
+    let again : sum f xs ≡ sum f (without x ys) = sum-members f d (without x ys) (distinct-keep _ e) onward homeward in
+    omega (arith, again, sum-without f x e (there x in-head))
+  where
+    onward : (s : ℕ) → In s xs → In s (without x ys)
+    onward s m = keep-in _ ys s (there s (List·Memᴰ·tail m)) (ne-neqb x s (λ z. new (subst (λ (r : ℕ). In r xs) (sym z) m)))
+
+    behind : (s : ℕ) → (s ≡ x) ⊎ In s xs → s ≢ x → In s xs
+    behind s (inl z) h = absurd (h z)
+    behind s (inr m) h = m
+
+    homeward : (s : ℕ) → In s (without x ys) → In s xs
+    homeward s m =
+        let (i, apart) = in-keep _ ys s m in
+        behind s (List·Memᴰ·cases-cons (back s i)) (λ z. neq x s apart (sym z))
 
 -- a number that stands in a list may stand before the others
 pub least-taken : (x u : ℕ) (xs : List ℕ) → In u xs → (f : ℕ → ℕ) → least f (x ∷ u ∷ without u xs) ≡ least f (x ∷ xs)

@@ -105,6 +105,17 @@ module _ {A : Type 0} where
       let above = least-le f (x ∷ xs) b (back b j) in
       omega arith
 
+  -- what is added to every value is added to the least
+  pub least-adds :
+      (f g : A → ℕ) (k : ℕ) (x : A) (xs : List A) → ((y : A) → In y (x ∷ xs) → f y ≡ g y + k)
+      → least f (x ∷ xs) ≡ least g (x ∷ xs) + k
+  least-adds f g k x [] h = h x in-head
+  least-adds f g k x (y ∷ ys) h = omega (arith, h x in-head, least-adds f g k y ys (λ z m. h z (List·Memᴰ·tail m)))
+
+  pub sum-adds : (f g h : A → ℕ) (xs : List A) → ((x : A) → In x xs → f x ≡ g x + h x) → sum f xs ≡ sum g xs + sum h xs
+  sum-adds f g h [] e = refl
+  sum-adds f g h (x ∷ xs) e = omega (arith, e x in-head, sum-adds f g h xs (λ y m. e y (List·Memᴰ·tail m)))
+
 module _ {A B : Type 0} where
   pub length-each : (k : A → List B) (xs : List A) → length (each k xs) ≡ sum (λ x. length (k x)) xs
   length-each k [] = refl

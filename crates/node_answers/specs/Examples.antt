@@ -110,6 +110,19 @@ figures-close : figures true twoOne (jobT 1) tableT ≡ record { inside = true; 
 unfolding twoOne tableT jobT
 figures-close = refl
 
+-- with charges of 2 at home and of 10, 20 and 40 at the stops (request A.4): both stops' more in the path, every place's more in the close bound
+chargedT : List ℕ
+chargedT = 2 ∷ 4 ∷ 7 ∷ 9 ∷ 5 ∷ 10 ∷ 2 ∷ 6 ∷ 3 ∷ 8 ∷ 20 ∷ 1 ∷ 6 ∷ 5 ∷ 4 ∷ 40 ∷ []
+
+figures-charged : figures true twoOne (jobT 1) chargedT ≡ record { inside = true; number = 0; node = true; path = 45; bound = 99 }
+unfolding twoOne jobT chargedT
+figures-charged = refl
+
+charge-refused :
+    figures true twoOne (record { n = 1; selection = 0; rules = 0; bound = 1 }) (0 ∷ 3 ∷ 5 ∷ 100_001 ∷ []) .number ≡ 3
+unfolding twoOne
+charge-refused = refl
+
 -- refused by 1 and 2, by 3, and by 4 for a bound, a selection and rules that there are not
 refusals :
     map (λ n. figures true twoOne (record { n = n; selection = 0; rules = 0; bound = 1 }) tableT .number) (0 ∷ 17 ∷ 2 ∷ [])

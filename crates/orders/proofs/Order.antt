@@ -8,12 +8,12 @@ use Prim.Native.Nat.{ℕ, zero, suc, _+_, _≤_, _<_}
 use native.Mathlib.Omega.{arith}
 use lib.Dec.{T, T-not, eqb, eqb→eq, eqb-refl}
 use lib.ListN.{length, getD, set}
-use Rattle.lists.specs.Lists.{In, put, keep, all, Distinct, none, more}
+use Rattle.lists.specs.Lists.{In, put, keep, all, sum, Distinct, none, more}
 use Rattle.lists.proofs.Tests.{and-left, and-right, and-both, not-not, to-true}
 use Rattle.lists.proofs.Members.{in-head, in-keep, keep-in, all-in, in-all, distinct-from}
 use Rattle.lists.proofs.Empty.{in-nonempty, no-members}
 use Rattle.lists.proofs.Numbers.{keep-parts}
-use Rattle.lists.proofs.Distinct.{length-without}
+use Rattle.lists.proofs.Distinct.{length-without, sum-members}
 use Rattle.search.specs.Problem.{Problem}
 use Rattle.search.proofs.Laws.{Leads}
 use Rattle.orders.specs.Orders.{Node, stops, flown, left, complete, children, Order, count, isOrder, Partial}
@@ -28,6 +28,12 @@ stops-order n = record { once = distinct-from 1 n; only = in-stops n; every = st
 -- an order is a complete partial order
 pub order-partial : (n : ℕ) (x : Node) → Order n x → Partial n x
 order-partial n x o = record { once = o .once; only = o .only }
+
+-- a sum over an order is one over all stops
+pub order-sum : (n : ℕ) (f : ℕ → ℕ) (x : Node) → Order n x → sum f x ≡ sum f (stops n)
+order-sum n f x o =
+    sum-members f (o .once) (stops n) (distinct-from 1 n) (λ s m. let h = o .only s m in stops-in n s (h .0) (h .1))
+    (λ s m. let h = in-stops n s m in o .every s (h .0) (h .1))
 
 pub order-complete : (n : ℕ) (x : Node) → Order n x → T (complete n x)
 order-complete n x o = left-complete n x (no-members (left n x) go)

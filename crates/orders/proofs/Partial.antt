@@ -1,20 +1,22 @@
 -- Partial orders: nodes in which no stop stands twice and that hold nothing but 1 to n. They are just the nodes reached from e, they
--- are made from e by one stop after another (`partial-made`), and their size is their length.
+-- are made from e by one stop after another (`partial-made`), their size is their length, and with what they leave they are all stops
+-- (`partial-sum`).
 use mathlib.Core.Path.{_≡_, ap, sym, subst}
 use mathlib.Core.List.{List, [], _∷_, _++_, append-nil, append-assoc, List·Memᴰ·not-nil, List·Memᴰ·eq-of-singleton, Memᴰ·append-right, List·Memᴰ·append-cases}
 use mathlib.Core.Logic.{_⊎_, inl, inr}
-use Prim.Native.Nat.{ℕ, _≤_}
+use Prim.Native.Nat.{ℕ, _+_, _≤_}
 use native.Mathlib.Omega.{arith}
 use lib.Dec.{T-not, not-T}
 use lib.ListN.{length, length-append}
-use Rattle.lists.specs.Lists.{In, none, more}
-use Rattle.lists.proofs.Members.{in-head}
+use Rattle.lists.specs.Lists.{In, keep, sum, none, more}
+use Rattle.lists.proofs.Members.{in-head, in-keep, keep-in, distinct-keep, distinct-from}
 use Rattle.lists.proofs.Empty.{no-members}
-use Rattle.lists.proofs.Distinct.{distinct-append, append-apart}
+use Rattle.lists.proofs.Distinct.{distinct-append, append-apart, sum-members}
+use Rattle.lists.proofs.Numbers.{sum-parts}
 use Rattle.search.specs.Problem.{Problem}
 use Rattle.search.proofs.Laws.{Leads, stay, down}
-use Rattle.orders.specs.Orders.{Partial, Node, flown, setOf, left, size, extend, children}
-use Rattle.orders.proofs.Sets.{in-flown, flown-in, in-set, in-left, left-in, size-extend, child-extends, extend-child}
+use Rattle.orders.specs.Orders.{Partial, Node, stops, flown, setOf, left, size, extend, children}
+use Rattle.orders.proofs.Sets.{stops-in, in-flown, flown-in, in-set, in-left, left-in, size-extend, child-extends, extend-child}
 
 pub partial-root : (n : ℕ) → Partial n []
 partial-root n = record { once = none; only = λ s m. absurd (List·Memᴰ·not-nil m) }
@@ -62,6 +64,20 @@ size-root n = ap length (no-members (setOf n []) (λ s m. in-set n [] s m .2))
 pub partial-size : (n : ℕ) (x : Node) → Partial n x → size n x ≡ length x
 partial-size n =
     partial-made n (λ x. size n x ≡ length x) (size-root n) (λ x s e m. omega (arith, size-extend n x s m, length-append x (s ∷ [])))
+
+-- a sum over the stops flown and over those left is one over all stops
+pub partial-sum : (n : ℕ) (f : ℕ → ℕ) (x : Node) → Partial n x → sum f x + sum f (left n x) ≡ sum f (stops n)
+unfolding left
+partial-sum n f x p = omega (arith, sum-parts f (flown x) (stops n), sum-members f (p .once) kept (distinct-keep (flown x) (distinct-from 1 n)) there back)
+  where
+    kept : List ℕ
+    kept = keep (flown x) (stops n)
+
+    there : (s : ℕ) → In s x → In s kept
+    there s m = let h = p .only s m in keep-in (flown x) (stops n) s (stops-in n s (h .0) (h .1)) (in-flown x s m)
+
+    back : (s : ℕ) → In s kept → In s x
+    back s m = flown-in x s (in-keep (flown x) (stops n) s m .1)
 
 -- the nodes reached from e
 leads-behind : {N : Type 0} {P : Problem N} {x y c : N} → Leads P x y → In c (P .children y) → Leads P x c

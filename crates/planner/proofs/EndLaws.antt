@@ -176,7 +176,7 @@ module _ {c : Call} {t : Table} {w : List ℕ} {r : Run} (here : Stands c t w r)
       let (cost, one, two) = order-words (here .running .rows) x order in (
         best .0 ∙ cost ∙ ap (λ (P : Problem Node). P .cost x) (call-problem c (here .table)),
         ap (padded orderPlaces)
-            (order-stops (c .job .n) (passes c (here .passed) .few) x order _ _ (best .1 ∙ one) (best .2 ∙ two)),
+            (order-stops (c .job .n) (passes c (here .passed) .priced .few) x order _ _ (best .1 ∙ one) (best .2 ∙ two)),
       )
 
   module _ (end : next (problemOf c) (choicesOf c) (recordsIn (c .pool)) s ≡ finish) where

@@ -13,8 +13,15 @@ places = suc mostStops
 abbrev pub tableNumbers : ℕ
 tableNumbers = places * places
 
+abbrev pub dearestLeg : ℕ
+dearestLeg = 1_000_000
+
+-- Document 02, A.4: the dearest landing charge, and so the most that flying from one place to another can cost
+abbrev pub dearestCharge : ℕ
+dearestCharge = 100_000
+
 abbrev pub dearest : ℕ
-dearest = 1_000_000
+dearest = dearestLeg + dearestCharge
 
 -- "The report": places for the stops of an order
 abbrev pub orderPlaces : ℕ

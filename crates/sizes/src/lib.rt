@@ -14,7 +14,10 @@ pub const TABLE_NUMBERS: usize = PLACES * PLACES;
 pub const ORDER_PLACES: usize = MOST_STOPS as usize;
 
 // The dearest leg.
-pub const DEAREST: u32 = 1_000_000;
+pub const DEAREST_LEG: u32 = 1_000_000;
+
+// The dearest landing charge (request A.4).
+pub const DEAREST_CHARGE: u32 = 100_000;
 
 // Words of a node record.
 pub const RECORD_WORDS: usize = 6;

@@ -7,5 +7,6 @@ pub mod SetAnd
 pub mod SetJoin
 pub mod SetLoops
 pub mod LegTable
+pub mod Charges
 pub mod RowLaws
 pub mod StopsWalk

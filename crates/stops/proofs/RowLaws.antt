@@ -1,5 +1,6 @@
 -- Laws behind the functions of the table.
---   Clear, diagonal-finds, diagonal-skips, diagonal-ends    a loop that looks for an entry of the diagonal that is not 0
+--   entry-at                a number of the table, by its place
+--   Clear, charge-finds, charge-skips, charges-end    a loop that looks for a charge that is too dear
 --   Inside, place-inside    a place of the table is within it, and the table is small
 --   filled, filled-none, filled-more    a loop that fills an array, as long as a row, from the front
 --   filled-row, filled-rows    a row and the rows, once the places up to n are filled
@@ -11,48 +12,46 @@ use Prim.Native.Nat.{ℕ, suc, _+_, _*_, _≤_, _<_}
 use native.Mathlib.Nat.{mul-le-mul, suc-mul}
 use native.Mathlib.Numerals.{add-one}
 use native.Mathlib.Omega.{arith}
-use lib.Dec.{leb, ltb, eqb, leb·suc-suc}
-use lib.ListN.{length, getD, set, drop, replicate, length-set}
-use lib.Seq.{getD-set-same, getD-set-other, getD-drop, ext-getD}
-use borrow.Author.Tests.{lt-ltb, eq-eqb, ne-eqb}
-use Rattle.sizes.specs.Sizes.{mostStops, places, tableNumbers}
+use lib.Dec.{leb, ltb, leb·suc-suc}
+use lib.ListN.{length, getD, set, replicate, length-set}
+use lib.Seq.{getD-set-same, getD-set-other, ext-getD}
+use borrow.Author.Tests.{lt-ltb, le-ltb}
+use Rattle.sizes.specs.Sizes.{mostStops, places, tableNumbers, dearestCharge}
 use Rattle.lists.specs.Lists.{any, from}
 use Rattle.lists.proofs.Tests.{compared, same-tests, tests}
 use Rattle.lists.proofs.Elements.{getD-numbers, getD-from, Rest, any-finds, any-skips, any-ends}
 use Rattle.lists.proofs.Map.{map-same}
 use Rattle.lists.proofs.Members.{length-from}
-use Rattle.stops.specs.Tables.{entry, rows}
+use Rattle.stops.specs.Tables.{entry, charge, flying, inRows, rows}
 use Rattle.stops.specs.Code.{rowOf}
 
-entry-at : (n : ℕ) (table : List ℕ) (i j : ℕ) → getD table (i * (n + 1) + j) 0 ≡ entry n table i j
+pub entry-at : (n : ℕ) (table : List ℕ) (i j : ℕ) → getD table (i * (n + 1) + j) 0 ≡ entry n table i j
 unfolding entry
 entry-at n table i j = rw (add-one n)
 
--- The diagonal: the list is the numbers from 0 to n, and the test of i is that entry i, i is not 0.
 module _ (n : ℕ) (table : List ℕ) where
-  abbrev marked : ℕ → Bool
-  marked i = not (eqb (entry n table i i) 0)
+  -- The charges: the list is the numbers from 0 to n, and the test of j is that its charge is above the dearest.
+  abbrev dear : ℕ → Bool
+  dear j = ltb dearestCharge (charge n table j)
 
   abbrev pub Clear : ℕ → Type 0
-  Clear = Rest marked (from 0 (suc n))
+  Clear = Rest dear (from 0 (suc n))
 
-  marked-at : (i : ℕ) → i ≤ n → marked (getD (from 0 (suc n)) i 0) ≡ not (eqb (getD table (i * (n + 1) + i) 0) 0)
-  marked-at i h =
-      ap marked (getD-numbers 0 (suc n) i i (omega arith) (omega arith)) ∙ ap (λ (v : ℕ). not (eqb v 0)) (sym (entry-at n table i i))
+  dear-at : (j : ℕ) → j ≤ n → dear (getD (from 0 (suc n)) j 0) ≡ dear j
+  dear-at j h = ap dear (getD-numbers 0 (suc n) j j (omega arith) (omega arith))
 
-  pub diagonal-finds :
-      (i : ℕ) → Clear i → i ≤ n → getD table (i * (n + 1) + i) 0 ≢ 0 → false ≡ not (any marked (from 0 (suc n)))
-  diagonal-finds i r h e =
-      any-finds marked (from 0 (suc n)) i 0 r (omega (arith, length-from 0 (suc n)))
-      (marked-at i h ∙ ap not (ne-eqb (getD table (i * (n + 1) + i) 0) 0 e))
+  pub charge-finds : (j : ℕ) → Clear j → j ≤ n → dearestCharge < charge n table j → false ≡ not (any dear (from 0 (suc n)))
+  charge-finds j r h e =
+      any-finds dear (from 0 (suc n)) j 0 r (omega (arith, length-from 0 (suc n)))
+      (dear-at j h ∙ lt-ltb dearestCharge (charge n table j) e)
 
-  pub diagonal-skips : (i : ℕ) → Clear i → i ≤ n → getD table (i * (n + 1) + i) 0 ≡ 0 → Clear (i + 1)
-  diagonal-skips i r h e =
-      any-skips marked (from 0 (suc n)) i 0 r (omega (arith, length-from 0 (suc n)))
-      (marked-at i h ∙ ap not (eq-eqb (getD table (i * (n + 1) + i) 0) 0 e))
+  pub charge-skips : (j : ℕ) → Clear j → j ≤ n → charge n table j ≤ dearestCharge → Clear (j + 1)
+  charge-skips j r h e =
+      any-skips dear (from 0 (suc n)) j 0 r (omega (arith, length-from 0 (suc n)))
+      (dear-at j h ∙ le-ltb dearestCharge (charge n table j) e)
 
-  pub diagonal-ends : (i : ℕ) → Clear i → n < i → true ≡ not (any marked (from 0 (suc n)))
-  diagonal-ends i r h = any-ends marked (from 0 (suc n)) i r (omega (arith, length-from 0 (suc n)))
+  pub charges-end : (j : ℕ) → Clear j → n < j → true ≡ not (any dear (from 0 (suc n)))
+  charges-end j r h = any-ends dear (from 0 (suc n)) j r (omega (arith, length-from 0 (suc n)))
 
   -- place i, j stands inside the table, which has no more numbers than the largest
   abbrev pub Inside : ℕ → ℕ → Type 0
@@ -114,20 +113,17 @@ module _ {A : Type 0} where
       ap (λ (m : ℕ). filled m f d) (let e : k ≡ suc n = omega arith in e)
       ∙ map-same _ _ (from 0 places) (λ i m. ap (λ (b : Bool). cond b (f i) d) (leb·suc-suc i n))
 
-module _ (n k : ℕ) (h : k ≤ suc n) (l : n < k) where
-  pub filled-row : (numbers : List ℕ) → filled k (λ j. getD numbers j 0) 0 ≡ rowOf n numbers
+module _ (n k : ℕ) (h : k ≤ suc n) (l : n < k) (table : List ℕ) where
+  pub filled-row : (i : ℕ) → filled k (λ j. flying n table i j) 0 ≡ rowOf n table i
   unfolding rowOf
-  filled-row numbers = filled-all n k (λ j. getD numbers j 0) 0 h l
+  filled-row i = filled-all n k (λ j. flying n table i j) 0 h l
 
-  pub filled-rows : (table : List ℕ) → filled k (λ i. rowOf n (drop (i * (n + 1)) table)) (replicate places 0) ≡ rows n table
-  unfolding rows rowOf
-  filled-rows table =
-      filled-all n k (λ i. rowOf n (drop (i * (n + 1)) table)) (replicate places 0) h l ∙ map-same _ _ (from 0 places) (λ i m. at i (leb i n))
+  pub filled-rows : filled k (rowOf n table) (replicate places 0) ≡ rows n table
+  unfolding rows inRows rowOf
+  filled-rows = filled-all n k (rowOf n table) (replicate places 0) h l ∙ map-same _ _ (from 0 places) (λ i m. at i (leb i n))
     where
       at :
           (i : ℕ) (b : Bool)
-          → cond b (rowOf n (drop (i * (n + 1)) table)) (replicate places 0)
-          ≡ map (λ j. cond (b && leb j n) (entry n table i j) 0) (from 0 places)
-      at i true =
-          map-same _ _ (from 0 places) (λ j m. ap (λ (v : ℕ). cond (leb j n) v 0) (getD-drop (i * (n + 1)) table j 0 ∙ entry-at n table i j))
+          → cond b (rowOf n table i) (replicate places 0) ≡ map (λ j. cond (b && leb j n) (flying n table i j) 0) (from 0 places)
+      at i true = refl
       at i false = refl

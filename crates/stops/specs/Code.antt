@@ -7,9 +7,10 @@
 --   recDominates y z      dominance, on records
 --   ahead k L place rest  what bound k adds to the path cost at a place, with the stops of rest to come
 --   reckonOn rows         the day of the planner's rows as a walk from stop to stop
+--   Priced n table        what `rows` asks of a table, so that each number is in it and no sum of two overflows; check 3 sees to it
 --   Cheap rows            no leg of theirs is above the dearest (Within m L: none is above m)
 --   Reckonable rows x        what `order_cost` asks, so that each leg of x is in the rows and their sum does not overflow
---   rowOf n entries       a row of the planner's
+--   rowOf n table i       a row of the planner's
 --   Wide x s leg          what `extended` asks, so that no word overflows
 --   emptyRecord           six zeros, e's record before it has a bound
 use mathlib.Core.Path.{_≡_}
@@ -19,10 +20,11 @@ use Prim.Native.Nat.{ℕ, zero, suc, _+_, _*_, _-_, _^_, _/_, _%_, _≤_, _<_}
 use lib.Count.{ones}
 use lib.Dec.{leb, ltb, eqb}
 use lib.ListN.{length, getD}
-use Rattle.sizes.specs.Sizes.{mostStops, places, dearest, stopBase, wordStops}
+use Rattle.sizes.specs.Sizes.{mostStops, places, dearestLeg, dearestCharge, dearest, stopBase, wordStops}
 use Rattle.lists.specs.Lists.{In, put, from}
 use Rattle.orders.specs.Orders.{Node, last}
 use Rattle.days.specs.Code.{Reckoning}
+use Rattle.stops.specs.Tables.{charge, flying}
 use Rattle.stops.specs.Legs.{Legs, legs}
 use Rattle.stops.specs.Bounds.{remainder}
 use Rattle.stops.specs.declared.node_record.Record.{Record}
@@ -91,9 +93,16 @@ reckoning L = record { place = last; further = L .leg; after = λ place s. s; ah
 unfoldable pub reckonOn : List (List ℕ) → Reckoning
 reckonOn rows = reckoning (legs rows)
 
--- a row: the first n + 1 of some numbers of the table, and zeros
-unfoldable pub rowOf : ℕ → List ℕ → List ℕ
-rowOf n entries = map (λ j. cond (leb j n) (getD entries j 0) 0) (from 0 places)
+-- a row: what flying from place i costs, and zeros
+unfoldable pub rowOf : ℕ → List ℕ → ℕ → List ℕ
+rowOf n table i = map (λ j. cond (leb j n) (flying n table i j) 0) (from 0 places)
+
+-- a table for n stops whose legs and charges are not too dear
+pub record Priced (n : ℕ) (table : List ℕ) : Type 0 where
+  pub few : n ≤ mostStops
+  pub square : length table ≡ suc n * suc n
+  pub legs : (w : ℕ) → In w table → w ≤ dearestLeg
+  pub charges : (i : ℕ) → i ≤ n → charge n table i ≤ dearestCharge
 
 pub record Within (m : ℕ) (L : Legs) : Type 0 where
   pub leg : (i j : ℕ) → L .leg i j ≤ m

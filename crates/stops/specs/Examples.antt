@@ -6,15 +6,21 @@ use mathlib.Core.List.{List, [], _∷_, map}
 use Prim.Native.Nat.{ℕ}
 use Rattle.orders.specs.Orders.{flown, setOf, left, last, size, complete, children, level, orders}
 use Rattle.days.specs.Days.{Day}
-use Rattle.stops.specs.Tables.{entry, rows}
+use Rattle.stops.specs.Tables.{entry, charge, flying, inRows, rows}
 use Rattle.stops.specs.Legs.{Legs, rowLeg, legs, path, cost}
 use Rattle.stops.specs.Bounds.{plain, cheapestInto, remainder, close, boundBy, dominates}
 use Rattle.stops.specs.Stops.{day, dayOn}
 
 -- the day of a table, with every definition that it rests on open: a proof that says `unfolding computedDay` computes it
 unfoldable pub computedDay : ℕ → List ℕ → Day
-unfolding flown setOf left last size complete children entry rows rowLeg legs path cost plain cheapestInto remainder close boundBy dominates day dayOn
+unfolding flown setOf left last size complete children entry charge flying inRows rows rowLeg legs path cost plain cheapestInto remainder close boundBy dominates day dayOn
 computedDay n table = dayOn n (rows n table)
+
+-- One stop, with charges of 7 at home and 11 at the stop (request A.4): 3 out and 11 to land; 5 back and 7 to land. Row by row; home is not
+-- flown to from home, nor the stop from itself.
+flying-costs : map (λ i. map (flying 1 (7 ∷ 3 ∷ 5 ∷ 11 ∷ []) i) (0 ∷ 1 ∷ [])) (0 ∷ 1 ∷ []) ≡ (14 ∷ 14 ∷ []) ∷ (12 ∷ 22 ∷ []) ∷ []
+unfolding computedDay
+flying-costs = refl
 
 -- the legs of T
 legsT : Legs
@@ -63,3 +69,26 @@ last-stops-differ = refl
 never-itself : dominates 3 legsT (1 ∷ 2 ∷ []) (1 ∷ 2 ∷ []) ≡ false
 unfolding legsT
 never-itself = refl
+
+-- T with charges, of 2 at home and of 10, 20 and 40 at the stops (request A.4): what it costs to fly to 1, to 12 and so on, and home
+chargedT : Legs
+unfolding level orders computedDay
+chargedT = legs (rows 3 (2 ∷ 4 ∷ 7 ∷ 9 ∷ 5 ∷ 10 ∷ 2 ∷ 6 ∷ 3 ∷ 8 ∷ 20 ∷ 1 ∷ 6 ∷ 5 ∷ 4 ∷ 40 ∷ []))
+
+charged-paths : map (path chargedT) ([] ∷ (1 ∷ []) ∷ (1 ∷ 2 ∷ []) ∷ (1 ∷ 2 ∷ 3 ∷ []) ∷ []) ≡ 0 ∷ 14 ∷ 36 ∷ 77 ∷ []
+unfolding chargedT
+charged-paths = refl
+
+-- each order's legs and 72
+charged-costs : map (cost chargedT) (orders 3) ≡ 85 ∷ 89 ∷ 99 ∷ 90 ∷ 91 ∷ 98 ∷ []
+unfolding chargedT
+charged-costs = refl
+
+-- case k's bounds and 72; plain, the stops flown alone
+charged-close : map (close 3 chargedT) ([] ∷ (1 ∷ []) ∷ (2 ∷ []) ∷ (3 ∷ []) ∷ []) ≡ 82 ∷ 82 ∷ 90 ∷ 91 ∷ []
+unfolding chargedT
+charged-close = refl
+
+charged-plain : map (plain 3 chargedT) ([] ∷ (1 ∷ []) ∷ (2 ∷ []) ∷ (3 ∷ []) ∷ (1 ∷ 2 ∷ 3 ∷ []) ∷ []) ≡ 0 ∷ 14 ∷ 27 ∷ 49 ∷ 85 ∷ []
+unfolding chargedT
+charged-plain = refl

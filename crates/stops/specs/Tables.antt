@@ -1,4 +1,4 @@
--- The table of a day and the planner's rows of it: document 01, "Legs and orders".
+-- The table of a day, what flying costs by it, and the planner's rows: document 01, "Legs and orders"; document 02, A.4.
 use mathlib.Core.Bool.{_&&_, cond}
 use mathlib.Core.List.{List, map}
 use Prim.Native.Nat.{ℕ, suc, _+_, _*_}
@@ -7,10 +7,27 @@ use lib.ListN.{getD}
 use Rattle.sizes.specs.Sizes.{places}
 use Rattle.lists.specs.Lists.{from}
 
--- The table has n + 1 rows of n + 1 numbers, one row after another: entry i, j is what the leg from place i to place j costs.
+-- The table has n + 1 rows of n + 1 numbers, one row after another: entry i, j is the leg from place i to place j.
 unfoldable pub entry : ℕ → List ℕ → ℕ → ℕ → ℕ
 entry n table i j = getD table (i * suc n + j) 0
 
--- The planner has the table as rows of equal length, whatever n is: zeros stand where the table has no number.
+-- Request A.4: on the diagonal stands what a landing at a place is charged, home (place 0) included.
+unfoldable pub charge : ℕ → List ℕ → ℕ → ℕ
+charge n table j = entry n table j j
+
+-- Flying from i to j costs the leg and the landing at j. Whoever flies home pays home's charge.
+unfoldable pub flying : ℕ → List ℕ → ℕ → ℕ → ℕ
+flying n table i j = entry n table i j + charge n table j
+
+-- What it costs from place to place, in rows of equal length, whatever n is: zeros stand where there is no such place.
+unfoldable pub inRows : ℕ → (ℕ → ℕ → ℕ) → List (List ℕ)
+inRows n costs = map (λ i. map (λ j. cond (leb i n && leb j n) (costs i j) 0) (from 0 places)) (from 0 places)
+
+-- The planner's rows have the costs of flying. Nobody flies from a place to itself, so that a cell on the diagonal, which has the place's
+-- charge twice, is never reckoned with.
 unfoldable pub rows : ℕ → List ℕ → List (List ℕ)
-rows n table = map (λ i. map (λ j. cond (leb i n && leb j n) (entry n table i j) 0) (from 0 places)) (from 0 places)
+rows n table = inRows n (flying n table)
+
+-- The legs alone, as document 01 had them in its rows before the request, to compare with.
+unfoldable pub legRows : ℕ → List ℕ → List (List ℕ)
+legRows n table = inRows n (entry n table)

@@ -1,27 +1,28 @@
 // The table: the checks on its numbers, and the rows that the planner reckons with.
 ghost use mathlib.Core.Path.{_≡_};
 ghost use mathlib.Core.Bool.{not};
-ghost use Prim.Native.Nat.{suc, _+_, _*_, _≤_, _<_};
-ghost use lib.Dec.{ltb, eqb};
+ghost use Prim.Native.Nat.{suc, _+_, _*_, _≤_};
+ghost use lib.Dec.{ltb};
 ghost use lib.ListN.{length};
-ghost use Rattle.sizes.specs.Sizes.{mostStops, dearest};
+ghost use Rattle.sizes.specs.Sizes.{mostStops, dearestLeg, dearestCharge};
 ghost use Rattle.lists.specs.Lists.{any, from};
-ghost use Rattle.stops.specs.Tables.{entry, rows};
-ghost use Rattle.stops.specs.Code.{rowOf, reckonOn};
+ghost use Rattle.stops.specs.Tables.{entry, charge, flying, rows};
+ghost use Rattle.stops.specs.Code.{Priced, rowOf, reckonOn};
 use crate::legs::leg;
-use sizes::DEAREST;
+use sizes::DEAREST_CHARGE;
+use sizes::DEAREST_LEG;
 use sizes::PLACES;
 
-// The legs in rows of one length; unused numbers are 0.
+// What flying costs from each place to each other, in rows of one length; unused numbers are 0.
 pub type Rows = [[u32; PLACES]; PLACES];
 
 // Whether no number is above the dearest leg.
 pub fn small(table: &[u32]) -> bool
-    ensures { λ r. ⌜ r ≡ not (any (ltb dearest) (now (table .entry))) ⌝ }
+    ensures { λ r. ⌜ r ≡ not (any (ltb dearestLeg) (now (table .entry))) ⌝ }
 {
     let mut k = 0;
     while k < table.len() {
-        if DEAREST < table[k] {
+        if DEAREST_LEG < table[k] {
             return false;
         }
         k += 1;
@@ -29,30 +30,54 @@ pub fn small(table: &[u32]) -> bool
     true
 }
 
-// Whether the diagonal entries are 0.
-pub fn diagonal(n: usize, table: &[u32]) -> bool
-    requires { ⌜ (n ≤ mostStops) × (length (now table) ≡ suc n * suc n) ⌝ }
-    ensures { λ r. ⌜ r ≡ not (any (λ i. not (eqb (entry n (now (table .entry)) i i) 0)) (from 0 (suc n))) ⌝ }
+// A number of the table.
+fn entry(n: usize, table: &[u32], i: usize, j: usize) -> u32
+    requires { ⌜ (n ≤ mostStops) × ((length (now table) ≡ suc n * suc n) × ((i ≤ n) × (j ≤ n))) ⌝ }
+    ensures { λ r. ⌜ r ≡ entry n (now (table .entry)) i j ⌝ }
 {
-    let mut i = 0;
-    while i <= n {
-        if table[i * (n + 1) + i] != 0 {
+    table[i * (n + 1) + j]
+}
+
+// What a landing is charged (request A.4).
+fn charge(n: usize, table: &[u32], j: usize) -> u32
+    requires { ⌜ (n ≤ mostStops) × ((length (now table) ≡ suc n * suc n) × (j ≤ n)) ⌝ }
+    ensures { λ r. ⌜ r ≡ charge n (now (table .entry)) j ⌝ }
+{
+    entry(n, table, j, j)
+}
+
+// Whether no landing charge is above the dearest.
+pub fn small_charges(n: usize, table: &[u32]) -> bool
+    requires { ⌜ (n ≤ mostStops) × (length (now table) ≡ suc n * suc n) ⌝ }
+    ensures { λ r. ⌜ r ≡ not (any (λ j. ltb dearestCharge (charge n (now (table .entry)) j)) (from 0 (suc n))) ⌝ }
+{
+    let mut j = 0;
+    while j <= n {
+        if DEAREST_CHARGE < charge(n, table, j) {
             return false;
         }
-        i += 1;
+        j += 1;
     }
     true
 }
 
-// One row: the first n + 1 of some numbers of the table, and zeros.
-fn row(n: usize, entries: &[u32]) -> [u32; PLACES]
-    requires { ⌜ (n ≤ mostStops) × (n < length (now entries)) ⌝ }
-    ensures { λ r. ⌜ r ≡ rowOf n (now (entries .entry)) ⌝ }
+// What flying from one place to another costs: the leg, and the landing there (request A.4).
+fn flying(n: usize, table: &[u32], i: usize, j: usize) -> u32
+    requires { ⌜ Priced n (now table) × ((i ≤ n) × (j ≤ n)) ⌝ }
+    ensures { λ r. ⌜ r ≡ flying n (now (table .entry)) i j ⌝ }
+{
+    entry(n, table, i, j) + charge(n, table, j)
+}
+
+// One row: what flying from a place costs, and zeros.
+fn row(n: usize, table: &[u32], i: usize) -> [u32; PLACES]
+    requires { ⌜ Priced n (now table) × (i ≤ n) ⌝ }
+    ensures { λ r. ⌜ r ≡ rowOf n (now (table .entry)) i ⌝ }
 {
     let mut r = [0u32; PLACES];
     let mut j = 0;
     while j <= n {
-        r[j] = entries[j];
+        r[j] = flying(n, table, i, j);
         j += 1;
     }
     r
@@ -60,20 +85,19 @@ fn row(n: usize, entries: &[u32]) -> [u32; PLACES]
 
 // The rows of the table.
 pub fn rows(n: usize, table: &[u32]) -> Rows
-    requires { ⌜ (n ≤ mostStops) × (length (now table) ≡ suc n * suc n) ⌝ }
+    requires { ⌜ Priced n (now table) ⌝ }
     ensures { λ r. ⌜ r ≡ rows n (now (table .entry)) ⌝ }
 {
     let mut t = [[0u32; PLACES]; PLACES];
     let mut i = 0;
     while i <= n {
-        let at = i * (n + 1);
-        t[i] = row(n, &table[at..]);
+        t[i] = row(n, table, i);
         i += 1;
     }
     t
 }
 
-// What a stop adds to the path cost of a node at a place: its leg from there.
+// What a stop adds to the path cost of a node at a place: what flying there costs.
 pub fn further(t: &Rows, place: u32, stop: u32) -> u32
     requires { ⌜ (place ≤ mostStops) × (stop ≤ mostStops) ⌝ }
     ensures { λ r. ⌜ r ≡ reckonOn (now (t .entry)) .further place stop ⌝ }

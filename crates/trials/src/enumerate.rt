@@ -63,14 +63,22 @@ fn leg(table: &[u32], side: usize, i: u8, j: u8) -> u32
     NO_LEG
 }
 
-// A leg, to be summed.
+// A leg or a charge, to be summed.
 fn wide(x: u32) -> u64
     ensures { λ r. ⌜ r < 4294967296 ⌝ }
 {
     x as u64
 }
 
-// The cost of an order of n stops: its legs from home to home.
+// What flying from place i to place j costs: the leg, and the charge that stands on the diagonal for a landing at j.
+fn flying(table: &[u32], side: usize, i: u8, j: u8) -> u64
+    requires { ⌜ side ≤ places ⌝ }
+    ensures { λ r. ⌜ r ≤ 8589934590 ⌝ }
+{
+    wide(leg(table, side, i, j)) + wide(leg(table, side, j, j))
+}
+
+// The cost of an order of n stops, from home to home.
 pub fn cost_of(table: &[u32], x: &[u8; ORDER_PLACES], n: usize) -> u64
     requires { ⌜ n ≤ mostStops ⌝ }
 {
@@ -80,11 +88,11 @@ pub fn cost_of(table: &[u32], x: &[u8; ORDER_PLACES], n: usize) -> u64
     let mut i = 0;
     while i < n {
         let s = x[i];
-        sum += wide(leg(table, side, place, s));
+        sum += flying(table, side, place, s);
         place = s;
         i += 1;
     }
-    sum + wide(leg(table, side, place, 0))
+    sum + flying(table, side, place, 0)
 }
 
 // How many sequences of n numbers from 1 to n there are.

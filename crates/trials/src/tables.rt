@@ -1,13 +1,14 @@
-// Table k: how many stops, of which kind, and legs by a generator that k starts.
+// Table k: how many stops, of which kind, and legs and landing charges by a generator that k starts.
 ghost use mathlib.Core.Path.{_≡_};
 ghost use Prim.Native.Nat.{_+_, _≤_, _<_};
 ghost use lib.ListN.{length};
-ghost use Rattle.sizes.specs.Sizes.{dearest, orderPlaces};
+ghost use Rattle.sizes.specs.Sizes.{dearestLeg, dearestCharge, orderPlaces};
 use crate::enumerate::below;
 use crate::enumerate::is_order;
 use crate::enumerate::sequence;
 use crate::enumerate::sequences;
-use sizes::DEAREST;
+use sizes::DEAREST_CHARGE;
+use sizes::DEAREST_LEG;
 use sizes::ORDER_PLACES;
 
 // The number after x of a sequence that looks random.
@@ -46,39 +47,50 @@ pub fn size_of(n: usize) -> usize
     }
 }
 
-// The legs of a kind: from `least` on, so many different ones.
+// The numbers of a kind: from `least` on, so many different ones.
 struct Kind {
     least: u64,
     span: u64,
 }
 
-// The kind of table k: all equal, ties among few, ties among the longest, some, and any.
-fn kind_of(k: u64) -> Kind
-    ensures { λ r. ⌜ (1 ≤ r .span) × (r .least + r .span ≤ dearest + 1) ⌝ }
+// The legs of table k: all equal, ties among few, ties among the longest, some, and any.
+fn legs_of(k: u64) -> Kind
+    ensures { λ r. ⌜ (1 ≤ r .span) × (r .least + r .span ≤ dearestLeg + 1) ⌝ }
 {
     match k % 6 {
         0 => Kind { least: 7, span: 1 },
         1 => Kind { least: 0, span: 2 },
         2 => Kind { least: 0, span: 3 },
         3 => Kind {
-            least: DEAREST as u64 - 2,
+            least: DEAREST_LEG as u64 - 2,
             span: 3,
         },
         4 => Kind { least: 1, span: 20 },
         _ => Kind {
             least: 0,
-            span: DEAREST as u64 + 1,
+            span: DEAREST_LEG as u64 + 1,
         },
     }
 }
 
-// The number at place i of a table of n stops: 0 on the diagonal, else a leg by x.
-fn entry(kind: Kind, n: usize, i: usize, x: u64) -> u32
-    requires { ⌜ (1 ≤ kind .span) × ((kind .least + kind .span ≤ dearest + 1) × (n ≤ 6)) ⌝ }
+// Its landing charges: none for half of the tables, few, and any.
+fn charges_of(k: u64) -> Kind
+    ensures { λ r. ⌜ (1 ≤ r .span) × (r .least + r .span ≤ dearestCharge + 1) ⌝ }
 {
-    if i % (n + 2) == 0 {
-        return 0;
+    match k / 6 % 4 {
+        0 => Kind { least: 0, span: 4 },
+        1 => Kind {
+            least: 0,
+            span: DEAREST_CHARGE as u64 + 1,
+        },
+        _ => Kind { least: 0, span: 1 },
     }
+}
+
+// A number of a kind, by x.
+fn drawn(kind: Kind, x: u64) -> u32
+    requires { ⌜ (1 ≤ kind .span) × (kind .least + kind .span ≤ dearestLeg + 1) ⌝ }
+{
     (kind.least + below(x, kind.span)) as u32
 }
 
@@ -87,13 +99,18 @@ pub fn table_of(k: u64, n: usize) -> [u32; 49]
     requires { ⌜ n ≤ 6 ⌝ }
     ensures { λ r. ⌜ 49 ≡ length r ⌝ }
 {
-    let kind = kind_of(k);
+    let legs = legs_of(k);
+    let charges = charges_of(k);
     let mut table = [0u32; 49];
     let mut x = k;
     let mut i = 0;
     while i < 49 {
         x = next(x);
-        table[i] = entry(kind, n, i, x);
+        table[i] = if i % (n + 2) == 0 {
+            drawn(charges, x)
+        } else {
+            drawn(legs, x)
+        };
         i += 1;
     }
     table

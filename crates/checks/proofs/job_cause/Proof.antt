@@ -33,7 +33,7 @@ returns-2 c =
 wrong-start-requires : tie.Need-wrong-start-requires
 wrong-start-requires c κs =
     let d = c .before .before .before in
-    table-passed (job d .n) _ 0 (sym (d .table-cause .ensures) ∙ c .before .before .if1 .left) .0 .few
+    table-passed (job d .n) _ 0 (sym (d .table-cause .ensures) ∙ c .before .before .if1 .left) .0 .priced .few
 
 returns-3 : tie.Need-returns-3
 returns-3 c =

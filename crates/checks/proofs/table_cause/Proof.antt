@@ -14,7 +14,7 @@ use Rattle.checks.proofs.CauseLaws.{
   other-area,
   area-passes,
   large-leg,
-  nonzero-diagonal,
+  large-charge,
   legs-pass,
   table-first,
   table-second,
@@ -37,7 +37,7 @@ stopsIn c = c .args .n
 abbrev tableIn : tie.Start → List ℕ
 tableIn c = c .args .table .now
 
--- what `small` and `diagonal` answer is whether nothing is wrong
+-- what `small` and `small_charges` answer is whether nothing is wrong
 turned : (wrong right : Bool) → right ≡ not wrong → wrong ≡ not right
 turned wrong right e = rw (e, Bool·not-not)
 
@@ -59,7 +59,7 @@ legs c =
     let small = c .before .before .before in
     legs-pass _ _
     (turned _ _ (small .small .ensures) ∙ c .before .before .if3 .left)
-    (turned _ _ (c .before .diagonal .ensures) ∙ c .if4 .left)
+    (turned _ _ (c .before .small-charges .ensures) ∙ c .if4 .left)
 
 mul-if2 : tie.Need-mul-if2
 mul-if2 c =
@@ -77,7 +77,7 @@ returns-3 c =
 returns-4 : tie.Need-returns-4
 returns-4 c =
     let left = c .before .before .before .before in
-    table-third _ _ (stops (left .before)) (area left) (nonzero-diagonal _ _ (turned _ _ (c .before .diagonal .ensures) ∙ c .if4 .taken))
+    table-third _ _ (stops (left .before)) (area left) (large-charge _ _ (turned _ _ (c .before .small-charges .ensures) ∙ c .if4 .taken))
 
 pub table-cause-spec : {M : Type 1} → statement M
 table-cause-spec =

@@ -23,7 +23,7 @@ passed c =
 
 -- the places that are lent to `make`
 lent : (c : tie.After-order) → let n = entry (checked c) .args .n in n ≡ length (take n zeros)
-lent c = zeros-front _ (passed (checked c) .few)
+lent c = zeros-front _ (passed (checked c) .priced .few)
 
 returns : tie.Need-returns
 returns c = refused-first _ _ _ (c .before .table-cause .ensures) (c .if1 .taken)
@@ -37,8 +37,8 @@ unfolding zeros
 make-requires c κs =
     let p = passed (checked c) in
     let a = entry (checked c) .args in
-    let cheap = rows-cheap (a .n) (a .table .now) (p .cheap) in
-    (rw (c .before .before .rows .ensures) cheap, (omega (arith, lent c, p .some), omega (arith, lent c, p .few)))
+    let cheap = rows-cheap (a .n) (a .table .now) (p .priced) in
+    (rw (c .before .before .rows .ensures) cheap, (omega (arith, lent c, p .some), omega (arith, lent c, p .priced .few)))
 
 returns-2 : tie.Need-returns-2
 unfolding zeros
@@ -55,8 +55,8 @@ first-order-spec =
     (tie.spec
     (λ c κs. search needs)
     returns
-    (λ c κs. (passed c .few, passed c .square))
-    (λ c. passed (c .before .before) .few)
+    (λ c κs. passed c .priced)
+    (λ c. passed (c .before .before) .priced .few)
     slice-aggregate-make
     make-requires
     returns-2)

@@ -13,7 +13,7 @@ use Rattle.stops.proofs.StopsWalk.{ahead-small}
 use Rattle.records.proofs.Mask.{rest-small}
 use Rattle.node_answers.specs.Nodes.{flownStops}
 use Rattle.inspection.specs.Code.{ofFour}
-use Rattle.inspection.proofs.FigureLaws.{job-few, job-square, job-cheap, one-shifted, node-short, set-within, figures-node}
+use Rattle.inspection.proofs.FigureLaws.{job-priced, job-few, job-cheap, one-shifted, node-short, set-within, figures-node}
 use Rattle.inspection.proofs.cost.reckoned.Statement.{statement}
 use Rattle.inspection.proofs.cost.reckoned.Tie as tie
 
@@ -35,9 +35,7 @@ few : (c : tie.Start) → c .args .job .n ≤ mostStops
 few c = job-few (c .args .job) (c .args .table .now) (c .pre .1)
 
 rows-requires : tie.Need-rows-requires
-rows-requires c κs =
-    let s = c .before .before in
-    (few s, job-square (s .args .job) (s .args .table .now) (s .pre .1))
+rows-requires c κs = let s = c .before .before in job-priced (s .args .job) (s .args .table .now) (s .pre .1)
 
 -- the rows that are reckoned with
 cheap : (c : tie.After-rows) → Cheap (c .rows .result)

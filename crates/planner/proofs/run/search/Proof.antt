@@ -109,7 +109,7 @@ kept c = c .take-turn .kept .1 .1 .0
 
 rows-requires : tie.Need-rows-requires Inv-loop μ-loop
 unfolding callOf
-rows-requires c κs = let p = ok (c .before .before .before .before) in (p .few, p .square)
+rows-requires c κs = ok (c .before .before .before .before) .priced
 
 begun-requires : tie.Need-begun-requires Inv-loop μ-loop
 unfolding callOf recordsIn
@@ -148,7 +148,7 @@ settle-requires c κs = let turn = finish (c .before) in settle-ready (stands (h
 -- as many stops as there may be
 few : (c : tie.After-take-turn Inv-loop μ-loop) → entry (tabled (began (head c))) .args .setting .n ≤ mostStops
 unfolding callOf
-few c = ok (entry (tabled (began (head c)))) .few
+few c = ok (entry (tabled (began (head c)))) .priced .few
 
 same-length : tie.Need-same-length Inv-loop μ-loop
 unfolding callOf

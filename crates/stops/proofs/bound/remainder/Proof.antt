@@ -2,10 +2,10 @@
 -- remainder, and the stops left are of the set. The remainder is at most 17,000,000, so no sum on the way wraps. The measure is the
 -- set of the stops left, as a number.
 use mathlib.Core.Path.{_≡_, refl, ap, _∙_}
-use Prim.Native.Nat.{ℕ, _+_, _-_, _^_, _≤_}
+use Prim.Native.Nat.{ℕ, _+_, _*_, _-_, _^_, _≤_}
 use native.Mathlib.Omega.{arith}
 use borrow.Author.Needs.{needs}
-use Rattle.sizes.specs.Sizes.{dearest}
+use Rattle.sizes.specs.Sizes.{places, dearest}
 use Rattle.lists.specs.Lists.{In}
 use Rattle.stops.specs.Legs.{legs}
 use Rattle.stops.specs.Bounds.{cheapestInto, remainder}
@@ -117,7 +117,7 @@ two-values c =
 
 -- the remainder is small
 most :
-    (c : tie.Start Inv-loop μ-loop) → remainder (legs (c .args .t .now)) (c .args .place) (stopsIn (c .args .rest)) ≤ 17000000
+    (c : tie.Start Inv-loop μ-loop) → remainder (legs (c .args .t .now)) (c .args .place) (stopsIn (c .args .rest)) ≤ places * dearest
 most c =
     let a = c .args in
     omega (

@@ -1,9 +1,9 @@
 -- `stops::cost::order_cost` meets its contract. The loop's invariant: `Spent`, and that it has got to one of the places. No sum on the way
 -- is above the cost, which is at most 17,000,000, so none wraps. The measure is how many stops are left.
-use Prim.Native.Nat.{_-_, _≤_}
+use Prim.Native.Nat.{_*_, _-_, _≤_}
 use native.Mathlib.Omega.{arith}
 use lib.ListN.{length, getD}
-use Rattle.sizes.specs.Sizes.{mostStops, dearest}
+use Rattle.sizes.specs.Sizes.{mostStops, places, dearest}
 use Rattle.lists.proofs.Elements.{getD-small}
 use Rattle.stops.specs.Legs.{legs, cost}
 use Rattle.stops.proofs.Paths.{cost-small, Spent, spent-none, spent-more, spent-whole}
@@ -21,7 +21,7 @@ near : (c : tie.In-loop Inv-loop μ-loop) → getD (c .before .before .before .a
 near c = getD-small mostStops _ (c .before .before .before .pre .near) _
 
 -- the cost is small
-most : (c : tie.Start Inv-loop μ-loop) → cost (legs (c .args .t .now)) (c .args .x .now) ≤ 17000000
+most : (c : tie.Start Inv-loop μ-loop) → cost (legs (c .args .t .now)) (c .args .x .now) ≤ places * dearest
 most c = omega (arith, cost-small dearest (legs (c .args .t .now)) (c .pre .cheap) (c .args .x .now), c .pre .few)
 
 loop-again : tie.Need-loop-again Inv-loop μ-loop

@@ -6,13 +6,13 @@ use native.Mathlib.Omega.{arith}
 use lib.Dec.{ltb}
 use lib.ListN.{length}
 use borrow.Author.Tests.{lt-ltb, le-ltb}
-use Rattle.sizes.specs.Sizes.{dearest}
+use Rattle.sizes.specs.Sizes.{dearestLeg}
 use Rattle.lists.proofs.Elements.{Rest, any-finds, any-skips, any-ends}
 use Rattle.stops.proofs.table.small.Statement.{statement}
 use Rattle.stops.proofs.table.small.Tie as tie
 
 abbrev Inv-loop : tie.InvT-loop
-Inv-loop table k₀ k = (k ≤ length table) × Rest (ltb dearest) table k
+Inv-loop table k₀ k = (k ≤ length table) × Rest (ltb dearestLeg) table k
 
 abbrev μ-loop : tie.MeasureT-loop
 μ-loop table k₀ k = length table - k
@@ -20,12 +20,12 @@ abbrev μ-loop : tie.MeasureT-loop
 returns : tie.Need-returns Inv-loop μ-loop
 returns c =
     let s = c .before .before in
-    any-finds (ltb dearest) _ _ 0 (s .before .loop .inv .1) (s .loop-test .taken) (lt-ltb dearest _ (c .if1 .taken))
+    any-finds (ltb dearestLeg) _ _ 0 (s .before .loop .inv .1) (s .loop-test .taken) (lt-ltb dearestLeg _ (c .if1 .taken))
 
 loop-again : tie.Need-loop-again Inv-loop μ-loop
 loop-again c =
     let s = c .before .before in
-    (omega arith, any-skips (ltb dearest) _ _ 0 (s .before .loop .inv .1) (s .loop-test .taken) (le-ltb dearest _ (c .if1 .left)))
+    (omega arith, any-skips (ltb dearestLeg) _ _ 0 (s .before .loop .inv .1) (s .loop-test .taken) (le-ltb dearestLeg _ (c .if1 .left)))
 
 pub small-spec : {M : Type 1} → statement M
 small-spec =
@@ -40,4 +40,4 @@ small-spec =
     (λ c. omega arith)
     (λ c. omega arith)
     loop-again
-    (λ c. any-ends (ltb dearest) _ _ (c .before .loop .inv .1) (c .loop-test .left)))
+    (λ c. any-ends (ltb dearestLeg) _ _ (c .before .loop .inv .1) (c .loop-test .left)))

@@ -1,11 +1,11 @@
--- `cost_of` is safe and ends. The invariant: i is at most n, and the sum is at most the largest leg for each place passed.
+-- `cost_of` is safe and ends. The invariant: i is at most n, and the sum is at most twice the largest number for each place passed.
 use Prim.Native.Nat.{_≤_, _-_, _*_}
 use borrow.Author.Needs.{needs}
 use Rattle.trials.proofs.enumerate.cost_of.Statement.{statement}
 use Rattle.trials.proofs.enumerate.cost_of.Tie as tie
 
 abbrev Inv-loop : tie.InvT-loop
-Inv-loop table x n side sum₀ place₀ i₀ sum place i = (i ≤ n) × (sum ≤ 4294967295 * i)
+Inv-loop table x n side sum₀ place₀ i₀ sum place i = (i ≤ n) × (sum ≤ 8589934590 * i)
 
 abbrev μ-loop : tie.MeasureT-loop
 μ-loop table x n side sum₀ place₀ i₀ sum place i = n - i
@@ -13,5 +13,4 @@ abbrev μ-loop : tie.MeasureT-loop
 pub cost-of-spec : {M : Type 1} → statement M
 cost-of-spec =
     tie.close
-    (tie.spec Inv-loop μ-loop (search needs) (search needs) (search needs) (search needs) (search needs) (search needs) (search needs)
-    (search needs) (search needs) (search needs) (search needs) (search needs) (search needs))
+    (tie.spec Inv-loop μ-loop (λ c. search needs) (λ c. search needs) (λ c. search needs) (λ c κs. search needs) (λ c. search needs) (λ c. search needs) (λ c. search needs) (λ c. search needs) (λ c κs. search needs) (λ c. search needs) (λ c. search needs))

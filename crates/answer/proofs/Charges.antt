@@ -1,0 +1,152 @@
+-- Request A.4 of the written run, a theorem for each type of specs/Charges.
+use mathlib.Core.Path.{_≡_, refl, sym, ap, ap₂, _∙_, subst}
+use mathlib.Core.Bool.{Bool, true, false, not, _&&_, _||_, cond}
+use mathlib.Core.List.{List, map}
+use Prim.Native.Nat.{ℕ, zero, suc, _+_, _≤_, _<_}
+use native.Mathlib.Omega.{arith}
+use lib.Dec.{T, T-not, not-T, leb, leb→le, ltb, eqb, eqb→eq}
+use Rattle.sizes.specs.Sizes.{mostStops, places, dearestLeg, dearestCharge}
+use Rattle.lists.specs.Lists.{In, any, from}
+use Rattle.lists.proofs.Tests.{and-right, to-false, not-either, twice-not}
+use Rattle.lists.proofs.Members.{any-in, in-from, from-in}
+use Rattle.lists.proofs.Map.{map-same}
+use Rattle.search.specs.Run.{Outcome, finished, stopped, full, unfinished}
+use Rattle.orders.specs.Orders.{Node, Order}
+use Rattle.orders.proofs.Orders.{in-orders}
+use Rattle.days.specs.Days.{Day}
+use Rattle.stops.specs.Tables.{entry, charge, flying, inRows, rows, legRows}
+use Rattle.stops.specs.Stops.{dayOn}
+use Rattle.stops.proofs.Charges.{day-path-pays, day-plain-pays, day-close-pays, day-cost-pays}
+use Rattle.answer.specs.Call.{Call, Answer, refusal}
+use Rattle.answer.specs.Checks.{cause₁, cause₂, cause₃, cause₄, cause₅, cause₆, orLater, tableCause, jobCause, cause}
+use Rattle.answer.specs.Answer.{dayOf, problemOf, choicesOf, outcome, floorOf, wordsOf, ending, respond, answer}
+use Rattle.answer.specs.Ends.{Finishes, orderIn, HasOrder}
+use Rattle.answer.specs.Demands.{written}
+use Rattle.answer.specs.Charges.{legDayOf, landings, everyLanding, PathPays, OrderPays, PlainPays, ClosePays, OrderShownPays, CheapestByLegs, Uncharged, legCause₃, legCause, answerOn, endingOn, OnItsDay, AsDocument01, AcceptedBefore}
+use Rattle.answer.proofs.Passes.{none-found, none-first, passes}
+use Rattle.answer.proofs.Demand3.{cheapest-of-all}
+
+few : (c : Call) → cause c ≡ 0 → c .job .n ≤ mostStops
+few c e = passes c e .priced .few
+
+pub path-pays : PathPays
+unfolding dayOf legDayOf landings
+path-pays c e x p = day-path-pays (c .job .n) (few c e) (c .table) x p
+
+pub order-pays : OrderPays
+unfolding dayOf legDayOf landings everyLanding
+order-pays c e x o = day-cost-pays (c .job .n) (few c e) (c .table) x o
+
+pub plain-pays : PlainPays
+unfolding dayOf legDayOf landings
+plain-pays c e x p = day-plain-pays (c .job .n) (few c e) (c .table) x p
+
+pub close-pays : ClosePays
+unfolding dayOf legDayOf landings everyLanding
+close-pays c e x p = day-close-pays (c .job .n) (few c e) (c .table) x p
+
+-- ---- what comes back
+
+-- number 0 comes from a call that every check lets pass
+number-0-passes : (c : Call) → answer c .report .number ≡ 0 → cause c ≡ 0
+unfolding answer respond refusal
+number-0-passes c = go (cause c)
+  where
+    go : (k : ℕ) → respond c k .report .number ≡ 0 → k ≡ 0
+    go zero e = refl
+    go (suc k) e = absurd (omega arith)
+
+pub order-shown-pays : OrderShownPays written
+order-shown-pays c a e h shown =
+    shown .cost-is-its
+    ∙ order-pays c (number-0-passes c (subst (λ (x : Answer). x .report .number ≡ 0) e h)) (orderIn c (a .report)) (shown .is-order)
+
+pub cheapest-by-legs : CheapestByLegs written
+cheapest-by-legs c a e h y m =
+    let passed : cause c ≡ 0 = number-0-passes c (subst (λ (x : Answer). x .report .number ≡ 0) e (h .0)) in
+    let best = cheapest-of-all c a e h in
+    omega (
+      arith,
+      best .least y m,
+      order-shown-pays c a e (h .0) (best .has-order),
+      order-pays c passed y (in-orders (c .job .n) y m),
+    )
+
+-- ---- without charges
+
+pub on-its-day : OnItsDay
+unfolding answer respond ending outcome problemOf choicesOf floorOf wordsOf
+on-its-day c = go (cause c)
+  where
+    at : (o : Outcome Node) → ending c o ≡ endingOn (dayOf c) c o
+    at (finished s) = refl
+    at (stopped s) = refl
+    at (full s) = refl
+    at (unfinished s) = refl
+
+    go : (k : ℕ) → respond c k ≡ answerOn (dayOf c) c k
+    go zero = at (outcome c)
+    go (suc k) = refl
+
+-- none of some numbers passes a test that each fails
+none-passes : (test : ℕ → Bool) (l : List ℕ) → ((j : ℕ) → In j l → test j ≡ false) → any test l ≡ false
+none-passes test l h = to-false (any test l) (not-T (any test l) (λ t. let (j, m, k) = any-in test l t in rw (h j m) at k))
+
+module _ (c : Call) (none : Uncharged c) where
+  abbrev n : ℕ
+  n = c .job .n
+
+  abbrev table : List ℕ
+  table = c .table
+
+  uncharged-at : (j : ℕ) → In j (from 0 (suc n)) → charge n table j ≡ 0
+  uncharged-at j m = none j (let h = in-from 0 (suc n) j m in omega arith)
+
+  -- the rows are document 01's
+  same-rows : rows n table ≡ legRows n table
+  unfolding rows legRows inRows flying
+  same-rows = map-same _ _ (from 0 places) (λ i h. map-same _ _ (from 0 places) (λ j k. at i j (leb i n && leb j n) (λ t. leb→le j n (and-right (leb i n) (leb j n) t))))
+    where
+      at :
+          (i j : ℕ) (b : Bool) → (T b → j ≤ n) → cond b (entry n table i j + charge n table j) 0 ≡ cond b (entry n table i j) 0
+      at i j true k = omega (arith, none j (k tt))
+      at i j false k = refl
+
+  same-day : dayOf c ≡ legDayOf c
+  unfolding dayOf legDayOf
+  same-day = ap (dayOn n) same-rows
+
+  -- and so are the causes
+  same-cause₃ : cause₃ n table ≡ legCause₃ n table
+  unfolding cause₃ legCause₃ charge
+  same-cause₃ = ap (λ (b : Bool). any (ltb dearestLeg) table || b) (small ∙ sym zero-entries)
+    where
+      small : any (λ j. ltb dearestCharge (charge n table j)) (from 0 (suc n)) ≡ false
+      small = none-passes _ (from 0 (suc n)) (λ j m. ap (ltb dearestCharge) (uncharged-at j m))
+
+      zero-entries : any (λ i. not (eqb (entry n table i i) 0)) (from 0 (suc n)) ≡ false
+      zero-entries = none-passes _ (from 0 (suc n)) (λ i m. ap (λ (v : ℕ). not (eqb v 0)) (uncharged-at i m))
+
+  same-cause : cause c ≡ legCause c
+  unfolding cause jobCause tableCause legCause
+  same-cause = rw same-cause₃ refl
+
+pub as-document-01 : AsDocument01 written
+as-document-01 c a e none = e ∙ on-its-day c ∙ ap₂ (λ (D : Day) (k : ℕ). answerOn D c k) (same-day c none) (same-cause c none)
+
+-- a call that document 01's checks let pass has no charges
+accepted-uncharged : (c : Call) → legCause c ≡ 0 → Uncharged c
+unfolding legCause legCause₃ charge
+accepted-uncharged c e j h =
+    let n : ℕ = c .job .n in
+    let dear : Bool = any (ltb dearestLeg) (c .table) in
+    let marked : Bool = any (λ i. not (eqb (entry n (c .table) i i) 0)) (from 0 (suc n)) in
+    let (h₁, e₁) = none-first (cause₁ n) 0 _ e in
+    let (h₂, e₂) = none-first (cause₂ n (c .table)) 1 _ e₁ in
+    let (h₃, e₃) = none-first (dear || marked) 2 _ e₂ in
+    let (p, q) = not-either dear marked h₃ in
+    eqb→eq (entry n (c .table) j j) 0
+    (twice-not (eqb (entry n (c .table) j j) 0) (none-found (λ i. not (eqb (entry n (c .table) i i) 0)) (from 0 (suc n)) q j (from-in 0 (suc n) j (omega arith) (omega arith))))
+
+pub accepted-before : AcceptedBefore written
+accepted-before c a e passed = as-document-01 c a e (accepted-uncharged c passed) ∙ ap (answerOn (legDayOf c) c) passed
