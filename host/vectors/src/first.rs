@@ -1,4 +1,4 @@
-//! The first order (request A.1).
+//! The first order (request A.1, with the landing charges of request A.4).
 
 use crate::words::Words;
 use crate::{lines, ORDER_PLACES};
@@ -30,7 +30,7 @@ impl First {
     }
 }
 
-/// The 200 calls of A01-first.txt.
+/// The 150 calls of A04-first.txt.
 pub fn first() -> Vec<First> {
-    lines("A01-first.txt", include_str!("../A01-first.txt"), 200, First::parse)
+    lines("A04-first.txt", include_str!("../A04-first.txt"), 150, First::parse)
 }

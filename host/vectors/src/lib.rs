@@ -1,11 +1,13 @@
 //! Worked calls with what they must give: the files beside this crate (see its README.md) and their strict parser. It
 //! needs no library, so that the second planner's tests use it too.
 
+mod files;
 mod first;
 mod hash;
 mod run;
 mod words;
 
+pub use files::{files, JobFile};
 pub use first::{first, First};
 pub use hash::fnv1a;
 pub use run::{runs, Run};

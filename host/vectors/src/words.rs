@@ -76,11 +76,42 @@ impl<'a> Words<'a> {
         }
     }
 
+    /// Takes a name and bytes in hexadecimal, two lower-case digits each, or `-` for none of them.
+    pub fn bytes_of(&mut self, name: &str) -> Result<Vec<u8>, String> {
+        self.word(name)?;
+        match self.next() {
+            "-" => Ok(Vec::new()),
+            word => bytes(word).ok_or_else(|| format!("`{word}` in the place of bytes")),
+        }
+    }
+
+    /// Takes all words that are left, as they stand in the line.
+    pub fn rest(&mut self) -> String {
+        self.0.by_ref().collect::<Vec<&str>>().join(" ")
+    }
+
     /// No word is left.
     pub fn end(&mut self) -> Result<(), String> {
         match self.0.next() {
             None => Ok(()),
             Some(word) => Err(format!("`{word}` behind the end")),
         }
+    }
+}
+
+/// One byte or more.
+fn bytes(word: &str) -> Option<Vec<u8>> {
+    let pairs = word.as_bytes().chunks_exact(2);
+    if word.is_empty() || !pairs.remainder().is_empty() {
+        return None;
+    }
+    pairs.map(|pair| Some(digit(pair[0])? << 4 | digit(pair[1])?)).collect()
+}
+
+fn digit(character: u8) -> Option<u8> {
+    match character {
+        b'0'..=b'9' => Some(character - b'0'),
+        b'a'..=b'f' => Some(character - b'a' + 10),
+        _ => None,
     }
 }

@@ -1,4 +1,4 @@
-//! A01-first.txt is parsed as a whole, and nothing else passes for a line of it.
+//! A04-first.txt is parsed as a whole, and nothing else passes for a line of it.
 
 use vectors::{first, First};
 
@@ -9,23 +9,39 @@ fn a_line_of_first() {
     let mut order = [0; 16];
     order[0] = 1;
     let told = First { n: 1, table: vec![0, 25, 21, 0], number: 0, cost: 46, order };
-    assert_eq!(First::parse(LINE), Ok(told.clone()));
-    assert_eq!(first()[0], told);
+    assert_eq!(First::parse(LINE), Ok(told));
 }
 
-/// Answers of every number, and every n from 0 to 17.
+/// The first line of the file.
+#[test]
+fn a_line_of_the_file() {
+    let First { n, table, number, cost, order } = &first()[0];
+    assert_eq!((*n, &table[..4], table.len()), (7, &[92_622, 0, 1, 2][..], 64));
+    assert_eq!((*number, *cost, &order[..8]), (0, 509_633, &[4, 5, 3, 6, 7, 1, 2, 0][..]));
+}
+
+/// Answers of every number, and every n from 1 to 17.
 #[test]
 fn the_calls_of_first() {
     let calls = first();
     for number in 0..=3 {
         assert!(calls.iter().any(|call| call.number == number), "{number}");
     }
-    for n in 0..=17 {
+    for n in 1..=17 {
         assert!(calls.iter().any(|call| call.n == n), "{n}");
     }
     let sized = |call: &&First| call.table.len() as u32 == (call.n + 1) * (call.n + 1);
     assert!(calls.iter().any(|call| call.number == 2 && !sized(&call)));
     assert!(calls.iter().filter(|call| call.number == 0).all(|call| sized(&call)));
+}
+
+/// Orders of tables with charges, and charges of one too many.
+#[test]
+fn charges_of_first() {
+    let dearest = |call: &First| call.table.iter().step_by(call.n as usize + 2).copied().max();
+    let some = |number, charge| first().iter().any(|call| (call.number, dearest(call)) == (number, Some(charge)));
+    assert!(some(0, 0) && some(0, 1) && some(3, 100_001));
+    assert!(first().iter().all(|call| call.number != 0 || dearest(call) <= Some(100_000)));
 }
 
 #[test]

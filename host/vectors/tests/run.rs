@@ -1,4 +1,4 @@
-//! A03-run.txt is parsed as a whole, and nothing else passes for a line of it.
+//! A04-run.txt is parsed as a whole, and nothing else passes for a line of it.
 
 use vectors::{fnv1a, runs, Run};
 
@@ -47,17 +47,31 @@ fn a_line_of_run() {
     assert_eq!(changed("fill 7", "fill 4294967295"), Ok(Run { fill: u32::MAX, ..one_stop() }));
 }
 
-/// The first line of the file, and one that a budget stopped.
+/// The second line of the file, and one that a budget stopped.
 #[test]
 fn lines_of_the_file() {
-    let first = &runs()[0];
-    assert_eq!((first.n, first.budget, first.records, first.extra, first.fill), (4, u64::MAX, 19, 0, u32::MAX));
-    assert_eq!((first.selection, first.rules, first.bound, first.start.len()), (2, 8, 1, 0));
-    assert_eq!((first.number, first.cost, &first.order[..5]), (0, 1, &[1, 3, 4, 2, 0][..]));
-    assert_eq!((first.counts, first.mark, first.floor), ([34, 58, 19, 5, 19], 0, 0));
-    assert_eq!(first.words, 0xddc8_f41e_d9a7_1b95);
-    let stopped = &runs()[1];
-    assert_eq!((stopped.budget, stopped.counts[0], stopped.mark, stopped.floor), (21, 21, 1, 2));
+    let second = &runs()[1];
+    assert_eq!((second.n, second.budget, second.records, second.extra, second.fill), (6, u64::MAX, 94, 0, u32::MAX));
+    assert_eq!((second.selection, second.rules, second.bound), (0, 11, 0));
+    assert_eq!(second.start, [5, 1, 3, 2, 6, 4]);
+    assert_eq!((second.number, second.cost, &second.order[..7]), (0, 7, &[1, 5, 4, 6, 3, 2, 0][..]));
+    assert_eq!((second.counts, second.mark, second.floor), ([171, 466, 247, 48, 94], 0, 0));
+    assert_eq!(second.words, 0x2020_eeb4_6896_45c6);
+    let stopped = &runs()[2];
+    assert_eq!((stopped.budget, stopped.counts[0], stopped.mark, stopped.floor), (19, 19, 1, 12));
+}
+
+/// Runs over tables with charges, however they end, and charges of one too many.
+#[test]
+fn charges_of_run() {
+    let dearest = |call: &Run| call.table.iter().step_by(call.n as usize + 2).copied().max();
+    for (number, mark) in [(0, 0), (0, 1), (7, 0)] {
+        let some = |call: &Run| (call.number, call.mark) == (number, mark) && dearest(call) > Some(0);
+        assert!(runs().iter().any(some), "{number} {mark}");
+    }
+    assert!(runs().iter().any(|call| call.number == 3 && dearest(call) == Some(100_001)));
+    let passed = |call: &&Run| [0, 7].contains(&call.number);
+    assert!(runs().iter().filter(passed).all(|call| dearest(call) <= Some(100_000)));
 }
 
 /// Answers of every number, every selection and sum of rules, both bounds,

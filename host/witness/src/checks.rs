@@ -1,5 +1,5 @@
 //! Refusals 1 to 6, the lowest number that applies (document 01, "Causes and
-//! numbers").
+//! numbers"; number 3 with request A.4 of document 02).
 
 use crate::legs::{Legs, Place, MOST_STOPS};
 use crate::node::Bound;
@@ -8,6 +8,9 @@ use crate::words::WORDS;
 
 /// What a leg may cost at most.
 pub const DEAREST_LEG: u32 = 1_000_000;
+
+/// What a landing may cost at most.
+pub const DEAREST_CHARGE: u32 = 100_000;
 
 /// The largest budget, which no run reaches.
 pub const LARGEST_BUDGET: u64 = u64::MAX;
@@ -63,10 +66,14 @@ pub fn n_allowed(n: u64) -> bool {
     (1..=MOST_STOPS as u64).contains(&n)
 }
 
+/// Of each number by itself: a leg and a landing may come to more together.
 fn legs_allowed(legs: &Legs) -> bool {
     for i in 0..=legs.n {
-        for j in 0..=legs.n {
-            if legs.leg(i, j) > DEAREST_LEG || (i == j && legs.leg(i, j) != 0) {
+        if legs.charge(i) > DEAREST_CHARGE {
+            return false;
+        }
+        for j in (0..=legs.n).filter(|&j| j != i) {
+            if legs.leg(i, j) > DEAREST_LEG {
                 return false;
             }
         }

@@ -36,11 +36,12 @@ pub fn nearest_stop_order(legs: &Legs) -> Vec<Place> {
     order
 }
 
-/// The stop not yet flown whose leg is cheapest, the lowest number of several.
+/// The stop not yet flown that is cheapest to fly to and land at, the lowest
+/// number of several.
 fn nearest_stop(legs: &Legs, from: Place, flown: &[Place]) -> Place {
     let left: Vec<Place> = (1..=legs.n).filter(|stop| !flown.contains(stop)).collect();
-    let cheapest = left.iter().map(|&stop| legs.leg(from, stop)).min().expect("a stop is left");
-    left.into_iter().find(|&stop| legs.leg(from, stop) == cheapest).unwrap()
+    let cheapest = left.iter().map(|&stop| legs.flying(from, stop)).min().expect("a stop is left");
+    left.into_iter().find(|&stop| legs.flying(from, stop) == cheapest).unwrap()
 }
 
 /// The order after all exchanges; each lowers the cost, so they end.

@@ -1,4 +1,5 @@
-//! The leg costs and the cost of an order (document 01, "Legs and orders").
+//! The legs, the landing charges and the cost of an order (document 01, "Legs
+//! and orders", and request A.4 of document 02).
 
 /// Stops of a day at most.
 pub const MOST_STOPS: usize = 16;
@@ -9,7 +10,8 @@ pub const PLACES: usize = MOST_STOPS + 1;
 /// Home is place 0, the stops are places 1 to n.
 pub type Place = usize;
 
-/// Leg costs as rows of seventeen numbers, unused ones 0.
+/// The table's numbers as rows of seventeen, unused ones 0. The diagonal has
+/// the landing charges.
 pub struct Legs {
     pub n: usize,
     rows: [[u32; PLACES]; PLACES],
@@ -27,8 +29,19 @@ impl Legs {
         Legs { n, rows }
     }
 
+    /// As the table has it, without the landing.
     pub fn leg(&self, from: Place, to: Place) -> u32 {
         self.rows[from][to]
+    }
+
+    /// What a landing at the place costs.
+    pub fn charge(&self, place: Place) -> u32 {
+        self.rows[place][place]
+    }
+
+    /// What flying from one place to another costs: the leg and the landing.
+    pub fn flying(&self, from: Place, to: Place) -> u32 {
+        self.leg(from, to) + self.charge(to)
     }
 
     /// Home to first, between neighbours, last to home.
@@ -36,9 +49,9 @@ impl Legs {
         let mut cost = 0;
         let mut last = 0;
         for &stop in order {
-            cost += self.leg(last, stop);
+            cost += self.flying(last, stop);
             last = stop;
         }
-        cost + self.leg(last, 0)
+        cost + self.flying(last, 0)
     }
 }

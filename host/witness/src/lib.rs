@@ -1,17 +1,18 @@
-//! A second planner, written from document 01 and requests A.1 and A.3 of
+//! A second planner, written from document 01 and requests A.1, A.3 and A.4 of
 //! document 02 alone, in plain lists and literal passes, and a second reader
 //! and writer of job files, which follow document 01's text. They serve as
 //! witnesses beside the proved ones. Request A.2 changes no answer, so there
 //! is nothing of it here.
 //!
-//! In reading order: `legs` (table and cost of an order), `node` (partial
-//! orders, bounds, dominance), `checks` (refusals 1 to 6), `run` (the run,
-//! request A.3's budget and refusal 7), `words` (report and pool),
-//! `first_order` (request A.1's call), `enumerate` (all n! orders), `job_file`
-//! (reader and writer), `program` (what `plan` prints).
+//! In reading order: `legs` (table, request A.4's charges and the cost of an
+//! order), `node` (partial orders, bounds, dominance), `checks` (refusals 1 to
+//! 6), `run` (the run, request A.3's budget and refusal 7), `words` (report
+//! and pool), `first_order` (request A.1's call), `enumerate` (all n! orders),
+//! `job_file` (reader and writer), `program` (what `plan` prints).
 //!
 //! Where the texts leave a choice, this planner takes these, 1 to 12 from
-//! document 01, 13 to 16 from request A.1 and the rest from request A.3:
+//! document 01, 13 to 16 from request A.1, 17 to 25 from request A.3 and the
+//! rest from request A.4:
 //!
 //! 1. Selection, rules, bound and n come in as 64-bit numbers and stops of the
 //!    starting order as 32-bit ones, so that every refusal can be provoked.
@@ -66,6 +67,26 @@
 //!     may have different pools.
 //! 25. Job files and the lines of `plan` stay as they were. The reader's and
 //!     the writer's checks don't ask for a budget.
+//! 26. The place that is flown to charges, and leaving a place is free. An
+//!     order, with n = 1 too, pays each stop's charge once and home's once, on
+//!     the way home; the start of the day is no landing, and e's path cost
+//!     stays 0.
+//! 27. Home's charge is wherever the leg home is: in a complete node's bound
+//!     and in close, but in no path cost, nor in plain before a node is
+//!     complete.
+//! 28. The least is taken over leg and charge together, in close as for the
+//!     nearest stop, and nearest stops tie by that sum. In close the leg alone
+//!     would decide, as whatever leads into a place pays the same charge.
+//! 29. Exchanges, dominance, U and the floor go by costs that have the charges
+//!     in them. As all orders pay the same charges, these move no exchange; as
+//!     nodes of one set do, they move no dominance.
+//! 30. Check 3 looks at each number by itself, home's charge like a stop's: on
+//!     the diagonal 100,000 passes and 100,001 doesn't, elsewhere 1,000,000
+//!     and 1,000,001. So one flight may cost 1,100,000 and an order
+//!     18,700,000.
+//! 31. A job file keeps its form, with the charges on the table's diagonal: one
+//!     that was accepted before is accepted still and gives the same lines.
+//! 32. Jobs held against each other over one table share its charges.
 
 pub mod checks;
 pub mod enumerate;

@@ -1,4 +1,5 @@
-//! Partial orders, their bounds, and dominance (document 01, "Nodes").
+//! Partial orders, their bounds, and dominance (document 01, "Nodes", with the
+//! landings of request A.4 of document 02).
 
 use crate::legs::{Legs, Place};
 
@@ -14,7 +15,8 @@ pub struct Node {
     pub stops: Vec<Place>,
     /// Stop s adds 2 to the power s-1.
     pub set: u32,
-    /// Legs flown so far; the leg home is never in it.
+    /// Legs flown so far and their landings; the leg home is never in it, nor
+    /// is the landing there.
     pub path: u32,
     pub bound: u32,
 }
@@ -48,7 +50,7 @@ impl Node {
     pub fn extended(&self, stop: Place, legs: &Legs, kind: Bound) -> Node {
         let mut stops = self.stops.clone();
         stops.push(stop);
-        let path = self.path + legs.leg(self.last(), stop);
+        let path = self.path + legs.flying(self.last(), stop);
         let set = self.set | 1 << (stop - 1);
         let mut child = Node { stops, set, path, bound: 0 };
         child.bound = child.bound_by(legs, kind);
@@ -62,7 +64,7 @@ impl Node {
 
     fn bound_by(&self, legs: &Legs, kind: Bound) -> u32 {
         if self.is_complete(legs) {
-            return self.path + legs.leg(self.last(), 0);
+            return self.path + legs.flying(self.last(), 0);
         }
         match kind {
             Bound::Plain => self.path,
@@ -75,15 +77,15 @@ impl Node {
         let unflown = self.unflown(legs);
         let mut sum = 0;
         for &stop in &unflown {
-            let mut cheapest = legs.leg(self.last(), stop);
+            let mut cheapest = legs.flying(self.last(), stop);
             for &other in &unflown {
                 if other != stop {
-                    cheapest = cheapest.min(legs.leg(other, stop));
+                    cheapest = cheapest.min(legs.flying(other, stop));
                 }
             }
             sum += cheapest;
         }
-        let home = unflown.iter().map(|&s| legs.leg(s, 0)).min();
+        let home = unflown.iter().map(|&s| legs.flying(s, 0)).min();
         sum + home.expect("a node that isn't complete has a stop to come")
     }
 

@@ -7,9 +7,10 @@ mod common;
 use std::cell::RefCell;
 use std::collections::BTreeSet;
 
-use common::{ample, check_finished, check_order, choices, counts_of, for_each_job, read_pool, told_words, Job};
+use common::{
+    ample, check_finished, check_order, choices, counts_of, for_each_job, read_pool, table_of_kind, told_words, Job,
+};
 use samples::{Random, KINDS};
-use witness::enumerate::least_cost;
 use witness::{plan_watched, Report, State, LARGEST_BUDGET, STOPPED, WORDS};
 
 /// Budgets that a planner with narrower numbers would take for small ones, and
@@ -30,7 +31,7 @@ struct Course<'a> {
 impl Course<'_> {
     fn of(job: &Job) -> Course<'_> {
         let (states, keeps) = (job.states(ample(job.n)), job.keeps());
-        Course { job, states, keeps, least: least_cost(&job.legs()) }
+        Course { job, states, keeps, least: job.least_cost() }
     }
 
     /// The branchings that so many records leave room for, up to the finish.
@@ -178,7 +179,7 @@ fn budgets_of_five_and_six_stops() {
     let mut random = Random(65);
     for (i, choice) in choices().into_iter().enumerate() {
         let n = 5 + i / 2 % 2;
-        let table = random.table_of_kind(n, i % KINDS.len());
+        let table = table_of_kind(&mut random, n, i % KINDS.len());
         let start: Vec<u32> = if random.below(2) == 0 { Vec::new() } else { random.order(n) };
         let places = random.words(16);
         check_budgets(&Job::new(n, &table, choice, &start), |branchings| {

@@ -3,10 +3,8 @@
 
 mod common;
 
-use common::{choices, for_each_table, Job};
+use common::{choices, for_each_table, table_of_kind, Job};
 use samples::Random;
-use witness::enumerate::least_cost;
-use witness::legs::Legs;
 use witness::{Report, LARGEST_BUDGET, STOPPED};
 
 /// Two orders, the cheaper one first.
@@ -93,7 +91,7 @@ fn finish_both(random: &mut Random, n: usize, table: &[u32]) -> u32 {
 
 fn check_pairs(seed: u64, n: usize, tables: usize, pairs: usize) {
     for_each_table(&mut Random(seed), n, tables, |random, table| {
-        let least = least_cost(&Legs::new(n, table));
+        let least = Job::new(n, table, [0, 0, 0], &[]).least_cost();
         for _ in 0..pairs {
             let (a, b) = pair(random, n, table);
             check_pair(&a, &b, least);
@@ -152,7 +150,7 @@ fn plain_counts_more_than_close_somewhere() {
     let mut random = Random(27);
     let mut more = 0;
     for _ in 0..50 {
-        let table = random.table_of_kind(4, 4);
+        let table = table_of_kind(&mut random, 4, 4);
         let plain = Job::new(4, &table, [3, 1, 0], &[]).run(65).0;
         let close = Job::new(4, &table, [3, 1, 1], &[]).run(65).0;
         more += (plain.branched > close.branched) as u32;

@@ -2,9 +2,9 @@
 
 mod common;
 
-use common::{ample, check_finished, choices, for_each_table, Job};
+use common::{ample, check_finished, choices, for_each_table, table_of_kind, Job};
 use samples::Random;
-use witness::enumerate::{cheapest_orders, least_cost};
+use witness::enumerate::cheapest_orders;
 
 /// No starting order, 1 to n, a random one, and one of least cost.
 fn starts(random: &mut Random, job: &Job) -> Vec<Vec<u32>> {
@@ -16,7 +16,7 @@ fn starts(random: &mut Random, job: &Job) -> Vec<Vec<u32>> {
 
 fn all_choices(random: &mut Random, n: usize, table: &[u32]) {
     let blank = Job::new(n, table, [0, 0, 0], &[]);
-    let least = least_cost(&blank.legs());
+    let least = blank.least_cost();
     for start in starts(random, &blank) {
         for choice in choices() {
             run_one(n, table, choice, &start, least);
@@ -51,7 +51,7 @@ fn five_stops() {
 fn six_stops() {
     let mut random = Random(3);
     for kind in [0, 1, 2, 5] {
-        let table = random.table_of_kind(6, kind);
+        let table = table_of_kind(&mut random, 6, kind);
         all_choices(&mut random, 6, &table);
     }
 }
@@ -61,9 +61,9 @@ fn six_stops() {
 fn seven_stops() {
     let mut random = Random(4);
     for kind in [0, 2, 5] {
-        let table = random.table_of_kind(7, kind);
+        let table = table_of_kind(&mut random, 7, kind);
         let blank = Job::new(7, &table, [0, 0, 0], &[]);
-        let least = least_cost(&blank.legs());
+        let least = blank.least_cost();
         let starts = starts(&mut random, &blank);
         for choice in choices() {
             run_one(7, &table, choice, &random.pick(&starts), least);

@@ -141,20 +141,21 @@ fn number_2() {
 fn number_3() {
     for place in 0..16 {
         let on_diagonal = if place % 5 == 0 { 3 } else { 0 };
-        for (leg, told) in [(0, 0), (1, on_diagonal), (1_000_000, on_diagonal), (1_000_001, 3), (u32::MAX, 3)] {
+        let entries = [(0, 0), (1, 0), (100_000, 0), (100_001, on_diagonal), (1_000_000, on_diagonal)];
+        for (entry, told) in entries.into_iter().chain([(1_000_001, 3), (u32::MAX, 3)]) {
             let mut table = T;
-            table[place] = leg;
-            assert_eq!(number(3, &table), told, "{leg} at {place}");
+            table[place] = entry;
+            assert_eq!(number(3, &table), told, "{entry} at {place}");
         }
     }
 }
 
-/// With n at 3, 16 numbers and legs of 7 but on the diagonal, nothing applies.
+/// With n at 3, 16 numbers and all legs 7, nothing applies.
 #[test]
 fn lowest_number_of_several() {
     for n in [3, 0, 17, u64::MAX] {
         for length in [16, 0, 15, 17] {
-            for spoiled in [(1, 7), (0, 1), (0, 1_000_001), (1, u32::MAX)] {
+            for spoiled in [(1, 7), (0, 100_001), (5, 1_000_000), (1, u32::MAX)] {
                 let mut table = level(3, 7);
                 table[spoiled.0] = spoiled.1;
                 table.resize(length, u32::MAX);

@@ -3,14 +3,20 @@
 
 mod common;
 
+use common::charges::{folded, half_charged};
 use common::{ample, course, for_each_table, Job};
 use samples::{nearest, Random};
-use witness::enumerate::least_cost;
 use witness::first_order;
-use witness::legs::Legs;
 
+/// By legs that have the charges in them.
 fn nearest_stops(job: &Job) -> Vec<u32> {
-    nearest(job.n, &job.table).into_iter().map(u32::from).collect()
+    nearest(job.n, &folded(job.n, &job.table)).into_iter().map(u32::from).collect()
+}
+
+/// With charges as often as without.
+fn few_free(random: &mut Random, n: usize) -> Vec<u32> {
+    let table = random.few_free(n);
+    half_charged(random, n, table)
 }
 
 fn over(n: usize, table: &[u32]) -> Job {
@@ -79,13 +85,13 @@ fn few_free_legs() {
     let mut random = Random(52);
     for n in 1..=16 {
         for _ in 0..300 {
-            check_first_order(&over(n, &random.few_free(n)));
+            check_first_order(&over(n, &few_free(&mut random, n)));
         }
     }
 }
 
 /// How many exchanges sixteen stops take: never more than the nearest-stop
-/// order costs, and in these 10,000 tables nine at most.
+/// order costs, and in these 10,000 tables twelve at most.
 #[test]
 fn exchanges_of_sixteen_stops() {
     let mut random = Random(55);
@@ -97,13 +103,14 @@ fn exchanges_of_sixteen_stops() {
             2 => random.table(16, 1, 1_000),
             _ => random.table(16, 0, 1_000_000),
         };
+        let table = half_charged(&mut random, 16, table);
         let course = course(16, &table);
         let exchanges = course.len() - 1;
         assert!(exchanges <= course[0].0 as usize, "{table:?}");
         most = most.max(exchanges);
     }
     println!("at most {most} exchanges");
-    assert_eq!(most, 9);
+    assert_eq!(most, 12);
 }
 
 /// The slower working under other tie rules, or with the first gain in place
@@ -118,7 +125,7 @@ fn other_readings_differ_somewhere() {
         ("first gain", |cost, p, q| [p, q, cost]),
     ];
     let mut random = Random(53);
-    let jobs: Vec<Job> = (0..3_000).map(|k| k % 13 + 4).map(|n| over(n, &random.few_free(n))).collect();
+    let jobs: Vec<Job> = (0..3_000).map(|k| k % 13 + 4).map(|n| over(n, &few_free(&mut random, n))).collect();
     for (name, key) in others {
         let differs = |job: &&Job| by_keys(job, key) != first_order(job.n as u64, &job.table).order[..job.n];
         let differ = jobs.iter().filter(differs).count();
@@ -134,7 +141,7 @@ fn against_enumeration() {
     let (mut tables, mut reached, mut missed) = (0, 0, 0);
     for n in 1..=6 {
         for_each_table(&mut Random(54), n, 40, |_, table| {
-            let least = least_cost(&Legs::new(n, table));
+            let least = over(n, table).least_cost();
             let first = first_order(n as u64, table);
             assert!(first.cost >= least, "{table:?}");
             tables += 1;

@@ -52,6 +52,38 @@ fn bytes_one_by_one() {
     assert_eq!(read(&told), Ok(job));
 }
 
+/// Landing charges of 100,000 at home and 3 at the stop.
+#[test]
+fn charges_on_the_diagonal() {
+    let table = vec![100_000, 1_000_000, 258, 3];
+    let job = Contents { n: 1, table, selection: 2, rules: 9, bound: 0, start: Vec::new() };
+    let bytes = file(&job);
+    assert_eq!(bytes[..16], [0xa0, 0x86, 1, 0, 0x40, 0x42, 0x0f, 0, 2, 1, 0, 0, 3, 0, 0, 0]);
+    assert_eq!(read(&bytes), Ok(job));
+    let lines = "cost 1100261\norder 1\nbranched 1\ngenerated 2\neliminated 0\nactive 1\nmost 1\n";
+    assert_eq!(output(&bytes), lines);
+}
+
+/// Reader, writer and program refuse 100,001, at home and at a stop, in front
+/// of a bound and an order that are no better, and behind a wrong place.
+#[test]
+fn charge_of_one_too_many() {
+    let table = vec![100_000, 3, 5, 100_000];
+    let good = Contents { n: 1, table, selection: 0, rules: 0, bound: 0, start: vec![1] };
+    for entry in [0, 3] {
+        let mut job = good.clone();
+        job.table[entry] += 1;
+        assert_eq!(write(&job.request(), &mut [0; LONGEST]), Err(3));
+        let mut bad = file(&good);
+        bad[4 * entry] += 1;
+        assert_eq!((read(&bad), output(&bad).as_str()), (Err(3), "refused 3\n"));
+        (bad[16], bad[29]) = (2, 2);
+        assert_eq!(read(&bad), Err(3));
+        bad[17] = 1;
+        assert_eq!(read(&bad), Err(9));
+    }
+}
+
 #[test]
 fn program_refuses() {
     let good = file(&a());

@@ -2,7 +2,7 @@
 
 mod common;
 
-use common::{ample, choices, counts_of, for_each_job, read_pool, told_words, Job};
+use common::{ample, choices, counts_of, for_each_job, read_pool, table_of_kind, told_words, Job};
 use samples::{Random, KINDS};
 use witness::{plan_watched, State, WORDS};
 
@@ -58,7 +58,7 @@ fn sizes_of_four_stops() {
 fn sizes_of_five_stops() {
     let mut random = Random(35);
     for (i, choice) in choices().into_iter().enumerate() {
-        let table = random.table_of_kind(5, i % KINDS.len());
+        let table = table_of_kind(&mut random, 5, i % KINDS.len());
         check_sizes(&Job::new(5, &table, choice, &[]));
     }
 }
@@ -84,7 +84,7 @@ fn finish_comes_before_the_step() {
 fn earlier_contents_play_no_part() {
     let mut random = Random(36);
     for choice in choices() {
-        let table = random.table_of_kind(4, 0);
+        let table = table_of_kind(&mut random, 4, 0);
         let job = Job::new(4, &table, choice, &[]);
         for records in [1, 4, 9, 30, 65] {
             let mut dirty = random.words(records * WORDS);

@@ -1,5 +1,5 @@
 //! Refusals 1 to 6: each cause, the boundaries, and the lowest number of
-//! several (document 01, "Causes and numbers").
+//! several (document 01, "Causes and numbers", and request A.4 of document 02).
 
 mod common;
 
@@ -79,13 +79,28 @@ fn number_2() {
 #[test]
 fn number_3() {
     for place in 0..16 {
-        let diagonal = place % 5 == 0;
-        let told = if diagonal { 3 } else { 0 };
-        assert_eq!(spoiled(|c| c.table[place] = 1_000_000), told, "{place}");
-        assert_eq!(spoiled(|c| c.table[place] = 1), told, "{place}");
-        assert_eq!(spoiled(|c| c.table[place] = 0), 0, "{place}");
-        assert_eq!(spoiled(|c| c.table[place] = 1_000_001), 3, "{place}");
-        assert_eq!(spoiled(|c| c.table[place] = u32::MAX), 3, "{place}");
+        let on_diagonal = if place % 5 == 0 { 3 } else { 0 };
+        for (entry, told) in [(0, 0), (1, 0), (100_000, 0), (100_001, on_diagonal), (1_000_000, on_diagonal)] {
+            assert_eq!(spoiled(|c| c.table[place] = entry), told, "{entry} at {place}");
+        }
+        for entry in [1_000_001, 1 << 31, u32::MAX] {
+            assert_eq!(spoiled(|c| c.table[place] = entry), 3, "{entry} at {place}");
+        }
+    }
+}
+
+/// What leg and charge come to is not looked at: the dearest of both pass in
+/// every place at once, and one more in a single place doesn't.
+#[test]
+fn number_3_looks_at_no_sum() {
+    let dearest: Vec<u32> = (0..16).map(|place| if place % 5 == 0 { 100_000 } else { 1_000_000 }).collect();
+    assert_eq!(spoiled(|c| c.table = dearest.clone()), 0);
+    for place in 0..16 {
+        let one_more = |c: &mut Call| {
+            c.table = dearest.clone();
+            c.table[place] += 1;
+        };
+        assert_eq!(spoiled(one_more), 3, "{place}");
     }
 }
 
@@ -156,7 +171,9 @@ fn spoil(call: &mut Call, number: u32, random: &mut Random) {
         }
         3 => {
             if !call.table.is_empty() {
-                call.table[0] = [1, 1_000_001, u32::MAX][way];
+                // Home's charge, a leg, a stop's charge.
+                let (place, entry) = [(0, 100_001), (1, 1_000_001), (5, u32::MAX)][way];
+                call.table[place] = entry;
             }
         }
         4 => match way {

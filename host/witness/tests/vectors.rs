@@ -1,9 +1,10 @@
-//! The worked calls of host/vectors.
+//! The worked calls of host/vectors, for document 01 with requests A.1 to A.4.
 
 use vectors::{fnv1a, Run};
+use witness::program::output;
 use witness::{first_order, plan, Report, Request};
 
-/// Request A.1, 200 calls.
+/// 150 calls.
 #[test]
 fn worked_first_orders() {
     for call in vectors::first() {
@@ -21,7 +22,7 @@ fn told(call: &Run) -> Report {
     Report { number, mark, cost, floor, order, branched, generated, eliminated, active, most }
 }
 
-/// Document 01 with requests A.1 to A.3, 300 calls.
+/// 300 calls.
 #[test]
 fn worked_runs() {
     for call in vectors::runs() {
@@ -38,5 +39,13 @@ fn worked_runs() {
         let mut pool = call.pool();
         assert_eq!(plan(&request, &mut pool), told(&call), "{call:?}");
         assert_eq!(fnv1a(&pool), call.words, "{call:?}");
+    }
+}
+
+/// 60 inputs.
+#[test]
+fn worked_files() {
+    for file in vectors::files() {
+        assert_eq!(output(&file.bytes), file.printed, "{file:?}");
     }
 }

@@ -1,8 +1,12 @@
 //! What the tests share: jobs, and the definitions of document 01 worked out
-//! once more from an order alone.
+//! once more from an order alone, legs and landing charges each by themselves.
 #![allow(dead_code)]
 
+pub mod charges;
+
+use charges::half_charged;
 use samples::{Random, KINDS};
+use witness::enumerate::all_orders;
 use witness::first_order::{best_exchange, nearest_stop_order};
 use witness::legs::{Legs, Place};
 use witness::words::{in_places, record};
@@ -80,17 +84,28 @@ impl Job {
         self.table[from as usize * (self.n + 1) + to as usize]
     }
 
+    /// What these places charge together.
+    pub fn charges(&self, places: &[u32]) -> u32 {
+        places.iter().map(|&place| self.table[place as usize * (self.n + 2)]).sum()
+    }
+
     pub fn legs(&self) -> Legs {
         Legs::new(self.n, &self.table)
     }
 
     pub fn path(&self, order: &[u32]) -> u32 {
         let places: Vec<u32> = std::iter::once(0).chain(order.iter().copied()).collect();
-        places.windows(2).map(|w| self.leg(w[0], w[1])).sum()
+        places.windows(2).map(|w| self.leg(w[0], w[1])).sum::<u32>() + self.charges(order)
     }
 
     pub fn cost(&self, order: &[u32]) -> u32 {
-        self.path(order) + self.leg(*order.last().unwrap(), 0)
+        self.path(order) + self.leg(*order.last().unwrap(), 0) + self.charges(&[0])
+    }
+
+    /// The least cost over all orders.
+    pub fn least_cost(&self) -> u32 {
+        let orders = all_orders(self.n).into_iter();
+        orders.map(|order| self.cost(&order.iter().map(|&s| s as u32).collect::<Vec<u32>>())).min().unwrap()
     }
 
     pub fn bound_of(&self, order: &[u32]) -> u32 {
@@ -107,7 +122,8 @@ impl Job {
             from.map(|p| self.leg(p, s)).min().unwrap()
         };
         let home = left.iter().map(|&s| self.leg(s, 0)).min().unwrap();
-        self.path(order) + left.iter().map(|&s| into(s)).sum::<u32>() + home
+        let legs = left.iter().map(|&s| into(s)).sum::<u32>() + home;
+        self.path(order) + legs + self.charges(&left) + self.charges(&[0])
     }
 }
 
@@ -149,11 +165,17 @@ pub fn choices() -> Vec<[u64; 3]> {
     all
 }
 
+/// A table of the kind, with charges as often as without.
+pub fn table_of_kind(random: &mut Random, n: usize, kind: usize) -> Vec<u32> {
+    let table = random.table_of_kind(n, kind);
+    half_charged(random, n, table)
+}
+
 /// Holds `check` to `tables` tables of each kind.
 pub fn for_each_table(random: &mut Random, n: usize, tables: usize, mut check: impl FnMut(&mut Random, &[u32])) {
     for kind in 0..KINDS.len() {
         for _ in 0..tables {
-            let table = random.table_of_kind(n, kind);
+            let table = table_of_kind(random, n, kind);
             check(random, &table);
         }
     }

@@ -1,0 +1,66 @@
+//! A04-files.txt is parsed as a whole, and nothing else passes for a line of it.
+
+use vectors::{files, JobFile};
+
+const LINE: &str = "file 00ff1a => cost 3/order 1 2/most 1/";
+
+fn three_bytes() -> JobFile {
+    JobFile { bytes: vec![0, 255, 26], printed: "cost 3\norder 1 2\nmost 1\n".to_string() }
+}
+
+fn changed(old: &str, new: &str) -> Result<JobFile, String> {
+    assert!(LINE.contains(old), "{old}");
+    JobFile::parse(&LINE.replacen(old, new, 1))
+}
+
+#[test]
+fn a_line_of_files() {
+    assert_eq!(JobFile::parse(LINE), Ok(three_bytes()));
+    assert_eq!(changed("00ff1a", "-"), Ok(JobFile { bytes: Vec::new(), ..three_bytes() }));
+    assert_eq!(changed("00ff1a", "0f"), Ok(JobFile { bytes: vec![15], ..three_bytes() }));
+    let refused = JobFile { printed: "refused 8\n".to_string(), ..three_bytes() };
+    assert_eq!(changed("cost 3/order 1 2/most 1/", "refused 8/"), Ok(refused));
+}
+
+/// The fourth line: one stop, 2 out and nothing back, with charges.
+#[test]
+fn lines_of_the_file() {
+    let fourth = &files()[3];
+    let table = [0xaf, 0x2b, 0, 0, 2, 0, 0, 0, 0, 0, 0, 0, 0xb9, 0x7c, 1, 0];
+    let trailer = [0, 0, 0, 0, 16, 0, 0, 0, 1, 0, 3, 12, 0];
+    assert_eq!(fourth.bytes, [&table[..], &trailer[..]].concat());
+    let lines = ["cost 108650", "order 1", "branched 1", "generated 2", "eliminated 0", "active 1", "most 1"];
+    assert_eq!(fourth.printed, lines.map(|line| format!("{line}\n")).concat());
+}
+
+/// Seven lines or a refusal, and the numbers of the refusals.
+#[test]
+fn the_lines_printed() {
+    let mut refusals = Vec::new();
+    for JobFile { printed, .. } in files() {
+        match printed.strip_prefix("refused ") {
+            Some(number) => refusals.push(number.trim_end().parse::<u32>().unwrap()),
+            None => assert_eq!(printed.lines().count(), 7, "{printed}"),
+        }
+    }
+    refusals.sort();
+    refusals.dedup();
+    assert_eq!(refusals, [1, 3, 4, 8, 9]);
+}
+
+#[test]
+fn faulty_lines() {
+    let fault = |old, new| changed(old, new).unwrap_err();
+    assert_eq!(fault("file", "job"), "`job` in the place of `file`");
+    for wrong in ["", "0", "00f", "00FF1A", "0x00", "+0", "0g", "--", "é"] {
+        assert_eq!(fault("00ff1a", wrong), format!("`{wrong}` in the place of bytes"));
+    }
+    assert_eq!(fault("00ff1a", "00 ff"), "`ff` in the place of `=>`");
+    assert_eq!(fault("=> ", ""), "`cost` in the place of `=>`");
+    assert_eq!(fault("most 1/", "most 1"), "no `/` at the end of `cost 3/order 1 2/most 1`");
+    assert_eq!(fault("most 1/", "most 1/ "), "no `/` at the end of `cost 3/order 1 2/most 1/ `");
+    assert_eq!(fault("order 1 2", ""), "an empty line in `cost 3//most 1/`");
+    assert_eq!(fault("cost 3/order 1 2/most 1/", "/"), "an empty line in `/`");
+    assert_eq!(JobFile::parse("").unwrap_err(), "`` in the place of `file`");
+    assert_eq!(JobFile::parse("file - =>").unwrap_err(), "no `/` at the end of ``");
+}
