@@ -1,49 +1,56 @@
 -- Request A.4 of the written run, a theorem for each type of specs/Charges.
 use mathlib.Core.Path.{_≡_, refl, sym, ap, ap₂, _∙_, subst}
-use mathlib.Core.Bool.{Bool, true, false, not, _&&_, _||_, cond}
-use mathlib.Core.List.{List, map}
-use Prim.Native.Nat.{ℕ, zero, suc, _+_, _≤_, _<_}
+use mathlib.Core.Bool.{Bool, false, not, _||_}
+use mathlib.Core.List.{List}
+use Prim.Native.Nat.{ℕ, zero, suc}
 use native.Mathlib.Omega.{arith}
-use lib.Dec.{T, T-not, not-T, leb, leb→le, ltb, eqb, eqb→eq}
-use Rattle.sizes.specs.Sizes.{mostStops, places, dearestLeg, dearestCharge}
+use lib.Dec.{not-T, ltb, eqb, eqb→eq}
+use Rattle.sizes.specs.Sizes.{dearestLeg, dearestCharge}
 use Rattle.lists.specs.Lists.{In, any, from}
-use Rattle.lists.proofs.Tests.{and-right, to-false, not-either, twice-not}
+use Rattle.lists.proofs.Tests.{to-false, not-either, twice-not}
 use Rattle.lists.proofs.Members.{any-in, in-from, from-in}
-use Rattle.lists.proofs.Map.{map-same}
 use Rattle.search.specs.Run.{Outcome, finished, stopped, full, unfinished}
-use Rattle.orders.specs.Orders.{Node, Order}
+use Rattle.orders.specs.Orders.{Node}
 use Rattle.orders.proofs.Orders.{in-orders}
 use Rattle.days.specs.Days.{Day}
-use Rattle.stops.specs.Tables.{entry, charge, flying, inRows, rows, legRows}
+use Rattle.stops.specs.Tables.{entry, charge}
 use Rattle.stops.specs.Stops.{dayOn}
-use Rattle.stops.proofs.Charges.{day-path-pays, day-plain-pays, day-close-pays, day-cost-pays}
+use Rattle.stops.proofs.Charges.{day-path-pays, day-plain-pays, day-close-pays, day-cost-pays, uncharged-rows, diagonal-path, diagonal-bound, diagonal-cost}
 use Rattle.answer.specs.Call.{Call, Answer, refusal}
-use Rattle.answer.specs.Checks.{cause₁, cause₂, cause₃, cause₄, cause₅, cause₆, orLater, tableCause, jobCause, cause}
+use Rattle.answer.specs.Checks.{cause₁, cause₂, cause₃, tableCause, jobCause, cause}
 use Rattle.answer.specs.Answer.{dayOf, problemOf, choicesOf, outcome, floorOf, wordsOf, ending, respond, answer}
-use Rattle.answer.specs.Ends.{Finishes, orderIn, HasOrder}
+use Rattle.answer.specs.Ends.{orderIn}
 use Rattle.answer.specs.Demands.{written}
-use Rattle.answer.specs.Charges.{legDayOf, landings, everyLanding, PathPays, OrderPays, PlainPays, ClosePays, OrderShownPays, CheapestByLegs, Uncharged, legCause₃, legCause, answerOn, endingOn, OnItsDay, AsDocument01, AcceptedBefore}
+use Rattle.answer.specs.Charges.{legDayOf, landings, everyLanding, PathPays, OrderPays, PlainPays, ClosePays, DiagonalUnflown, OrderShownPays, CheapestByLegs, Uncharged, legCause₃, legCause, answerOn, endingOn, OnItsDay, AsDocument01, AcceptedBefore}
 use Rattle.answer.proofs.Passes.{none-found, none-first, passes}
 use Rattle.answer.proofs.Demand3.{cheapest-of-all}
 
-few : (c : Call) → cause c ≡ 0 → c .job .n ≤ mostStops
-few c e = passes c e .priced .few
-
 pub path-pays : PathPays
 unfolding dayOf legDayOf landings
-path-pays c e x p = day-path-pays (c .job .n) (few c e) (c .table) x p
+path-pays c e x p = let ok = passes c e in day-path-pays (c .job .n) (ok .some) (ok .priced .few) (c .table) x p
 
 pub order-pays : OrderPays
 unfolding dayOf legDayOf landings everyLanding
-order-pays c e x o = day-cost-pays (c .job .n) (few c e) (c .table) x o
+order-pays c e x o = let ok = passes c e in day-cost-pays (c .job .n) (ok .some) (ok .priced .few) (c .table) x o
 
 pub plain-pays : PlainPays
 unfolding dayOf legDayOf landings
-plain-pays c e x p = day-plain-pays (c .job .n) (few c e) (c .table) x p
+plain-pays c e x p = let ok = passes c e in day-plain-pays (c .job .n) (ok .some) (ok .priced .few) (c .table) x p
 
 pub close-pays : ClosePays
 unfolding dayOf legDayOf landings everyLanding
-close-pays c e x p = day-close-pays (c .job .n) (few c e) (c .table) x p
+close-pays c e x p = let ok = passes c e in day-close-pays (c .job .n) (ok .some) (ok .priced .few) (c .table) x p
+
+pub diagonal-unflown : DiagonalUnflown
+unfolding dayOf
+diagonal-unflown c e costs apart =
+    let ok = passes c e in
+    let n : ℕ = c .job .n in
+    record {
+      paths = diagonal-path n (ok .some) (ok .priced .few) (c .table) costs apart;
+      bounds = λ k x p. diagonal-bound n (ok .some) (ok .priced .few) (c .table) costs apart x p k;
+      orders-cost = diagonal-cost n (ok .some) (ok .priced .few) (c .table) costs apart;
+    }
 
 -- ---- what comes back
 
@@ -102,19 +109,10 @@ module _ (c : Call) (none : Uncharged c) where
   uncharged-at : (j : ℕ) → In j (from 0 (suc n)) → charge n table j ≡ 0
   uncharged-at j m = none j (let h = in-from 0 (suc n) j m in omega arith)
 
-  -- the rows are document 01's
-  same-rows : rows n table ≡ legRows n table
-  unfolding rows legRows inRows flying
-  same-rows = map-same _ _ (from 0 places) (λ i h. map-same _ _ (from 0 places) (λ j k. at i j (leb i n && leb j n) (λ t. leb→le j n (and-right (leb i n) (leb j n) t))))
-    where
-      at :
-          (i j : ℕ) (b : Bool) → (T b → j ≤ n) → cond b (entry n table i j + charge n table j) 0 ≡ cond b (entry n table i j) 0
-      at i j true k = omega (arith, none j (k tt))
-      at i j false k = refl
-
+  -- the day is document 01's
   same-day : dayOf c ≡ legDayOf c
   unfolding dayOf legDayOf
-  same-day = ap (dayOn n) same-rows
+  same-day = ap (dayOn n) (uncharged-rows n table none)
 
   -- and so are the causes
   same-cause₃ : cause₃ n table ≡ legCause₃ n table

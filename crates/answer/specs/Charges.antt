@@ -2,12 +2,14 @@
 -- in `Demands`; proofs/ has a theorem for each.
 --   legDayOf, landings, everyLanding      a call's day by the legs alone, and what landings are charged
 --   PathPays, OrderPays, PlainPays, ClosePays    what is reckoned, against what the legs alone give
+--   DiagonalUnflown                       the diagonal of the rows plays no part
 --   OrderShownPays, CheapestByLegs        of a planner's answers
 --   Uncharged, answerOn, OnItsDay         a call without charges; an answer over any day, and that `answer` is such a one
 --   AsDocument01, AcceptedBefore          without charges every answer is document 01's
 use mathlib.Core.Path.{_≡_}
 use mathlib.Core.Bool.{Bool, not, _||_, cond}
 use mathlib.Core.List.{List, []}
+use mathlib.Core.Logic.{_≢_}
 use Prim.Native.Nat.{ℕ, zero, suc, _+_, _≤_}
 use lib.Dec.{ltb, eqb}
 use lib.ListN.{length}
@@ -17,7 +19,7 @@ use Rattle.search.specs.Problem.{Problem, Choices, State, upper, start}
 use Rattle.search.specs.Run.{Outcome, finished, stopped, full, unfinished, run}
 use Rattle.orders.specs.Orders.{Node, complete, Partial, Order, orders, nodes}
 use Rattle.days.specs.Days.{Day, problem, choices}
-use Rattle.stops.specs.Tables.{entry, charge, legRows}
+use Rattle.stops.specs.Tables.{entry, charge, flying, inRows, legRows}
 use Rattle.stops.specs.Stops.{dayOn}
 use Rattle.records.specs.Records.{poolWords, recordsIn}
 use Rattle.answer.specs.Call.{Call, Answer, refusal}
@@ -57,6 +59,17 @@ PlainPays =
 abbrev pub ClosePays : Type 0
 ClosePays =
     (c : Call) → cause c ≡ 0 → (x : Node) → Partial (c .job .n) x → dayOf c .bound 1 x ≡ legDayOf c .bound 1 x + everyLanding c
+
+-- Nobody flies from a place to itself: with whatever costs on the diagonal of the rows, a day has the same figures.
+pub record SameFigures (n : ℕ) (A B : Day) : Type 0 where
+  pub paths : (x : Node) → Partial n x → A .path x ≡ B .path x
+  pub bounds : (k : ℕ) (x : Node) → Partial n x → A .bound k x ≡ B .bound k x
+  pub orders-cost : (x : Node) → Order n x → A .cost x ≡ B .cost x
+
+abbrev pub DiagonalUnflown : Type 0
+DiagonalUnflown =
+    (c : Call) → cause c ≡ 0 → (costs : ℕ → ℕ → ℕ) → ((i j : ℕ) → i ≢ j → costs i j ≡ flying (c .job .n) (c .table) i j)
+    → SameFigures (c .job .n) (dayOn (c .job .n) (inRows (c .job .n) costs)) (dayOf c)
 
 -- WHAT COMES BACK
 

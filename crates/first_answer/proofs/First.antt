@@ -1,7 +1,7 @@
--- What request A.1 says of a first order (specs/Request), proved, a theorem for each type. Besides, for the crates above:
+-- What requests A.1 and A.4 say of a first order (specs/Request), proved, a theorem for each type. Besides, for the crates above:
 --   firstOf-order      the first order of a table is an order
 --   promised-places    an answer has as many places as there may be stops
-use mathlib.Core.Path.{_≡_, refl, ap, subst, _∙_}
+use mathlib.Core.Path.{_≡_, refl, sym, ap, subst, _∙_}
 use mathlib.Core.Bool.{true, false, or-true}
 use mathlib.Core.List.{List}
 use mathlib.Core.Logic.{_≢_}
@@ -15,8 +15,9 @@ use Rattle.lists.proofs.Padded.{take-padded}
 use Rattle.orders.specs.Orders.{Order, isOrder}
 use Rattle.orders.proofs.Order.{order-length, order-isOrder}
 use Rattle.orders.proofs.Orders.{orders-in}
-use Rattle.stops.specs.Legs.{cost}
+use Rattle.stops.specs.Legs.{legs, cost}
 use Rattle.stops.specs.Stops.{day, dayOn}
+use Rattle.stops.proofs.Charges.{day-cost-pays, uncharged-rows}
 use Rattle.answer.specs.Answer.{dayOf}
 use Rattle.answer.specs.Demands.{Planner, RunIsWritten}
 use Rattle.answer.specs.Checks.{cause₅, tableCause, jobCause}
@@ -41,6 +42,8 @@ use Rattle.first_answer.specs.Request.{
   RefusedByTable,
   PassesAsStart,
   PlanNoDearer,
+  FirstPays,
+  FirstUncharged,
 }
 use Rattle.first_answer.proofs.Cheapest.{cheapest-first}
 use Rattle.first_answer.proofs.NearestOrder.{nearest-free}
@@ -160,3 +163,17 @@ plan-no-dearer P run c a r p h g =
     let n : ℕ = c .job .n in
     rw (own-cost n (c .table) r g)
     (cheapest-of-all c a (run c a p) h .least (shown n r) (orders-in n (shown n r) (gives-order n (c .table) r g .0)))
+
+-- ---- request A.4
+
+pub first-pays : FirstPays
+unfolding legsOf dayOn day
+first-pays n table r (e, z) =
+    let none : tableCause n table 0 ≡ 0 = sym (refused-by-table n table r e .0) ∙ z in
+    let passed = table-passed n table 0 none .0 in
+    own-cost n table r (e, z)
+    ∙ day-cost-pays n (passed .some) (passed .priced .few) table (shown n r) (gives-order n table r (e, z) .0)
+
+pub first-uncharged : FirstUncharged
+unfolding legsOf
+first-uncharged n table none = ap legs (uncharged-rows n table none)

@@ -1,4 +1,4 @@
--- What request A.1 says of a first order beside how it is made, which the definitions say (Nearest, Exchanges) and Examples shows: a type for
+-- What request A.1, and A.4 at the end, says of a first order beside how it is made, which the definitions say (Nearest, Exchanges) and Examples shows: a type for
 -- each sentence, proved in proofs/. The first is over any elements, the next three over any legs and any test of what is allowed. The others
 -- are over whatever a call returns that keeps its promise (`Promised`), so that they are of the definition and of the code at once.
 use mathlib.Core.Path.{_≡_}
@@ -9,9 +9,10 @@ use Prim.Native.Nat.{ℕ, suc, _+_, _≤_, _<_}
 use lib.Dec.{T}
 use lib.ListN.{length, take, replicate}
 use Rattle.sizes.specs.Sizes.{orderPlaces}
-use Rattle.lists.specs.Lists.{In, padded}
+use Rattle.lists.specs.Lists.{In, sum, from, padded}
 use Rattle.orders.specs.Orders.{Node, Order}
-use Rattle.stops.specs.Legs.{Legs, cost}
+use Rattle.stops.specs.Tables.{charge, legRows}
+use Rattle.stops.specs.Legs.{Legs, legs, cost}
 use Rattle.answer.specs.Call.{Call, Answer}
 use Rattle.answer.specs.declared.Job.{Job}
 use Rattle.answer.specs.Checks.{cause₅, tableCause, jobCause}
@@ -101,3 +102,15 @@ PassesAsStart =
 abbrev pub PlanNoDearer : Planner → Type 0
 PlanNoDearer P =
     (c : Call) (a : Answer) (r : FirstOrder) → P c a → Finishes (a .report) → Given (c .job .n) (c .table) r → a .report .cost ≤ r .cost
+
+-- REQUEST A.4
+
+-- the cost is that of the order's legs as the table has them, and of every landing, home's included
+abbrev pub FirstPays : Type 0
+FirstPays =
+    (n : ℕ) (table : List ℕ) (r : FirstOrder) → Given n table r
+    → r .cost ≡ cost (legs (legRows n table)) (shown n r) + sum (charge n table) (from 0 (suc n))
+
+-- with all charges 0, a first order is made of the legs alone, as before the request
+abbrev pub FirstUncharged : Type 0
+FirstUncharged = (n : ℕ) (table : List ℕ) → ((j : ℕ) → j ≤ n → charge n table j ≡ 0) → legsOf n table ≡ legs (legRows n table)

@@ -7,7 +7,6 @@ use Prim.Native.Nat.{ℕ, zero, suc, _+_, _*_, _-_, _^_, _%_, _≤_}
 use native.Mathlib.Nat.{mod-eq-of-lt}
 use native.Mathlib.Omega.{arith}
 use lib.Dec.{T}
-use lib.ListN.{length}
 use Rattle.sizes.specs.Sizes.{mostStops}
 use Rattle.lists.proofs.Tests.{to-true}
 use Rattle.orders.specs.Orders.{size}

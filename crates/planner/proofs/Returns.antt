@@ -1,7 +1,8 @@
--- The letter's demands and request A.3 of what `plan` returns and leaves in the pool, from its promise alone: that is an equation with
+-- The letter's demands and requests A.3 and A.4 of what `plan` returns and leaves in the pool, from its promise alone: that is an equation with
 -- `answer`, of which crate `answer` proves them.
 use Rattle.answer.specs.Demands.{EveryCallIsAnswered, EveryCallEnds, OneAnswer, RefusalsFixed, RunIsWritten, CountsBalance, FullIff, OneCost, CheapestOfAll, FavouredFinishes}
 use Rattle.answer.specs.Budget.{MarkedIff, StoppedAsWritten, OtherwiseZero, ExactBudget, WithinBudget, OrderOrZeros, NoDearerThanStart, FloorHolds, Between, LargerBudget, UnstoppedAsWithout, NoRunReaches}
+use Rattle.answer.specs.Charges.{OrderShownPays, CheapestByLegs, AsDocument01, AcceptedBefore}
 use Rattle.answer.specs.Document01.{FinishedIff, BranchedAreSteps, ContentsPlayNoPart}
 use Rattle.answer.proofs.Demand1.{call-answered, call-ends, one-answer, refusals-fixed}
 use Rattle.answer.proofs.Demand2.{run-is-written, counts-balance, full-iff, finished-iff, branched-are-steps}
@@ -10,6 +11,7 @@ use Rattle.answer.proofs.Demand3Pairs.{favoured-finishes}
 use Rattle.answer.proofs.Contents.{contents-play-no-part}
 use Rattle.answer.proofs.Budget.{marked-iff, stopped-as-written, otherwise-zero, exact-budget, within-budget, order-or-zeros, floor-holds, best-between, no-run-reaches}
 use Rattle.answer.proofs.BudgetPairs.{no-dearer-than-start, larger-budget, unstopped-as-without}
+use Rattle.answer.proofs.Charges.{order-shown-pays, cheapest-by-legs, as-document-01, accepted-before}
 use Rattle.planner.specs.Demands.{returned}
 
 -- demand 1 (that the code's call returns at all is what every proved contract says)
@@ -91,3 +93,16 @@ returned-as-without = unstopped-as-without
 
 pub returned-never-reached : NoRunReaches returned
 returned-never-reached = no-run-reaches
+
+-- request A.4
+pub returned-order-pays : OrderShownPays returned
+returned-order-pays = order-shown-pays
+
+pub returned-cheapest-by-legs : CheapestByLegs returned
+returned-cheapest-by-legs = cheapest-by-legs
+
+pub returned-as-document-01 : AsDocument01 returned
+returned-as-document-01 = as-document-01
+
+pub returned-as-before : AcceptedBefore returned
+returned-as-before = accepted-before

@@ -1,153 +1,252 @@
--- What landing charges add (request A.4). L and M are legs from place to place, the places are those up to n, and flying by L costs what it costs
--- by M and f of the place landed at:
---   path-pays     so does a path: f of each of its stops
---   cost-pays     an order: of home too
+-- What landing charges add (request A.4). L and M are legs from place to place, the places are those up to n, and flying by L from one place to
+-- another costs what it costs by M and f of the place landed at. Nothing is asked of a leg from a place to itself, for none is flown.
+--   path-pays     a path pays f of each of its stops
 --   plain-pays    the plain bound: of the stops flown, and of home where none is left
---   close-pays    the close bound: of the stops flown, of those left, and of home
--- and so of the days of a table: day-path-pays, day-plain-pays, day-close-pays, day-cost-pays.
-use mathlib.Core.Path.{_≡_, refl, sym, _∙_}
-use mathlib.Core.Bool.{Bool, true, false, cond}
-use mathlib.Core.List.{List, [], _∷_, List·Memᴰ·tail, List·Memᴰ·cases-cons}
-use mathlib.Core.Logic.{_⊎_, inl, inr}
-use Prim.Native.Nat.{ℕ, suc, _+_, _≤_}
+--   close-pays    the close bound: of every place
+--   cost-pays     an order: of every place
+-- And so of the days of a table:
+--   day-path-pays, day-plain-pays, day-close-pays, day-cost-pays    the planner's, against that of the legs alone
+--   uncharged-rows      where there are no charges, the two are one
+--   diagonal-path, diagonal-bound, diagonal-cost    with any other costs on the diagonal of the rows, a day has the same figures
+use mathlib.Core.Path.{_≡_, refl, sym, subst}
+use mathlib.Core.Bool.{Bool, true, false, _&&_, cond}
+use mathlib.Core.List.{List, [], _∷_, List·Memᴰ·tail, List·Memᴰ·cases-cons, List·Memᴰ·not-nil}
+use mathlib.Core.Logic.{_⊎_, inl, inr, _≢_}
+use Prim.Native.Nat.{ℕ, zero, suc, _+_, _≤_}
 use native.Mathlib.Omega.{arith}
-use Rattle.sizes.specs.Sizes.{mostStops}
-use Rattle.lists.specs.Lists.{In, sum, least, without, from}
+use lib.Dec.{T, T-not, leb, leb→le}
+use Rattle.sizes.specs.Sizes.{mostStops, places}
+use Rattle.lists.specs.Lists.{In, sum, least, without, from, Distinct, more}
+use Rattle.lists.proofs.Tests.{and-right, neq}
+use Rattle.lists.proofs.Map.{map-same}
 use Rattle.lists.proofs.Members.{in-head, in-keep}
-use Rattle.lists.proofs.Numbers.{least-adds, sum-adds}
-use Rattle.orders.specs.Orders.{Node, left, lastFrom, last, complete, Partial, Order}
-use Rattle.orders.proofs.Sets.{in-left}
+use Rattle.lists.proofs.Numbers.{least-adds, sum-adds, sum-const}
+use Rattle.orders.specs.Orders.{Node, flown, left, lastFrom, last, complete, Partial, Order}
+use Rattle.orders.proofs.Sets.{in-flown, in-left, left-in}
 use Rattle.orders.proofs.Tree.{complete-left, left-complete}
 use Rattle.orders.proofs.Partial.{partial-sum}
-use Rattle.orders.proofs.Order.{order-partial, order-sum}
-use Rattle.stops.specs.Tables.{charge, rows, legRows}
+use Rattle.orders.proofs.Order.{order-partial, order-complete, order-sum}
+use Rattle.stops.specs.Tables.{entry, charge, flying, inRows, rows, legRows}
 use Rattle.stops.specs.Legs.{Legs, rowLeg, legs, pathFrom, path, cost}
 use Rattle.stops.specs.Bounds.{plain, cheapestInto, remainder, close, boundBy}
 use Rattle.stops.specs.Stops.{day, dayOn}
-use Rattle.stops.proofs.LegTable.{leg-flying, leg-alone}
+use Rattle.stops.proofs.LegTable.{leg-in-rows}
+
+-- where a node ends: at one of its stops, or at home
+last-from-in : (place : ℕ) (x : Node) → In (lastFrom place x) (place ∷ x)
+last-from-in place [] = in-head
+last-from-in place (s ∷ x) = List·Memᴰ·tail (last-from-in s x)
+
+-- a complete node ends at a stop
+last-flown : (n : ℕ) → 1 ≤ n → (x : Node) → T (complete n x) → In (last x) x
+unfolding last flown
+last-flown n some [] whole =
+    absurd (List·Memᴰ·not-nil (subst (λ (l : List ℕ). In 1 l) (complete-left n [] whole) (left-in n [] 1 (omega arith) some tt)))
+last-flown n some (s ∷ x) whole = last-from-in s x
 
 module _
-    (n : ℕ) (L M : Legs) (f : ℕ → ℕ) (legs-pay : (i j : ℕ) → i ≤ n → j ≤ n → L .leg i j ≡ M .leg i j + f j)
-    (home-pays : (s : ℕ) → s ≤ n → L .home s ≡ M .home s + f 0) where
-  -- places up to n
-  abbrev Near : List ℕ → Type 0
-  Near x = (s : ℕ) → In s x → s ≤ n
+    (n : ℕ) (some : 1 ≤ n) (L M : Legs) (f : ℕ → ℕ)
+    (legs-pay : (i j : ℕ) → i ≤ n → j ≤ n → i ≢ j → L .leg i j ≡ M .leg i j + f j)
+    (home-pays : (s : ℕ) → 1 ≤ s → s ≤ n → L .home s ≡ M .home s + f 0) where
+  path-from-pays :
+      (place : ℕ) (x : Node) → ((s : ℕ) → In s (place ∷ x) → s ≤ n) → Distinct (place ∷ x)
+      → pathFrom L place x ≡ pathFrom M place x + sum f x
+  path-from-pays place [] near d = refl
+  path-from-pays place (s ∷ x) near (more new d) =
+      omega (
+        arith,
+        legs-pay place s (near place in-head) (near s (List·Memᴰ·tail in-head)) (λ e. new (rw e in-head)),
+        path-from-pays s x (λ r m. near r (List·Memᴰ·tail m)) d,
+      )
 
-  path-from-pays : (place : ℕ) (x : Node) → place ≤ n → Near x → pathFrom L place x ≡ pathFrom M place x + sum f x
-  path-from-pays place [] h near = refl
-  path-from-pays place (s ∷ x) h near =
-      omega (arith, legs-pay place s h (near s in-head), path-from-pays s x (near s in-head) (λ r m. near r (List·Memᴰ·tail m)))
+  module _ (x : Node) (p : Partial n x) where
+    -- home, and then the stops of x
+    home-first : Distinct (0 ∷ x)
+    home-first = more (λ (m : In 0 x). omega (arith, p .only 0 m .0)) (p .once)
 
-  last-near : (place : ℕ) (x : Node) → place ≤ n → Near x → lastFrom place x ≤ n
-  last-near place [] h near = h
-  last-near place (s ∷ x) h near = last-near s x (near s in-head) (λ r m. near r (List·Memᴰ·tail m))
+    near : (s : ℕ) → In s (0 ∷ x) → s ≤ n
+    near s m = go (List·Memᴰ·cases-cons m)
+      where
+        go : (s ≡ 0) ⊎ In s x → s ≤ n
+        go (inl e) = omega arith
+        go (inr k) = p .only s k .1
 
-  module _ (x : Node) (near : Near x) where
     pub path-pays : path L x ≡ path M x + sum f x
     unfolding path
-    path-pays = path-from-pays 0 x (omega arith) near
+    path-pays = path-from-pays 0 x near home-first
 
-    ends-near : last x ≤ n
+    ends : In (last x) (0 ∷ x)
     unfolding last
-    ends-near = last-near 0 x (omega arith) near
+    ends = last-from-in 0 x
 
-    pub cost-pays : cost L x ≡ cost M x + (sum f x + f 0)
-    unfolding cost
-    cost-pays = omega (arith, path-pays, home-pays (last x) ends-near)
-
-    -- a stop that is left is a place up to n
-    left-near : Near (left n x)
-    left-near s m = in-left n x s m .1
+    -- a stop that is left is not where the node ends
+    elsewhere : (s : ℕ) → In s (left n x) → last x ≢ s
+    elsewhere s m e = go (List·Memᴰ·cases-cons ends)
+      where
+        go : (last x ≡ 0) ⊎ In (last x) x → ⊥
+        go (inl z) = omega (arith, e, z, in-left n x s m .0)
+        go (inr k) = T-not (flown x s) (in-left n x s m .2) (in-flown x s (rw (← e) k))
 
     into-pays : (s : ℕ) → In s (left n x) → cheapestInto L (last x) (left n x) s ≡ cheapestInto M (last x) (left n x) s + f s
     unfolding cheapestInto
     into-pays s m =
         least-adds (λ r. L .leg r s) (λ r. M .leg r s) (f s) (last x) (without s (left n x))
-        (λ r k. legs-pay r s (among r (List·Memᴰ·cases-cons k)) (left-near s m))
+        (λ r k. let h = among r (List·Memᴰ·cases-cons k) in legs-pay r s (h .0) (in-left n x s m .1) (h .1))
       where
-        among : (r : ℕ) → (r ≡ last x) ⊎ In r (without s (left n x)) → r ≤ n
-        among r (inl e) = rw e ends-near
-        among r (inr k) = left-near r (in-keep _ (left n x) r k .0)
-
-    home-least : (r : ℕ) (rest : List ℕ) → left n x ≡ r ∷ rest → least (L .home) (left n x) ≡ least (M .home) (left n x) + f 0
-    home-least r rest e = rw e (least-adds (L .home) (M .home) (f 0) r rest (λ s m. home-pays s (left-near s (rw e m))))
+        among : (r : ℕ) → (r ≡ last x) ⊎ In r (without s (left n x)) → (r ≤ n) × (r ≢ s)
+        among r (inl e) = rw e (near (last x) ends, elsewhere s m)
+        among r (inr k) =
+            let (i, apart) = in-keep _ (left n x) r k in
+            (in-left n x r i .1, λ e. neq s r apart (rw e refl))
 
     remainder-pays :
-        complete n x ≡ false → remainder L (last x) (left n x) ≡ remainder M (last x) (left n x) + (sum f (left n x) + f 0)
+        (r : ℕ) (rest : List ℕ) → left n x ≡ r ∷ rest
+        → remainder L (last x) (left n x) ≡ remainder M (last x) (left n x) + (sum f (left n x) + f 0)
     unfolding remainder
-    remainder-pays some = go (left n x) refl
-      where
-        go :
-            (rest : List ℕ) → left n x ≡ rest
-            → sum (cheapestInto L (last x) (left n x)) (left n x) + least (L .home) (left n x)
-            ≡ sum (cheapestInto M (last x) (left n x)) (left n x) + least (M .home) (left n x) + (sum f (left n x) + f 0)
-        go [] e = absurd (rw some at (left-complete n x e))
-        go (r ∷ rest) e =
-            omega (
-              arith,
-              sum-adds (cheapestInto L (last x) (left n x)) (cheapestInto M (last x) (left n x)) f (left n x) into-pays,
-              home-least r rest e,
-            )
+    remainder-pays r rest e =
+        let homes : least (L .home) (r ∷ rest) ≡ least (M .home) (r ∷ rest) + f 0 =
+        least-adds (L .home) (M .home) (f 0) r rest (λ s m. let h = in-left n x s (rw e m) in home-pays s (h .0) (h .1)) in
+        omega (
+          arith,
+          sum-adds (cheapestInto L (last x) (left n x)) (cheapestInto M (last x) (left n x)) f (left n x) into-pays,
+          subst (λ (l : List ℕ). least (L .home) l ≡ least (M .home) l + f 0) (sym e) homes,
+        )
+
+    pub cost-pays : T (complete n x) → cost L x ≡ cost M x + (sum f x + f 0)
+    unfolding cost
+    cost-pays whole =
+        let h = p .only (last x) (last-flown n some x whole) in
+        omega (arith, path-pays, home-pays (last x) (h .0) (h .1))
 
     pub plain-pays : plain n L x ≡ plain n M x + (sum f x + cond (complete n x) (f 0) 0)
     unfolding plain
-    plain-pays = go (complete n x)
-      where
-        go : (b : Bool) → cond b (cost L x) (path L x) ≡ cond b (cost M x) (path M x) + (sum f x + cond b (f 0) 0)
-        go true = cost-pays
-        go false = omega (arith, path-pays)
-
-    pub close-pays : close n L x ≡ close n M x + (sum f x + sum f (left n x) + f 0)
-    unfolding close
-    close-pays = go (complete n x) refl
+    plain-pays = go (complete n x) (λ t. t)
       where
         go :
-            (b : Bool) → complete n x ≡ b
+            (b : Bool) → (T b → T (complete n x))
+            → cond b (cost L x) (path L x) ≡ cond b (cost M x) (path M x) + (sum f x + cond b (f 0) 0)
+        go true whole = cost-pays (whole tt)
+        go false whole = omega (arith, path-pays)
+
+    pub close-pays : close n L x ≡ close n M x + sum f (from 0 (suc n))
+    unfolding close
+    close-pays = go (complete n x) refl (left n x) refl
+      where
+        go :
+            (b : Bool) → complete n x ≡ b → (rest : List ℕ) → left n x ≡ rest
             → cond b (cost L x) (path L x + remainder L (last x) (left n x))
-            ≡ cond b (cost M x) (path M x + remainder M (last x) (left n x)) + (sum f x + sum f (left n x) + f 0)
-        go true e =
-            let none : left n x ≡ [] = complete-left n x (rw e tt) in
-            rw none (omega (arith, cost-pays))
-        go false e = omega (arith, path-pays, remainder-pays e)
+            ≡ cond b (cost M x) (path M x + remainder M (last x) (left n x)) + sum f (from 0 (suc n))
+        go true e rest none =
+            let whole : T (complete n x) = rw e tt in
+            let flown-all : sum f (left n x) ≡ 0 = rw (complete-left n x whole) refl in
+            omega (arith, cost-pays whole, partial-sum n f x p, flown-all)
+        go false e [] none = absurd (rw e at (left-complete n x none))
+        go false e (r ∷ rest) left-is = omega (arith, path-pays, remainder-pays r rest left-is, partial-sum n f x p)
 
--- THE DAYS OF A TABLE: the planner's, by what flying costs, and that of the legs alone. The charges of a list of places are summed.
-module _ (n : ℕ) (few : n ≤ mostStops) (table : List ℕ) (x : Node) where
-  legs-pay-charges :
-      (i j : ℕ) → i ≤ n → j ≤ n → rowLeg (rows n table) i j ≡ rowLeg (legRows n table) i j + charge n table j
-  legs-pay-charges i j h k = rw (leg-flying n table few i j h k, leg-alone n table few i j h k)
+-- THE DAYS OF A TABLE
 
-  home-pays-charge : (s : ℕ) → s ≤ n → rowLeg (rows n table) s 0 ≡ rowLeg (legRows n table) s 0 + charge n table 0
-  home-pays-charge s h = legs-pay-charges s 0 h (omega arith)
+-- two days over rows, where costs are g's and f of the place landed at
+module _
+    (n : ℕ) (some : 1 ≤ n) (few : n ≤ mostStops) (costs g : ℕ → ℕ → ℕ) (f : ℕ → ℕ)
+    (pays : (i j : ℕ) → i ≢ j → costs i j ≡ g i j + f j) where
+  row-pays : (i j : ℕ) → i ≤ n → j ≤ n → i ≢ j → rowLeg (inRows n costs) i j ≡ rowLeg (inRows n g) i j + f j
+  row-pays i j h k apart = rw (leg-in-rows n costs few i j h k, leg-in-rows n g few i j h k) (pays i j apart)
 
-  module _ (p : Partial n x) where
-    near : (s : ℕ) → In s x → s ≤ n
-    near s m = p .only s m .1
+  home-row-pays : (s : ℕ) → 1 ≤ s → s ≤ n → rowLeg (inRows n costs) s 0 ≡ rowLeg (inRows n g) s 0 + f 0
+  home-row-pays s h k = row-pays s 0 k (omega arith) (λ e. omega arith)
 
-    pub day-path-pays : dayOn n (rows n table) .path x ≡ dayOn n (legRows n table) .path x + sum (charge n table) x
+  module _ (x : Node) (p : Partial n x) where
+    rows-path : dayOn n (inRows n costs) .path x ≡ dayOn n (inRows n g) .path x + sum f x
     unfolding dayOn day legs
-    day-path-pays = path-pays n (legs (rows n table)) (legs (legRows n table)) (charge n table) legs-pay-charges home-pays-charge x near
+    rows-path = path-pays n some (legs (inRows n costs)) (legs (inRows n g)) f row-pays home-row-pays x p
+
+    rows-plain :
+        dayOn n (inRows n costs) .bound 0 x ≡ dayOn n (inRows n g) .bound 0 x + (sum f x + cond (complete n x) (f 0) 0)
+    unfolding dayOn day legs boundBy
+    rows-plain = plain-pays n some (legs (inRows n costs)) (legs (inRows n g)) f row-pays home-row-pays x p
+
+    rows-close : dayOn n (inRows n costs) .bound 1 x ≡ dayOn n (inRows n g) .bound 1 x + sum f (from 0 (suc n))
+    unfolding dayOn day legs boundBy
+    rows-close = close-pays n some (legs (inRows n costs)) (legs (inRows n g)) f row-pays home-row-pays x p
+
+  rows-cost :
+      (x : Node) → Order n x → dayOn n (inRows n costs) .cost x ≡ dayOn n (inRows n g) .cost x + sum f (from 0 (suc n))
+  unfolding dayOn day legs
+  rows-cost x o =
+      omega (
+        arith,
+        cost-pays n some (legs (inRows n costs)) (legs (inRows n g)) f row-pays home-row-pays x (order-partial n x o) (order-complete n x o),
+        order-sum n f x o,
+      )
+
+-- the planner's day, against that of the legs alone
+module _ (n : ℕ) (some : 1 ≤ n) (few : n ≤ mostStops) (table : List ℕ) where
+  charges-paid : (i j : ℕ) → i ≢ j → flying n table i j ≡ entry n table i j + charge n table j
+  unfolding flying
+  charges-paid i j apart = refl
+
+  module _ (x : Node) (p : Partial n x) where
+    pub day-path-pays : dayOn n (rows n table) .path x ≡ dayOn n (legRows n table) .path x + sum (charge n table) x
+    unfolding rows legRows
+    day-path-pays = rows-path n some few (flying n table) (entry n table) (charge n table) charges-paid x p
 
     pub day-plain-pays :
         dayOn n (rows n table) .bound 0 x
         ≡ dayOn n (legRows n table) .bound 0 x + (sum (charge n table) x + cond (complete n x) (charge n table 0) 0)
-    unfolding dayOn day legs boundBy
-    day-plain-pays = plain-pays n (legs (rows n table)) (legs (legRows n table)) (charge n table) legs-pay-charges home-pays-charge x near
+    unfolding rows legRows
+    day-plain-pays = rows-plain n some few (flying n table) (entry n table) (charge n table) charges-paid x p
 
     pub day-close-pays : dayOn n (rows n table) .bound 1 x ≡ dayOn n (legRows n table) .bound 1 x + sum (charge n table) (from 0 (suc n))
-    unfolding dayOn day legs boundBy
-    day-close-pays =
-        omega (
-          arith,
-          close-pays n (legs (rows n table)) (legs (legRows n table)) (charge n table) legs-pay-charges home-pays-charge x near,
-          partial-sum n (charge n table) x p,
-        )
+    unfolding rows legRows
+    day-close-pays = rows-close n some few (flying n table) (entry n table) (charge n table) charges-paid x p
 
   pub day-cost-pays :
-      Order n x → dayOn n (rows n table) .cost x ≡ dayOn n (legRows n table) .cost x + sum (charge n table) (from 0 (suc n))
-  unfolding dayOn day legs
-  day-cost-pays o =
-      omega (
-        arith,
-        cost-pays n (legs (rows n table)) (legs (legRows n table)) (charge n table) legs-pay-charges home-pays-charge x (near (order-partial n x o)),
-        order-sum n (charge n table) x o,
-      )
+      (x : Node) → Order n x → dayOn n (rows n table) .cost x ≡ dayOn n (legRows n table) .cost x + sum (charge n table) (from 0 (suc n))
+  unfolding rows legRows
+  day-cost-pays = rows-cost n some few (flying n table) (entry n table) (charge n table) charges-paid
+
+-- the planner's rows, but for what stands on their diagonal
+module _
+    (n : ℕ) (some : 1 ≤ n) (few : n ≤ mostStops) (table : List ℕ) (costs : ℕ → ℕ → ℕ)
+    (apart : (i j : ℕ) → i ≢ j → costs i j ≡ flying n table i j) where
+  nothing : (b : Bool) → _≡_ {A = ℕ} (cond b 0 0) 0
+  nothing true = refl
+  nothing false = refl
+
+  nothing-added : (i j : ℕ) → i ≢ j → costs i j ≡ flying n table i j + 0
+  nothing-added i j h = omega (arith, apart i j h)
+
+  module _ (x : Node) (p : Partial n x) where
+    pub diagonal-path : dayOn n (inRows n costs) .path x ≡ dayOn n (rows n table) .path x
+    unfolding rows
+    diagonal-path = omega (arith, rows-path n some few costs (flying n table) (λ j. 0) nothing-added x p, sum-const 0 x)
+
+    diagonal-plain : dayOn n (inRows n costs) .bound 0 x ≡ dayOn n (rows n table) .bound 0 x
+    unfolding rows
+    diagonal-plain =
+        omega (arith, rows-plain n some few costs (flying n table) (λ j. 0) nothing-added x p, sum-const 0 x, nothing (complete n x))
+
+    diagonal-close : dayOn n (inRows n costs) .bound 1 x ≡ dayOn n (rows n table) .bound 1 x
+    unfolding rows
+    diagonal-close = omega (arith, rows-close n some few costs (flying n table) (λ j. 0) nothing-added x p, sum-const 0 (from 0 (suc n)))
+
+    pub diagonal-bound : (k : ℕ) → dayOn n (inRows n costs) .bound k x ≡ dayOn n (rows n table) .bound k x
+    unfolding dayOn day boundBy
+    diagonal-bound zero = diagonal-plain
+    diagonal-bound (suc zero) = diagonal-close
+    diagonal-bound (suc (suc k)) = refl
+
+  pub diagonal-cost : (x : Node) → Order n x → dayOn n (inRows n costs) .cost x ≡ dayOn n (rows n table) .cost x
+  unfolding rows
+  diagonal-cost x o = omega (arith, rows-cost n some few costs (flying n table) (λ j. 0) nothing-added x o, sum-const 0 (from 0 (suc n)))
+
+-- where no place has a charge, the rows are those of the legs alone
+pub uncharged-rows : (n : ℕ) (table : List ℕ) → ((j : ℕ) → j ≤ n → charge n table j ≡ 0) → rows n table ≡ legRows n table
+unfolding rows legRows inRows flying
+uncharged-rows n table none =
+    map-same _ _ (from 0 places)
+    (λ i h. map-same _ _ (from 0 places) (λ j k. at i j (leb i n && leb j n) (λ t. leb→le j n (and-right (leb i n) (leb j n) t))))
+  where
+    at : (i j : ℕ) (b : Bool) → (T b → j ≤ n) → cond b (entry n table i j + charge n table j) 0 ≡ cond b (entry n table i j) 0
+    at i j true k = omega (arith, none j (k tt))
+    at i j false k = refl

@@ -12,7 +12,7 @@ use Prim.Native.Nat.{ℕ, suc, _+_, _*_, _≤_, _<_}
 use native.Mathlib.Omega.{arith}
 use lib.Dec.{T, leb, leb→le, le→leb, not-T}
 use lib.ListN.{getD}
-use Rattle.sizes.specs.Sizes.{mostStops, places, dearestLeg, dearestCharge, dearest}
+use Rattle.sizes.specs.Sizes.{mostStops, places, dearestLeg, dearest}
 use Rattle.lists.specs.Lists.{from}
 use Rattle.lists.proofs.Tests.{to-true, to-false, and-left, and-right, and-both, ordered}
 use Rattle.lists.proofs.Elements.{getD-from, getD-past, getD-small}

@@ -19,7 +19,7 @@ use mathlib.Core.List.{List, [], _∷_, map}
 use Prim.Native.Nat.{ℕ, zero, suc, _+_, _*_, _-_, _^_, _/_, _%_, _≤_, _<_}
 use lib.Count.{ones}
 use lib.Dec.{leb, ltb, eqb}
-use lib.ListN.{length, getD}
+use lib.ListN.{length}
 use Rattle.sizes.specs.Sizes.{mostStops, places, dearestLeg, dearestCharge, dearest, stopBase, wordStops}
 use Rattle.lists.specs.Lists.{In, put, from}
 use Rattle.orders.specs.Orders.{Node, last}

@@ -1,7 +1,7 @@
 // The table: the checks on its numbers, and the rows that the planner reckons with.
 ghost use mathlib.Core.Path.{_≡_};
 ghost use mathlib.Core.Bool.{not};
-ghost use Prim.Native.Nat.{suc, _+_, _*_, _≤_};
+ghost use Prim.Native.Nat.{suc, _*_, _≤_};
 ghost use lib.Dec.{ltb};
 ghost use lib.ListN.{length};
 ghost use Rattle.sizes.specs.Sizes.{mostStops, dearestLeg, dearestCharge};
