@@ -25,14 +25,15 @@ extern "C" {
 #endif
 
 /* Raised with every change of a call, of a struct or of what a number means. */
-#define GONDAMUY_VERSION 4
+#define GONDAMUY_VERSION 5
 
 /* Sizes. */
 #define GONDAMUY_MOST_STOPS 16                                         /* stops of a day at most */
 #define GONDAMUY_PLACES (GONDAMUY_MOST_STOPS + 1)                      /* 17: home and the stops */
-#define GONDAMUY_TABLE_NUMBERS (GONDAMUY_PLACES * GONDAMUY_PLACES)     /* 289: legs of the largest table */
+#define GONDAMUY_TABLE_NUMBERS (GONDAMUY_PLACES * GONDAMUY_PLACES)     /* 289: numbers of the largest table */
 #define GONDAMUY_ORDER_PLACES GONDAMUY_MOST_STOPS                      /* 16: stops of the longest order */
 #define GONDAMUY_DEAREST_LEG 1000000                                   /* what a leg may cost at most */
+#define GONDAMUY_DEAREST_CHARGE 100000                                 /* what a landing may cost at most */
 #define GONDAMUY_RECORD_WORDS 6                                        /* words in a record of the pool */
 #define GONDAMUY_LONGEST_FILE \
     (4 * GONDAMUY_TABLE_NUMBERS + GONDAMUY_ORDER_PLACES + 13)          /* 1,185: a buffer that every job's file fits */
@@ -60,8 +61,8 @@ enum gondamuy_rules {
 
 /* What a node's whole orders cost at least. */
 enum gondamuy_bound {
-    GONDAMUY_BOUND_PLAIN = 0, /* the legs flown */
-    GONDAMUY_BOUND_CLOSE = 1  /* the legs flown and the cheapest legs to come */
+    GONDAMUY_BOUND_PLAIN = 0, /* what is flown so far */
+    GONDAMUY_BOUND_CLOSE = 1  /* what is flown so far, and the cheapest legs to come with their landings */
 };
 
 /* Whether its budget stopped a search (request A.3). Beside a refusal the mark is 0 too, so that mark 0 alone says
@@ -78,7 +79,7 @@ enum gondamuy_refusal {
     GONDAMUY_REFUSED_STOPS = 1,
     /* the table's length is not (n+1) squared. */
     GONDAMUY_REFUSED_TABLE_LENGTH = 2,
-    /* a leg is above 1,000,000 or a diagonal entry is not 0. */
+    /* a leg is above 1,000,000 or a landing charge is above 100,000. Each number is looked at by itself. */
     GONDAMUY_REFUSED_LEG = 3,
     /* selection is above 3, rules above 15 or bound above 1. */
     GONDAMUY_REFUSED_CHOICE = 4,
@@ -127,7 +128,7 @@ struct gondamuy_first {
 struct gondamuy_reading {
     uint32_t number;    /* 0, or the number of the refusal: 8, 1, 9, 3, 4 or 5 */
     struct gondamuy_job job;
-    uint32_t table[GONDAMUY_TABLE_NUMBERS]; /* (n+1)*(n+1) legs, row by row, zeros behind */
+    uint32_t table[GONDAMUY_TABLE_NUMBERS]; /* (n+1)*(n+1) numbers, row by row, zeros behind */
     uint8_t start[GONDAMUY_ORDER_PLACES];   /* the starting order, zeros behind */
     uint32_t stops;     /* how many stops the starting order has: 0 or n */
 };
@@ -141,7 +142,7 @@ struct gondamuy_written {
 struct gondamuy_record {
     uint32_t size;      /* how many stops */
     uint32_t set;       /* bit s-1 is stop s's */
-    uint32_t path;      /* the cost of the legs flown */
+    uint32_t path;      /* what the legs flown and their landings cost */
     uint32_t bound;
     uint32_t first;     /* s-1 in four bits each, the first eight stops, first stop lowest */
     uint32_t second;    /* the others */
@@ -149,10 +150,12 @@ struct gondamuy_record {
 
 /* Puts the stops 1 to job.n into the cheapest order, within a budget of branchings.
  *
- * table: (n+1)*(n+1) legs, row by row. Row i has what flying from place i to each place costs, at most
- * GONDAMUY_DEAREST_LEG, and 0 on the diagonal; home is place 0. start: an order of the n stops that is known
- * beforehand, or nothing. budget: how many nodes may be branched, 0 included, or GONDAMUY_NO_BUDGET. pool: words, six
- * to a record; what they hold beforehand plays no part.
+ * table: (n+1)*(n+1) numbers, row by row; home is place 0. Row i has the leg from place i to each other place, at most
+ * GONDAMUY_DEAREST_LEG, and on the diagonal the landing charge of place i, at most GONDAMUY_DEAREST_CHARGE, or 0 for
+ * none (request A.4). Flying from i to j costs the leg and the charge of j. So an order costs its legs and every
+ * landing: one at each stop, and one at home at the end. start: an order of the n stops that is known beforehand, or
+ * nothing. budget: how many nodes may be branched, 0 included, or GONDAMUY_NO_BUDGET. pool: words, six to a record;
+ * what they hold beforehand plays no part.
  *
  * What comes back and what the pool then holds, by number and mark; the lowest number that applies is returned:
  *   0, mark 0  Finished: a cheapest order, its cost, and the counts of the search. The pool holds the nodes that were
@@ -191,11 +194,11 @@ static inline int gondamuy_shows_order(const struct gondamuy_report *report)
 
 /* Makes an order of the stops 1 to n to start from, where nobody has typed one (request A.1).
  *
- * n and table are as for gondamuy_plan. From each place on, home first, the nearest stop left is flown: the one with
- * the cheapest leg from there, the lowest number of several. Then two stops change places as long as that lowers the
- * cost: of all pairs the one that lowers it most, of several the one that begins earliest in the order, then the one
- * that ends earliest. The order costs no more than that of the nearest stops, and no exchange of two of its stops makes
- * it cheaper; but another order may be cheaper still, and gondamuy_plan finds one that is cheapest.
+ * n and table are as for gondamuy_plan. From each place on, home first, the nearest stop left is flown: the one that
+ * is cheapest to fly to and land at, the lowest number of several. Then two stops change places as long as that lowers
+ * the cost: of all pairs the one that lowers it most, of several the one that begins earliest in the order, then the
+ * one that ends earliest. The order costs no more than that of the nearest stops, and no exchange of two of its stops
+ * makes it cheaper; but another order may be cheaper still, and gondamuy_plan finds one that is cheapest.
  *
  * What comes back, by number; the lowest that applies is returned:
  *   0       The order and its cost.

@@ -31,12 +31,12 @@ static void print_first(const struct gondamuy_first *first, uint32_t n)
 }
 
 /* Whether the search finished. If not, it says why. */
-static bool planned(const struct gondamuy_reading *reading, size_t legs, const char *from, const uint8_t *start,
+static bool planned(const struct gondamuy_reading *reading, size_t numbers, const char *from, const uint8_t *start,
                     size_t stops)
 {
     static struct gondamuy_record pool[RECORDS];
 
-    struct gondamuy_report report = gondamuy_plan_records(reading->job, reading->table, legs, start, stops,
+    struct gondamuy_report report = gondamuy_plan_records(reading->job, reading->table, numbers, start, stops,
                                                           GONDAMUY_NO_BUDGET, pool, RECORDS);
     if (report.number != GONDAMUY_NOT_REFUSED)
         refused(report.number);
@@ -54,7 +54,7 @@ int main(void)
 
     /* With length 0 a null table will do; it is refused. */
     if (gondamuy_first_order(3, NULL, 0).number != GONDAMUY_REFUSED_TABLE_LENGTH)
-        return failed("a table of no legs is not refused by 2");
+        return failed("an empty table is not refused by 2");
     size_t length = fread(file, 1, sizeof file, stdin);
     if (ferror(stdin))
         return failed("standard input cannot be read");
@@ -62,13 +62,13 @@ int main(void)
     if (reading.number != GONDAMUY_NOT_REFUSED)
         return refused(reading.number);
     uint32_t n = reading.job.n;
-    size_t legs = (n + 1) * (n + 1);
-    struct gondamuy_first first = gondamuy_first_order(n, reading.table, legs);
+    size_t numbers = (n + 1) * (n + 1);
+    struct gondamuy_first first = gondamuy_first_order(n, reading.table, numbers);
     if (first.number != GONDAMUY_NOT_REFUSED)
         return refused(first.number);
     print_first(&first, n);
-    bool finished = planned(&reading, legs, "none", NULL, 0)
-                    && planned(&reading, legs, "the file's order", reading.start, reading.stops)
-                    && planned(&reading, legs, "the first order", first.order, n);
+    bool finished = planned(&reading, numbers, "none", NULL, 0)
+                    && planned(&reading, numbers, "the file's order", reading.start, reading.stops)
+                    && planned(&reading, numbers, "the first order", first.order, n);
     return finished ? EXIT_SUCCESS : EXIT_FAILURE;
 }

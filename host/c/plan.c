@@ -1,15 +1,21 @@
 /* Writes the job file of document 01's case a (three stops, least bound first, rule 1, close), reads it back and plans
- * it; then plans case b (earliest first, no rules, plain) within three budgets, of which the first two stop it. A
- * refusal ends it with a status other than 0, and so would a search of case a that did not finish. */
+ * it; plans case b (earliest first, no rules, plain) within three budgets, of which the first two stop it; and plans
+ * case a with a landing charge at each place. A refusal ends it with a status other than 0, and so would a search of
+ * case a that did not finish. */
 #include <inttypes.h>
 #include <stdio.h>
 #include <stdlib.h>
+#include <string.h>
 
 #include "gondamuy.h"
 
 #define RECORDS 2000
+#define PLACES 4
+#define NUMBERS (PLACES * PLACES)
 
-static const uint32_t table[16] = {0, 4, 7, 9, 5, 0, 2, 6, 3, 8, 0, 1, 6, 5, 4, 0};
+static const uint32_t table[NUMBERS] = {0, 4, 7, 9, 5, 0, 2, 6, 3, 8, 0, 1, 6, 5, 4, 0};
+static const struct gondamuy_job case_a = {3, GONDAMUY_SELECTION_LEAST_BOUND_EARLIEST, GONDAMUY_RULE_UPPER_COST,
+                                           GONDAMUY_BOUND_CLOSE};
 static uint32_t pool[RECORDS * GONDAMUY_RECORD_WORDS];
 static const size_t words = sizeof pool / sizeof pool[0];
 
@@ -30,7 +36,7 @@ static uint32_t within(uint64_t budget)
 {
     static const struct gondamuy_job case_b = {3, GONDAMUY_SELECTION_FIFO, GONDAMUY_RULES_NONE, GONDAMUY_BOUND_PLAIN};
 
-    struct gondamuy_report report = gondamuy_plan(case_b, table, 16, NULL, 0, budget, pool, words);
+    struct gondamuy_report report = gondamuy_plan(case_b, table, NUMBERS, NULL, 0, budget, pool, words);
     if (report.number != GONDAMUY_NOT_REFUSED)
         return report.number;
     printf("budget %" PRIu64 ": ", budget);
@@ -45,14 +51,33 @@ static uint32_t within(uint64_t budget)
     return report.number;
 }
 
+/* Case a where landings are charged, home's first: the charges go onto the table's diagonal. Returns a status. */
+static int with_charges(const uint32_t charges[PLACES])
+{
+    uint32_t charged[NUMBERS], landings = 0;
+
+    memcpy(charged, table, sizeof charged);
+    for (size_t i = 0; i < PLACES; i++) {
+        charged[i * PLACES + i] = charges[i];
+        landings += charges[i];
+    }
+    struct gondamuy_report report = gondamuy_plan(case_a, charged, NUMBERS, NULL, 0, GONDAMUY_NO_BUDGET, pool, words);
+    if (report.number != GONDAMUY_NOT_REFUSED)
+        return refused(report.number);
+    if (!gondamuy_is_finished(&report))
+        return failed("stopped");
+    printf("with charges: cost %" PRIu32 ", %" PRIu32 " of it landings, ", report.cost, landings);
+    printf("order %d %d %d\n", report.order[0], report.order[1], report.order[2]);
+    return EXIT_SUCCESS;
+}
+
 int main(void)
 {
-    static const struct gondamuy_job case_a = {3, GONDAMUY_SELECTION_LEAST_BOUND_EARLIEST, GONDAMUY_RULE_UPPER_COST,
-                                               GONDAMUY_BOUND_CLOSE};
+    static const uint32_t charges[PLACES] = {5, 10, 20, 30};
     static const uint64_t budgets[3] = {0, 5, 10};
     static uint8_t file[GONDAMUY_LONGEST_FILE];
 
-    struct gondamuy_written written = gondamuy_write(case_a, table, 16, NULL, 0, file, sizeof file);
+    struct gondamuy_written written = gondamuy_write(case_a, table, NUMBERS, NULL, 0, file, sizeof file);
     if (written.number != GONDAMUY_NOT_REFUSED)
         return refused(written.number);
     struct gondamuy_reading reading = gondamuy_read(file, written.length);
@@ -74,5 +99,5 @@ int main(void)
         if (number != GONDAMUY_NOT_REFUSED)
             return refused(number);
     }
-    return EXIT_SUCCESS;
+    return with_charges(charges);
 }

@@ -1,6 +1,6 @@
 //! Writes the job file of document 01's case a (three stops, least bound first, rule 1, close), reads it back and plans
-//! it; then plans case b (earliest first, no rules, plain) within three budgets, of which the first two stop it. A
-//! refusal ends it with a status other than 0.
+//! it; plans case b (earliest first, no rules, plain) within three budgets, of which the first two stop it; and plans
+//! case a with a landing charge at each place. A refusal ends it with a status other than 0.
 
 use std::error::Error;
 use std::process::ExitCode;
@@ -10,7 +10,10 @@ use gondamuy::{
 };
 
 const RECORDS: usize = 2_000;
-const TABLE: [u32; 16] = [0, 4, 7, 9, 5, 0, 2, 6, 3, 8, 0, 1, 6, 5, 4, 0];
+const PLACES: usize = 4;
+const TABLE: [u32; PLACES * PLACES] = [0, 4, 7, 9, 5, 0, 2, 6, 3, 8, 0, 1, 6, 5, 4, 0];
+const CASE_A: Job =
+    Job { n: 3, selection: Selection::LeastBoundEarliest, rules: Rules::UPPER_COST, bound: Bound::Close };
 
 fn main() -> ExitCode {
     match answer() {
@@ -23,10 +26,8 @@ fn main() -> ExitCode {
 }
 
 fn answer() -> Result<(), Box<dyn Error>> {
-    let selection = Selection::LeastBoundEarliest;
-    let case_a = Job { n: 3, selection, rules: Rules::UPPER_COST, bound: Bound::Close };
     let mut file = [0; LONGEST_FILE];
-    let length = write(case_a, &TABLE, &[], &mut file)?;
+    let length = write(CASE_A, &TABLE, &[], &mut file)?;
     let contents = read(&file[..length])?;
     let mut pool = vec![0; RECORDS * RECORD_WORDS];
     let plan = plan(contents.job, contents.table(), contents.start(), NO_BUDGET, &mut pool)?.finished()?;
@@ -37,6 +38,7 @@ fn answer() -> Result<(), Box<dyn Error>> {
     for budget in [0, 5, 10] {
         println!("budget {budget}: {}", within(budget, &mut pool)?);
     }
+    println!("with charges: {}", with_charges([5, 10, 20, 30], &mut pool)?);
     Ok(())
 }
 
@@ -53,6 +55,17 @@ fn within(budget: u64, pool: &mut [u32]) -> Result<String, Refused> {
         },
     };
     Ok(words)
+}
+
+/// Case a where landings are charged, home's first: the charges go onto the table's diagonal.
+fn with_charges(charges: [u32; PLACES], pool: &mut [u32]) -> Result<String, Box<dyn Error>> {
+    let mut table = TABLE;
+    for (place, charge) in charges.into_iter().enumerate() {
+        table[place * PLACES + place] = charge;
+    }
+    let landings: u32 = charges.iter().sum();
+    let plan = plan(CASE_A, &table, &[], NO_BUDGET, pool)?.finished()?;
+    Ok(format!("cost {}, {landings} of it landings, order {}", plan.cost, flown(plan.order())))
 }
 
 fn flown(order: &[u8]) -> String {

@@ -205,7 +205,7 @@ pub struct Contents {
 }
 
 impl Contents {
-    /// The legs, as [`plan`](crate::plan) and [`write`](crate::write) take them.
+    /// Legs and landing charges, as [`plan`](crate::plan) and [`write`](crate::write) take them.
     pub fn table(&self) -> &[u32] {
         self.reading.table()
     }

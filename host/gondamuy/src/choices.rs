@@ -62,9 +62,9 @@ impl BitOr for Rules {
 #[derive(Clone, Copy, Debug, PartialEq, Eq, Hash)]
 #[repr(u32)]
 pub enum Bound {
-    /// 0: the legs flown.
+    /// 0: what is flown so far.
     Plain = 0,
-    /// 1: the legs flown and the cheapest legs to come.
+    /// 1: what is flown so far, and the cheapest legs to come with their landings.
     Close = 1,
 }
 

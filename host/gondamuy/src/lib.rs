@@ -4,7 +4,8 @@
 //! ```
 //! use gondamuy::{plan_records, Bound, Job, Planned, Record, Rules, Selection, NO_BUDGET};
 //!
-//! // Three stops. Entry j of row i is the leg from place i to place j, and home is place 0.
+//! // Three stops. Entry j of row i is the leg from place i to place j, and home is place 0. On the diagonal stands what
+//! // a landing is charged, here nothing.
 //! let table = [0, 4, 7, 9, 5, 0, 2, 6, 3, 8, 0, 1, 6, 5, 4, 0];
 //! let selection = Selection::LeastBoundEarliest;
 //! let job = Job { n: 3, selection, rules: Rules::UPPER_COST, bound: Bound::Close };
@@ -39,9 +40,10 @@ pub use sizes::*;
 /// Puts the stops 1 to n into the cheapest order, within a budget of branchings. **Only [`Planned::Finished`] is a
 /// cheapest order**; a search whose budget was spent before it finished is [`Planned::Stopped`].
 ///
-/// `table` has (n+1) squared legs, row by row; `start` is a starting order or empty; `budget` is how many nodes may be
-/// branched, 0 included, or [`NO_BUDGET`]; `pool` is lent for whole records of [`RECORD_WORDS`] words each, and what it
-/// holds beforehand plays no part. Refused by 1 to 3 and 5 to 7, the lowest number that applies.
+/// `table` has (n+1) squared numbers, row by row: legs, and landing charges on the diagonal (below); `start` is a
+/// starting order or empty; `budget` is how many nodes may be branched, 0 included, or [`NO_BUDGET`]; `pool` is lent
+/// for whole records of [`RECORD_WORDS`] words each, and what it holds beforehand plays no part. Refused by 1 to 3 and 5
+/// to 7, the lowest number that applies.
 ///
 /// Before each branching it is asked first whether the search is finished, then whether the budget is spent, then
 /// whether the pool holds what comes of it. So a search that finishes within its budget gives the same as without one,
@@ -62,6 +64,22 @@ pub use sizes::*;
 /// // From a cheapest order, one record is enough.
 /// let started = plan(job, &table, &[1, 2, 3], NO_BUDGET, &mut pool)?.finished()?;
 /// assert_eq!((started.cost, started.counts.branched), (13, 2));
+/// # Ok::<(), Box<dyn std::error::Error>>(())
+/// ```
+///
+/// # Landing charges
+///
+/// Entry j of row i is the leg from place i to place j, at most [`DEAREST_LEG`]; entry i of row i is the landing charge
+/// of place i, home's too, at most [`DEAREST_CHARGE`] (request A.4). Flying from i to j costs the leg and the charge of
+/// j, so that an order costs its legs and every landing: one at each stop, and one at home at the end.
+///
+/// ```
+/// # use gondamuy::*;
+/// let job = Job { n: 1, selection: Selection::Fifo, rules: Rules::NONE, bound: Bound::Plain };
+/// let mut pool = [Record::default(); 1];
+/// // 3 out and 5 back; a landing at home is charged 7, one at the stop 20.
+/// let plan = plan_records(job, &[7, 3, 5, 20], &[], NO_BUDGET, &mut pool)?.finished()?;
+/// assert_eq!(plan.cost, 3 + 20 + 5 + 7);
 /// # Ok::<(), Box<dyn std::error::Error>>(())
 /// ```
 ///
@@ -102,11 +120,11 @@ pub fn plan_records(
 
 /// Makes an order of the stops 1 to n to start from, where nobody has typed one (request A.1).
 ///
-/// From each place on, home first, the nearest stop left is flown: the one with the cheapest leg from there, the lowest
-/// number of several. Then two stops change places as long as that lowers the cost: of all pairs the one that lowers it
-/// most, of several the one that begins earliest in the order, then the one that ends earliest. The order costs no more
-/// than that of the nearest stops, and no exchange of two of its stops makes it cheaper; but another order may be
-/// cheaper still, and [`plan`] finds one that is cheapest. Refused by the lowest of 1 to 3 that applies.
+/// From each place on, home first, the nearest stop left is flown: the one that is cheapest to fly to and land at, the
+/// lowest number of several. Then two stops change places as long as that lowers the cost: of all pairs the one that
+/// lowers it most, of several the one that begins earliest in the order, then the one that ends earliest. The order
+/// costs no more than that of the nearest stops, and no exchange of two of its stops makes it cheaper; but another
+/// order may be cheaper still, and [`plan`] finds one that is cheapest. Refused by the lowest of 1 to 3 that applies.
 ///
 /// [`plan`] does not make one by itself. As a starting order it is never refused by 5:
 ///

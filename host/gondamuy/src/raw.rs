@@ -98,7 +98,7 @@ pub struct Reading {
     pub number: u32,
     /// The job.
     pub job: Job,
-    /// (n+1) squared legs, row by row, and zeros behind.
+    /// (n+1) squared numbers, row by row, and zeros behind.
     pub table: [u32; TABLE_NUMBERS],
     /// The starting order, and zeros behind.
     pub start: [u8; ORDER_PLACES],
@@ -107,7 +107,7 @@ pub struct Reading {
 }
 
 impl Reading {
-    /// The legs, as `plan` and `write` take them; none of a refusal.
+    /// Legs and landing charges, as `plan` and `write` take them; none of a refusal.
     pub fn table(&self) -> &[u32] {
         let side = if self.number == 0 { self.job.n as usize + 1 } else { 0 };
         &self.table[..side * side]
@@ -137,7 +137,7 @@ pub struct Record {
     pub size: u32,
     /// Stop s adds 2 to the power s-1.
     pub set: u32,
-    /// The cost of the legs flown.
+    /// What the legs flown and their landings cost.
     pub path: u32,
     /// What its whole orders cost at least.
     pub bound: u32,

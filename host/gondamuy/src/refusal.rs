@@ -12,7 +12,8 @@ pub enum Refusal {
     Stops = 1,
     /// 2: the table's length does not fit the number of stops.
     TableLength = 2,
-    /// 3: a leg costs too much, or a place has a leg to itself.
+    /// 3: a leg costs more than [`DEAREST_LEG`](crate::DEAREST_LEG), or a landing more than
+    /// [`DEAREST_CHARGE`](crate::DEAREST_CHARGE). Each number is looked at by itself: the two together may cost more.
     Leg = 3,
     /// 4: an unknown selection, rule or bound. A file or a [`raw`](crate::raw) call may have one, a [`Job`](crate::Job)
     /// has none.
@@ -77,7 +78,7 @@ impl Refusal {
         match self {
             Refusal::Stops => "the number of stops is 0 or above 16",
             Refusal::TableLength => "the table's length is not (n+1) squared",
-            Refusal::Leg => "a leg is above 1,000,000 or a diagonal entry is not 0",
+            Refusal::Leg => "a leg is above 1,000,000 or a landing charge is above 100,000",
             Refusal::Choice => "selection is above 3, rules above 15 or bound above 1",
             Refusal::Start => "the starting order is neither empty nor a permutation of 1 to n",
             Refusal::Pool => "the pool has no whole record, or a part record",

@@ -1,7 +1,7 @@
-//! The sizes of document 01 by name.
+//! The sizes of documents 01 and 02 by name.
 
 /// Raised with every change of a call, of a struct or of what a number means, as `GONDAMUY_VERSION` is.
-pub const VERSION: u32 = 4;
+pub const VERSION: u32 = 5;
 
 /// Stops of a day at most.
 pub const MOST_STOPS: usize = 16;
@@ -9,7 +9,7 @@ pub const MOST_STOPS: usize = 16;
 /// Home and the stops.
 pub const PLACES: usize = MOST_STOPS + 1;
 
-/// Legs of the largest table.
+/// Numbers of the largest table: its legs, and a landing charge for each place.
 pub const TABLE_NUMBERS: usize = PLACES * PLACES;
 
 /// Stops of the longest order.
@@ -17,6 +17,9 @@ pub const ORDER_PLACES: usize = MOST_STOPS;
 
 /// What a leg may cost at most.
 pub const DEAREST_LEG: u32 = 1_000_000;
+
+/// What a landing may cost at most (request A.4).
+pub const DEAREST_CHARGE: u32 = 100_000;
 
 /// Words in a record of the pool.
 pub const RECORD_WORDS: usize = 6;

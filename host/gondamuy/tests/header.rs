@@ -5,7 +5,7 @@ use std::fs;
 use std::path::Path;
 
 use gondamuy::{raw, Bound, Job, Refusal, Rules, Selection};
-use gondamuy::{DEAREST_LEG, MOST_STOPS, NO_BUDGET, RECORD_WORDS, VERSION};
+use gondamuy::{DEAREST_CHARGE, DEAREST_LEG, MOST_STOPS, NO_BUDGET, RECORD_WORDS, VERSION};
 
 /// The lines of a file, by its way from the wrapper's folder.
 fn lines(file: &str) -> Vec<String> {
@@ -35,6 +35,7 @@ fn the_same_numbers() {
         ("VERSION", VERSION),
         ("MOST_STOPS", MOST_STOPS as u32),
         ("DEAREST_LEG", DEAREST_LEG),
+        ("DEAREST_CHARGE", DEAREST_CHARGE),
         ("RECORD_WORDS", RECORD_WORDS as u32),
         ("SELECTION_LEAST_BOUND_EARLIEST", Selection::LeastBoundEarliest as u32),
         ("SELECTION_LEAST_BOUND_LATEST", Selection::LeastBoundLatest as u32),
