@@ -3,11 +3,12 @@
 //!
 //! ```text
 //! stops 3                 # n
-//! table                   # n+1 rows of n+1 legs, each row a line
-//! 0 4 7 9
-//! 5 0 2 6
-//! 3 8 0 1
-//! 6 5 4 0
+//! table                   # n+1 rows of n+1 legs, each row a line; on the diagonal - or 0
+//! - 4 7 9
+//! 5 - 2 6
+//! 3 8 - 1
+//! 6 5 4 -
+//! charges 5 10 20 30      # home's landing charge, then each stop's; or none, or no such line
 //! selection LLB-FIFO      # or LLB-LIFO, FIFO, LIFO, or 0 to 3
 //! rules U/DBAS            # and AS/DB, BFS/DB, DB/AS, or none, or their sum
 //! bound close             # or plain, or 0 and 1
@@ -19,13 +20,14 @@
 
 mod names;
 mod parse;
+mod table;
 
 pub use parse::{parse, Fault, Parsed};
 
 #[derive(Clone, Debug, PartialEq, Eq)]
 pub struct Job {
     pub n: u32,
-    /// Row by row.
+    /// Row by row, with the landing charges on the diagonal.
     pub table: Vec<u32>,
     pub selection: u32,
     pub rules: u32,
@@ -34,14 +36,22 @@ pub struct Job {
     pub start: Vec<u8>,
 }
 
+impl Job {
+    /// What a landing is charged at each place, home first (request A.4).
+    pub fn charges(&self) -> impl Iterator<Item = u32> + '_ {
+        let rows = self.table.chunks(self.n as usize + 1);
+        rows.enumerate().filter_map(|(place, row)| row.get(place).copied())
+    }
+
+    /// What the day's landings cost, the same in every order: one at each stop, and one at home.
+    pub fn landings(&self) -> u64 {
+        self.charges().map(u64::from).sum()
+    }
+}
+
 /// The text of a job, with the choices in words.
 pub fn text(job: &Job) -> String {
-    let mut text = format!("stops {}\ntable\n", job.n);
-    let width = job.table.iter().max().map_or(1, |leg| leg.to_string().len());
-    for row in job.table.chunks(job.n as usize + 1) {
-        let legs: Vec<String> = row.iter().map(|leg| format!("{leg:>width$}")).collect();
-        text += &format!("{}\n", legs.join(" "));
-    }
+    let mut text = format!("stops {}\ntable\n{}", job.n, table::text(job));
     let (selection, words) = names::selection(job.selection);
     text += &format!("selection {selection} # {words}\n");
     let (rules, words) = names::rules(job.rules);

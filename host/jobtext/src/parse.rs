@@ -4,6 +4,7 @@ use std::fmt;
 use std::str::FromStr;
 
 use crate::names::{by_name, list, Named, ALL_RULES, BOUNDS, RULES, SELECTIONS};
+use crate::table::{self, Charges, Row};
 use crate::Job;
 
 const DEAREST_LEG: u32 = 1_000_000;
@@ -22,9 +23,15 @@ impl fmt::Display for Fault {
 }
 
 /// What a keyword says, and the line that it stands on.
-struct At<T> {
-    line: usize,
-    value: T,
+pub struct At<T> {
+    pub line: usize,
+    pub value: T,
+}
+
+impl<T> At<T> {
+    pub fn fault(&self, what: String) -> Fault {
+        Fault { line: self.line, what }
+    }
 }
 
 /// A job and the lines that it stands on.
@@ -33,6 +40,7 @@ pub struct Parsed {
     stops: usize,
     table: usize,
     rows: Vec<usize>,
+    charges: usize,
     choices: [usize; 3],
     start: usize,
 }
@@ -42,18 +50,18 @@ impl Parsed {
     pub fn line_of(&self, number: u32) -> usize {
         match number {
             1 => self.stops,
-            3 => self.refused_row(),
+            3 => self.dear_row().unwrap_or(self.charges),
             4 => self.choices[self.unknown_choice()],
             5 => self.start,
             _ => self.table,
         }
     }
 
-    fn refused_row(&self) -> usize {
-        let side = self.job.n as usize + 1;
-        let wrong = |i: usize, row: &[u32]| row[i] != 0 || row.iter().any(|&leg| leg > DEAREST_LEG);
-        let at = self.job.table.chunks(side).enumerate().position(|(i, row)| wrong(i, row));
-        at.map_or(self.table, |i| self.rows[i])
+    /// The first row with a leg that is too dear.
+    fn dear_row(&self) -> Option<usize> {
+        let mut rows = self.job.table.chunks(self.job.n as usize + 1).enumerate();
+        let dear = |i, row: &[u32]| row.iter().enumerate().any(|(j, &leg)| i != j && leg > DEAREST_LEG);
+        rows.position(|(i, row)| dear(i, row)).map(|i| self.rows[i])
     }
 
     fn unknown_choice(&self) -> usize {
@@ -72,7 +80,8 @@ impl Parsed {
 #[derive(Default)]
 struct Lines {
     stops: Option<At<u32>>,
-    table: Option<At<Vec<At<Vec<u32>>>>>,
+    table: Option<At<Vec<At<Row>>>>,
+    charges: Option<At<Charges>>,
     selection: Option<At<u32>>,
     rules: Option<At<u32>>,
     bound: Option<At<u32>>,
@@ -98,8 +107,8 @@ impl Lines {
         let Some((&first, rest)) = words.split_first() else {
             return Ok(());
         };
-        if self.in_table && first.starts_with(|c: char| c.is_ascii_digit()) {
-            let value = numbers(words, "leg")?;
+        if self.in_table && table::opens_row(first) {
+            let value = table::row(words)?;
             self.table.as_mut().expect("in_table").value.push(At { line, value });
             return Ok(());
         }
@@ -108,41 +117,36 @@ impl Lines {
             "stops" => set(&mut self.stops, line, first, single(rest, "the number of stops")?),
             "table" if rest.is_empty() => set(&mut self.table, line, first, Vec::new()),
             "table" => Err("the table's rows begin on the line behind `table`".to_string()),
+            "charges" => set(&mut self.charges, line, first, table::charges(rest)?),
             "selection" => set(&mut self.selection, line, first, choice(rest, &SELECTIONS)?),
             "rules" => set(&mut self.rules, line, first, rules(rest)?),
             "bound" => set(&mut self.bound, line, first, choice(rest, &BOUNDS)?),
             "start" if rest == ["none"] => set(&mut self.start, line, first, Vec::new()),
             "start" => set(&mut self.start, line, first, numbers(rest, "stop")?),
-            _ => Err(format!("`{first}` is none of stops, table, selection, rules, bound, start")),
+            _ => Err(format!("`{first}` is none of stops, table, charges, selection, rules, bound, start")),
         }
     }
 
     /// `end` is the text's last line, where what is missing is missed.
     fn job(self, end: usize) -> Result<Parsed, Fault> {
         let stops = there(self.stops, "stops", end)?;
-        let table = there(self.table, "table", end)?;
+        let rows = there(self.table, "table", end)?;
+        let charges = self.charges.unwrap_or(At { line: rows.line, value: None });
         let selection = there(self.selection, "selection", end)?;
         let rules = there(self.rules, "rules", end)?;
         let bound = there(self.bound, "bound", end)?;
         let start = self.start.unwrap_or(At { line: end, value: Vec::new() });
-        let side = stops.value as usize + 1;
-        if let Some(row) = table.value.iter().find(|row| row.value.len() != side) {
-            let what = format!("a row of {} legs, and {} stops have {side}", row.value.len(), stops.value);
-            return Err(Fault { line: row.line, what });
-        }
-        if table.value.len() != side {
-            let what = format!("a table of {} rows, and {} stops have {side}", table.value.len(), stops.value);
-            return Err(Fault { line: table.line, what });
-        }
+        let table = table::table(stops.value, &rows, &charges)?;
         Ok(Parsed {
             stops: stops.line,
-            table: table.line,
-            rows: table.value.iter().map(|row| row.line).collect(),
+            table: rows.line,
+            rows: rows.value.iter().map(|row| row.line).collect(),
+            charges: charges.line,
             choices: [selection.line, rules.line, bound.line],
             start: start.line,
             job: Job {
                 n: stops.value,
-                table: table.value.into_iter().flat_map(|row| row.value).collect(),
+                table,
                 selection: selection.value,
                 rules: rules.value,
                 bound: bound.value,
@@ -164,7 +168,7 @@ fn there<T>(place: Option<At<T>>, keyword: &str, end: usize) -> Result<At<T>, Fa
     place.ok_or_else(|| Fault { line: end, what: format!("the text ends without `{keyword}`") })
 }
 
-fn numbers<T: FromStr>(words: &[&str], what: &str) -> Result<Vec<T>, String> {
+pub fn numbers<T: FromStr>(words: &[&str], what: &str) -> Result<Vec<T>, String> {
     let of = |word: &&str| word.parse().map_err(|_| format!("`{word}` is no number of a {what}"));
     words.iter().map(of).collect()
 }

@@ -73,11 +73,17 @@ fn faults_name_their_lines() {
     assert_eq!(fault(""), "line 1: the text ends without `stops`");
     assert_eq!(fault(&with(2, "stops two")), "line 2: `two` is not the number of stops");
     assert_eq!(fault(&with(2, "stops")), "line 2: the number of stops is one number");
-    assert_eq!(fault(&with(2, "stop 2")), "line 2: `stop` is none of stops, table, selection, rules, bound, start");
+    assert_eq!(
+        fault(&with(2, "stop 2")),
+        "line 2: `stop` is none of stops, table, charges, selection, rules, bound, start"
+    );
     assert_eq!(fault(&with(1, "stops 2")), "line 2: `stops` stands on line 1 already");
     assert_eq!(fault(&with(3, "table 0 3 4")), "line 3: the table's rows begin on the line behind `table`");
-    assert_eq!(fault(&with(1, "0 3 4")), "line 1: `0` is none of stops, table, selection, rules, bound, start");
-    assert_eq!(fault(&with(5, "5 0")), "line 5: a row of 2 legs, and 2 stops have 3");
+    assert_eq!(
+        fault(&with(1, "0 3 4")),
+        "line 1: `0` is none of stops, table, charges, selection, rules, bound, start"
+    );
+    assert_eq!(fault(&with(5, "5 0")), "line 5: a row of 2 entries, and 2 stops have 3");
     assert_eq!(fault(&with(6, "")), "line 3: a table of 2 rows, and 2 stops have 3");
     assert_eq!(fault(&with(4, "0 3 4294967296")), "line 4: `4294967296` is no number of a leg");
     assert_eq!(fault(&with(4, "0 3 -4")), "line 4: `-4` is no number of a leg");

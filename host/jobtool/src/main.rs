@@ -21,7 +21,7 @@ mod plan;
 use std::io::{self, Read, Write};
 use std::process::ExitCode;
 
-use gondamuy::{first_order, raw, read, FirstOrder, Refusal, LONGEST_FILE};
+use gondamuy::{first_order, raw, read, Contents, FirstOrder, Refusal, LONGEST_FILE};
 use jobtext::{parse, text, Job, Parsed};
 
 const USAGE: &str = "\
@@ -90,8 +90,17 @@ fn with_first(bytes: &[u8]) -> Result<(Job, FirstOrder), String> {
 
 /// Two lines. Each begins with `first`, so that nobody takes it for a line that `plan` prints.
 fn first_of(bytes: &[u8]) -> Result<Vec<u8>, String> {
-    let (_, first) = with_first(bytes)?;
-    Ok(format!("first cost {}\nfirst order{}\n", first.cost, flown(first.order())).into_bytes())
+    let (job, first) = with_first(bytes)?;
+    let cost = with_landings(first.cost, &job);
+    Ok(format!("first cost {cost}\nfirst order{}\n", flown(first.order())).into_bytes())
+}
+
+/// What an order costs, and where landings are charged, what of it they are (request A.4).
+fn with_landings(cost: u32, job: &Job) -> String {
+    match job.landings() {
+        0 => cost.to_string(),
+        landings => format!("{cost}, {landings} of it landings"),
+    }
 }
 
 /// The stops of an order, a space in front of each.
@@ -106,10 +115,13 @@ fn started(bytes: &[u8]) -> Result<Vec<u8>, String> {
 
 fn text_of(file: &[u8]) -> Result<Vec<u8>, String> {
     let contents = read(file).map_err(|refusal| refusal.to_string())?;
+    Ok(text(&job_of(&contents)).into_bytes())
+}
+
+/// The job of a file as `jobtext` has it.
+fn job_of(contents: &Contents) -> Job {
     let raw::Job { n, selection, rules, bound } = contents.job.into();
-    let (table, start) = (contents.table().to_vec(), contents.start().to_vec());
-    let job = Job { n, table, selection, rules, bound, start };
-    Ok(text(&job).into_bytes())
+    Job { n, table: contents.table().to_vec(), selection, rules, bound, start: contents.start().to_vec() }
 }
 
 fn in_words(number: u32) -> Vec<u8> {

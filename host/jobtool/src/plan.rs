@@ -4,7 +4,7 @@
 use gondamuy::{plan_records, raw, read, Counts, Plan, Planned, Record, Refusal, Refused, Stopped, NO_BUDGET};
 use jobtext::Job;
 
-use crate::{at_line, flown, parsed};
+use crate::{at_line, flown, job_of, parsed, with_landings};
 
 /// As many records as the pool of the program `plan` has.
 const RECORDS: u64 = 2_000;
@@ -61,25 +61,27 @@ pub fn planned(job: &[u8], asked: &Asked) -> Result<Vec<u8>, String> {
         true => of_file(job, asked),
         false => of_text(job, asked),
     };
-    answer.map(|planned| in_words(&planned).into_bytes())
+    answer.map(|(job, planned)| in_words(&job, &planned).into_bytes())
 }
 
-fn of_file(file: &[u8], asked: &Asked) -> Result<Planned, String> {
+fn of_file(file: &[u8], asked: &Asked) -> Result<(Job, Planned), String> {
     let taken = "the input was taken for a job file, since it holds a zero byte";
     let contents = read(file).map_err(|refusal| format!("{refusal}\n{taken}"))?;
     let (table, start) = (contents.table(), contents.start());
-    plan_records(contents.job, table, start, asked.budget, &mut asked.pool()?).map_err(|refused| refusal(&refused))
+    let planned = plan_records(contents.job, table, start, asked.budget, &mut asked.pool()?);
+    planned.map(|planned| (job_of(&contents), planned)).map_err(|refused| refusal(&refused))
 }
 
-fn of_text(text: &[u8], asked: &Asked) -> Result<Planned, String> {
+fn of_text(text: &[u8], asked: &Asked) -> Result<(Job, Planned), String> {
     let parsed = parsed(text)?;
     let Job { n, ref table, selection, rules, bound, ref start } = parsed.job;
     let job = raw::Job { n, selection, rules, bound };
     let report = raw::plan_records(job, table, start, asked.budget, &mut asked.pool()?);
-    Planned::try_from(report).map_err(|refused| match refused.refusal {
+    let planned = Planned::try_from(report).map_err(|refused| match refused.refusal {
         Refusal::Pool | Refusal::Full => refusal(&refused),
         of_the_text => at_line(&parsed, of_the_text),
-    })
+    })?;
+    Ok((parsed.job, planned))
 }
 
 /// A refusal that no line of a text is to blame for; that of a full pool with what was searched before.
@@ -90,25 +92,25 @@ fn refusal(refused: &Refused) -> String {
     }
 }
 
-fn in_words(planned: &Planned) -> String {
+fn in_words(job: &Job, planned: &Planned) -> String {
     match planned {
-        Planned::Finished(plan) => finished(plan),
-        Planned::Stopped(answer) => stopped(answer),
+        Planned::Finished(plan) => finished(job, plan),
+        Planned::Stopped(answer) => stopped(job, answer),
     }
 }
 
-fn finished(plan: &Plan) -> String {
+fn finished(job: &Job, plan: &Plan) -> String {
     let Plan { cost, counts: done, .. } = plan;
-    let order = flown(plan.order());
+    let (cost, order) = (with_landings(*cost, job), flown(plan.order()));
     format!("finished after {}\na cheapest order costs {cost}:{order}\n{}\n", branchings(done), counts(done))
 }
 
-fn stopped(answer: &Stopped) -> String {
+fn stopped(job: &Job, answer: &Stopped) -> String {
     let Stopped { floor, counts: done, .. } = answer;
     let known = match (answer.known, answer.far_off()) {
         (Some(known), Some(off)) => format!(
             "the order known so far costs {}:{}\nanother order saves {off} at most\n",
-            known.cost,
+            with_landings(known.cost, job),
             flown(known.order())
         ),
         _ => "no order is known so far\n".to_string(),

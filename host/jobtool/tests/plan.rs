@@ -2,8 +2,8 @@
 
 mod common;
 
-use common::{bytes, run, string, NAMES};
-use jobtext::parse;
+use common::{bytes, landings_of, run, string, NAMES};
+use jobtext::{parse, Job};
 use witness::job_file::Contents;
 use witness::{Report, Request, LARGEST_BUDGET, WORDS};
 
@@ -82,7 +82,7 @@ fn refused_texts() {
     let no_pool = "refused 6: the pool has no whole record, or a part record\n";
     assert_eq!(plan(&["records", "0"], case_b().as_bytes()).unwrap_err(), no_pool);
     for words in [&[][..], &["budget", "0"], &["records", "0"]] {
-        let leg = "line 3: refused 3: a leg is above 1,000,000 or a diagonal entry is not 0\n";
+        let leg = "line 3: refused 3: a leg is above 1,000,000 or a landing charge is above 100,000\n";
         assert_eq!(refused("0 4 7 9", "0 4 7 1000001", words), leg);
         assert!(refused("FIFO", "4", words).starts_with("line 7: refused 4:"));
         assert!(refused("plain\n", "plain\nstart 2 2 1\n", words).starts_with("line 10: refused 5:"));
@@ -118,11 +118,11 @@ fn a_zero_byte_makes_a_job_file() {
 }
 
 /// What the second planner says of a sample's job, in 2,000 records.
-fn told(name: &str, budget: u64) -> (Report, u32) {
+fn told(name: &str, budget: u64) -> (Report, Job) {
     let job = parse(&string(name, "txt")).unwrap().job;
     let contents = Contents::from(&job);
     let request = Request { budget, ..contents.request() };
-    (witness::plan(&request, &mut vec![0; 2_000 * WORDS]), job.n)
+    (witness::plan(&request, &mut vec![0; 2_000 * WORDS]), job)
 }
 
 /// Texts and files, without a budget and stopped, as the second planner has them.
@@ -130,15 +130,18 @@ fn told(name: &str, budget: u64) -> (Report, u32) {
 fn samples() {
     for name in NAMES {
         for budget in [0, 1, 60, LARGEST_BUDGET] {
-            let (report, n) = told(name, budget);
+            let (report, job) = told(name, budget);
+            let landings = landings_of(&job);
             let number = budget.to_string();
             let words = if budget == LARGEST_BUDGET { vec![] } else { vec!["budget", &number] };
             let said = plan(&words, &bytes(name, "job"));
             assert_eq!(plan(&words, &bytes(name, "txt")), said, "{name} {budget}");
-            let stops: String = report.order[..n as usize].iter().map(|stop| format!(" {stop}")).collect();
+            let stops: String = report.order[..job.n as usize].iter().map(|stop| format!(" {stop}")).collect();
             let Report { cost, floor, branched, .. } = report;
             let begins = match (report.number, report.mark) {
-                (0, 0) => format!("finished after {branched} branchings\na cheapest order costs {cost}:{stops}\n"),
+                (0, 0) => {
+                    format!("finished after {branched} branchings\na cheapest order costs {cost}{landings}:{stops}\n")
+                }
                 (0, _) => format!(": the budget is spent\nno order costs less than {floor}\n"),
                 _ => format!("refused {}", report.number),
             };
@@ -147,7 +150,7 @@ fn samples() {
                 _ => said.unwrap_err(),
             };
             assert!(text.contains(&begins), "{name} {budget}: {text}");
-            let shown = format!("\nthe order known so far costs {cost}:{stops}\n");
+            let shown = format!("\nthe order known so far costs {cost}{landings}:{stops}\n");
             assert_eq!(text.contains(&shown), report.mark == 1 && report.order[0] != 0, "{name} {budget}: {text}");
             let [branched, generated, eliminated, active, most] = report.counts();
             let counts = format!(

@@ -2,7 +2,7 @@
 
 mod common;
 
-use common::{run, string, NAMES};
+use common::{landings_of, run, string, NAMES};
 use jobtext::{parse, Job};
 
 const TEXT: &str = "stops 2\ntable\n0 3 4\n5 0 6\n7 8 0\nselection LIFO\nrules U/DBAS DB/AS\nbound close\nstart 2 1\n";
@@ -28,9 +28,9 @@ fn refused_jobs() {
     let refused = |old, new| write(&TEXT.replace(old, new)).unwrap_err();
     assert_eq!(
         refused("0 3 4", "0 3 1000001"),
-        "line 3: refused 3: a leg is above 1,000,000 or a diagonal entry is not 0\n"
+        "line 3: refused 3: a leg is above 1,000,000 or a landing charge is above 100,000\n"
     );
-    assert!(refused("7 8 0", "7 8 1").starts_with("line 5: refused 3:"));
+    assert!(refused("7 8 0", "7 1000001 0").starts_with("line 5: refused 3:"));
     assert!(refused("LIFO", "4").starts_with("line 6: refused 4:"));
     assert!(refused("U/DBAS DB/AS", "16").starts_with("line 7: refused 4:"));
     assert!(refused("close", "2").starts_with("line 8: refused 4:"));
@@ -67,9 +67,9 @@ fn refused_first_orders() {
     for more in [&[][..], &["start"]] {
         let refused = |old, new| first(more, &TEXT.replace(old, new)).unwrap_err();
         assert_eq!(refused("5 0 6", "5 0 1000001"), format!("line 4: {}\n", gondamuy::Refusal::Leg));
-        assert!(refused("7 8 0", "7 8 1").starts_with("line 5: refused 3:"));
+        assert!(refused("7 8 0", "7 1000001 0").starts_with("line 5: refused 3:"));
         assert_eq!(first(more, &many).unwrap_err(), format!("line 1: {}\n", gondamuy::Refusal::Stops));
-        assert_eq!(refused("5 0 6", "5 0"), "line 4: a row of 2 legs, and 2 stops have 3\n");
+        assert_eq!(refused("5 0 6", "5 0"), "line 4: a row of 2 entries, and 2 stops have 3\n");
     }
 }
 
@@ -82,7 +82,9 @@ fn first_orders_of_the_samples() {
         let told = witness::first_order(job.n.into(), &job.table);
         let stops = &told.order[..job.n as usize];
         let line: String = stops.iter().map(|stop| format!(" {stop}")).collect();
-        assert_eq!(first(&[], &text).unwrap(), format!("first cost {}\nfirst order{line}\n", told.cost), "{name}");
+        let landings = landings_of(&job);
+        let cost = told.cost;
+        assert_eq!(first(&[], &text).unwrap(), format!("first cost {cost}{landings}\nfirst order{line}\n"), "{name}");
         let started = first(&["start"], &text).unwrap();
         let start = stops.iter().map(|&stop| stop as u8).collect();
         assert_eq!(parse(&started).unwrap().job, Job { start, ..job }, "{name}");

@@ -6,7 +6,9 @@ use std::io::Write;
 use std::path::{Path, PathBuf};
 use std::process::{Command, Stdio};
 
-pub const NAMES: [&str; 5] = ["case-a", "office", "office-full", "pilot", "pilot-first"];
+use jobtext::Job;
+
+pub const NAMES: [&str; 6] = ["case-a", "office", "office-full", "pilot", "pilot-first", "strips"];
 
 pub fn folder() -> PathBuf {
     Path::new(env!("CARGO_MANIFEST_DIR")).join("../../jobs/samples")
@@ -19,6 +21,14 @@ pub fn bytes(name: &str, kind: &str) -> Vec<u8> {
 
 pub fn string(name: &str, kind: &str) -> String {
     String::from_utf8(bytes(name, kind)).unwrap()
+}
+
+/// What is told behind a cost: the part of it that is landings, where any are charged.
+pub fn landings_of(job: &Job) -> String {
+    match job.charges().sum() {
+        0u32 => String::new(),
+        landings => format!(", {landings} of it landings"),
+    }
 }
 
 /// What the tool writes, or what it complains of with a status of failure.
