@@ -1,7 +1,8 @@
 //! The proved planner against the second planner: every field of the report and every word of the pool, over random
-//! jobs of many kinds, without a starting order and with one, at times the first order of request A.1. Most are planned
-//! without a budget and, in the same pool, within one (request A.3), and then the two reports are held to each other as
-//! well; `large_jobs_within_a_budget` has those that are planned within one alone.
+//! jobs of many kinds, half of them with landing charges (request A.4), without a starting order and with one, at times
+//! the first order of request A.1. Most are planned without a budget and, in the same pool, within one (request A.3),
+//! and then the two reports are held to each other as well; `large_jobs_within_a_budget` has those that are planned
+//! within one alone.
 
 mod common;
 
@@ -169,6 +170,16 @@ fn pilots_of_twelve_stops() {
     }
 }
 
+/// A leg or a charge too dear in a table of n stops, whatever length it has been given: in half of the cases the least
+/// charge that is, home's or a stop's.
+fn spoil_number(random: &mut Random, table: &mut [u32], n: usize) {
+    let charged: Vec<usize> = (0..=n).map(|place| place * (n + 2)).filter(|&at| at < table.len()).collect();
+    match random.below(2) {
+        0 => table[random.below(table.len() as u64) as usize] = random.pick(&[1_000_001, u32::MAX]),
+        _ => table[random.pick(&charged)] = 100_001,
+    }
+}
+
 /// Each cause by itself and several at once: the lowest number, whatever the budget, and the pool untouched.
 #[test]
 fn every_refusal() {
@@ -187,8 +198,7 @@ fn every_refusal() {
             job.table.resize(random.pick(&[0, 1, len - 1, len + 1]), 0);
         }
         if faults & 4 != 0 && !job.table.is_empty() {
-            let at = random.below(job.table.len() as u64) as usize;
-            job.table[at] = random.pick(&[1_000_001, u32::MAX]);
+            spoil_number(&mut random, &mut job.table, n);
         }
         if faults & 8 != 0 {
             match random.below(3) {

@@ -1,8 +1,8 @@
 //! The first order (request A.1): every field against the second planner's, and what `plan` makes of it as a starting
 //! order:
 //!
-//! - 60,000 tables of 1 to 6 stops and 20,000 of 7 to 16, most of them with so few values that ties are common, and the
-//!   dearest table;
+//! - 60,000 tables of 1 to 6 stops and 20,000 of 7 to 16, half of them with landing charges (request A.4), most of them
+//!   with so few values that ties are common, and the dearest table;
 //! - 128,000 calls with causes 1 to 3, each in half of them and in every mixture, where the number is known beforehand;
 //! - 20,000 plans of 1 to 6 stops under all choices and 100 of 7 to 16 in the pilot's way, each with and without it.
 
@@ -10,7 +10,7 @@ mod common;
 
 use std::ops::RangeInclusive;
 
-use common::{any_job, some_of, spoil_length, spoil_stops, spoil_table};
+use common::{any_job, maybe_charged, some_of, spoil_length, spoil_stops, spoil_table};
 use gondamuy::raw::{first_order, plan, FirstOrder, Job, Report};
 use gondamuy::{NO_BUDGET, RECORD_WORDS};
 use samples::{level, nearest, Random};
@@ -24,12 +24,13 @@ fn compare(n: u32, table: &[u32]) -> FirstOrder {
     ours
 }
 
-/// Legs of few values, but for the last two kinds.
+/// Legs of few values, but for the last two kinds, and in half of the tables charges.
 fn any_table(random: &mut Random, n: usize) -> Vec<u32> {
-    match random.below(9) {
+    let table = match random.below(9) {
         0..=2 => random.few_free(n),
         kind => random.table(n, 0, [0, 1, 2, 3, 1_000, 1_000_000][kind as usize - 3]),
-    }
+    };
+    maybe_charged(random, n, table)
 }
 
 /// Compares over so many tables of some sizes, and counts those where stops of the nearest-stop order were exchanged.
@@ -57,9 +58,15 @@ fn up_to_sixteen_stops() {
 }
 
 #[test]
-fn dearest_legs() {
-    let first = compare(16, &level(16, 1_000_000));
+fn dearest_legs_and_charges() {
+    let mut table = level(16, 1_000_000);
+    let first = compare(16, &table);
     assert_eq!((first.number, first.cost), (0, 17_000_000));
+    for place in 0..=16 {
+        table[place * 18] = 100_000;
+    }
+    let first = compare(16, &table);
+    assert_eq!((first.number, first.cost), (0, 18_700_000));
 }
 
 #[test]
@@ -117,7 +124,9 @@ fn as_a_pilots_starting_order() {
     for n in 7..=16 {
         for _ in 0..10 {
             let job = Job { n, selection: 3, rules: 1, bound: 1 };
-            let (with, without) = started(job, &random.table(n as usize, 1, 1_000), 150);
+            let table = random.table(n as usize, 1, 1_000);
+            let table = maybe_charged(&mut random, n as usize, table);
+            let (with, without) = started(job, &table, 150);
             assert!(with.most < 100, "{}", with.most);
             fewer += (with.branched < without.branched) as u32;
         }

@@ -1,5 +1,6 @@
 //! The proved reader against the second reader, every field and every place
-//! of what it hands back, over 337,000 files:
+//! of what it hands back, over 337,000 files, half of whose jobs have landing
+//! charges (request A.4):
 //!
 //! - 16,000 valid ones, 1 to 16 stops, half of them with a starting order;
 //! - 29,600 cut, at every length and from either end;

@@ -10,6 +10,9 @@ pub struct Random(pub u64);
 /// Least and dearest leg, the kinds with many ties first, the widest last.
 pub const KINDS: [(u32, u32); 6] = [(0, 2), (1, 1), (0, 0), (0, 1), (1, 12), (0, 1_000_000)];
 
+/// The dearest landing charge of each kind, those like small legs first.
+const CHARGES: [u32; 5] = [1, 3, 12, 1_000, 100_000];
+
 impl Random {
     pub fn draw(&mut self) -> u64 {
         self.0 = self.0.wrapping_add(0x9E37_79B9_7F4A_7C15);
@@ -52,6 +55,16 @@ impl Random {
         table(n, || self.pick(&[0, 2, 2, 2, 2, 2, 2, 3]))
     }
 
+    /// A table with landing charges on its diagonal, home's too (request A.4); about one place in four asks for none.
+    pub fn with_charges(&mut self, n: usize, mut table: Vec<u32>) -> Vec<u32> {
+        let most = self.pick(&CHARGES);
+        for place in 0..=n {
+            let charge = self.below(most as u64 + 1) as u32;
+            table[place * (n + 2)] = self.pick(&[0, charge, charge, charge]);
+        }
+        table
+    }
+
     /// The stops 1 to n, shuffled.
     pub fn order<S: From<u8>>(&mut self, n: usize) -> Vec<S> {
         let mut order: Vec<S> = (1..=n as u8).map(S::from).collect();
@@ -62,7 +75,7 @@ impl Random {
     }
 }
 
-/// The diagonal 0, the legs as they come, row by row.
+/// No charges on the diagonal, the legs as they come, row by row.
 fn table(n: usize, mut leg: impl FnMut() -> u32) -> Vec<u32> {
     (0..(n + 1) * (n + 1)).map(|k| if k % (n + 2) == 0 { 0 } else { leg() }).collect()
 }
@@ -72,13 +85,15 @@ pub fn level(n: usize, leg: u32) -> Vec<u32> {
     table(n, || leg)
 }
 
-/// The nearest-stop order: from each place to the stop left whose leg is cheapest, the lowest of several.
+/// The nearest-stop order: from each place to the stop left that is cheapest to fly to and land at, the lowest of
+/// several.
 pub fn nearest(n: usize, table: &[u32]) -> Vec<u8> {
+    let flying = |from: usize, to: usize| table[from * (n + 1) + to] + table[to * (n + 2)];
     let mut left: Vec<u8> = (1..=n as u8).collect();
     let mut place = 0;
     let mut order = Vec::new();
     while !left.is_empty() {
-        let at = (0..left.len()).min_by_key(|&k| table[place * (n + 1) + left[k] as usize]).unwrap();
+        let at = (0..left.len()).min_by_key(|&k| flying(place, left[k] as usize)).unwrap();
         let stop = left.remove(at);
         place = stop as usize;
         order.push(stop);

@@ -35,9 +35,19 @@ pub fn first_stops(n: usize, table: &[u32]) -> Vec<u8> {
     raw::first_order(n as u32, table).order[..n].to_vec()
 }
 
-/// A job of n stops that every check lets pass: in half of the cases from the first order, else from none or from any.
+/// The table as it is or with landing charges, as often the one as the other.
+pub fn maybe_charged(random: &mut Random, n: usize, table: Vec<u32>) -> Vec<u32> {
+    match random.below(2) {
+        0 => table,
+        _ => random.with_charges(n, table),
+    }
+}
+
+/// A job of n stops that every check lets pass: in half of the cases with landing charges, and in half of them from the
+/// first order, else from none or from any.
 pub fn random_job(random: &mut Random, n: usize, most: u32) -> Job {
     let table = random.table(n, 0, most);
+    let table = maybe_charged(random, n, table);
     let start = match random.below(4) {
         0 => Vec::new(),
         1 => random.order(n),
@@ -87,7 +97,7 @@ pub fn spoil_length(random: &mut Random, job: &mut Job) {
     job.table.resize(random.pick(&[0, 1, legs - 1, legs + 1, 2 * legs]), 0);
 }
 
-/// Number 3: a leg too dear, or a diagonal entry that is not 0.
+/// Number 3: a number too dear for a leg, or a landing charge that is, home's or a stop's.
 pub fn spoil_table(random: &mut Random, job: &mut Job) {
     let side = job.n as usize + 1;
     if random.below(2) == 0 {
@@ -95,7 +105,7 @@ pub fn spoil_table(random: &mut Random, job: &mut Job) {
         job.table[at] = random.pick(&[1_000_001, 1 << 24, u32::MAX]);
     } else {
         let at = random.below(side as u64) as usize;
-        job.table[at * (side + 1)] = random.pick(&[1, 256, 1 << 16, 1_000_000]);
+        job.table[at * (side + 1)] = random.pick(&[100_001, 100_002, 1 << 17, 1_000_000]);
     }
 }
 

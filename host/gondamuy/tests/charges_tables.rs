@@ -1,0 +1,123 @@
+//! What landing charges change (request A.4), over random days, each planned with its charges and in two other ways by the
+//! same library:
+//!
+//! - with the charges put into the legs instead, all is the same: 20,000 days under all choices, within a budget or none,
+//!   every field and every word of the pool, and their first orders;
+//! - without the charges, a finished search has the same cost less every landing: 20,000 days;
+//! - without them and under the close bound, costs are all that differs, in the pool too: 10,000 days.
+
+mod common;
+
+use common::{choices, random_job};
+use gondamuy::raw::{first_order, plan, Report};
+use gondamuy::{NO_BUDGET, RECORD_WORDS};
+use jobtext::Job;
+use samples::Random;
+
+/// A day of 1 to 6 stops with charges, half of them from a starting order.
+fn charged_job(random: &mut Random, most: u32) -> Job {
+    let n = 1 + random.below(6) as usize;
+    let mut job = random_job(random, n, most);
+    job.table = random.with_charges(n, job.table);
+    job
+}
+
+/// The same day without its charges.
+fn uncharged(job: &Job) -> Job {
+    let places = job.n as usize + 2;
+    let leg = |(k, &number)| if k % places == 0 { 0 } else { number };
+    Job { table: job.table.iter().enumerate().map(leg).collect(), ..job.clone() }
+}
+
+/// The same day with each charge put into the legs that land there.
+fn folded(job: &Job) -> Job {
+    let side = job.n as usize + 1;
+    let charges: Vec<u32> = job.charges().collect();
+    let flying = |(k, &leg): (usize, &u32)| if k % (side + 1) == 0 { 0 } else { leg + charges[k % side] };
+    Job { table: job.table.iter().enumerate().map(flying).collect(), ..job.clone() }
+}
+
+/// The report, and the words of a pool of so many records.
+fn planned(job: &Job, budget: u64, records: usize) -> (Report, Vec<u32>) {
+    let mut pool = vec![1; records * RECORD_WORDS];
+    let report = plan(choices(job), &job.table, &job.start, budget, &mut pool);
+    (report, pool)
+}
+
+fn landings(job: &Job) -> u32 {
+    job.charges().sum()
+}
+
+#[test]
+fn charges_put_into_the_legs() {
+    let mut random = Random(101);
+    let mut seen = [0; 8];
+    let mut stopped = 0;
+    for _ in 0..20_000 {
+        let most = random.pick(&[0, 1, 9, 1_000, 900_000]);
+        let job = charged_job(&mut random, most);
+        let budget = random.pick(&[0, 3, 20, NO_BUDGET, NO_BUDGET]);
+        let records = random.pick(&[1, 9, 40, 2_100]);
+        let (report, pool) = planned(&job, budget, records);
+        assert_eq!((report, pool), planned(&folded(&job), budget, records), "{job:?}");
+        assert_eq!(first_order(job.n, &job.table), first_order(job.n, &folded(&job).table), "{job:?}");
+        seen[report.number as usize] += 1;
+        stopped += report.mark;
+    }
+    assert!(seen[0] > 5_000 && seen[7] > 2_000 && stopped > 2_000, "{seen:?} {stopped}");
+}
+
+/// The legs of an order, from home to home.
+fn legs(job: &Job, order: &[u8]) -> u32 {
+    let places: Vec<usize> = [&[0], order, &[0]].concat().into_iter().map(usize::from).collect();
+    places.windows(2).map(|pair| job.table[pair[0] * (job.n as usize + 1) + pair[1]]).sum()
+}
+
+#[test]
+fn every_landing_is_paid_once() {
+    let mut random = Random(102);
+    for _ in 0..20_000 {
+        let most = random.pick(&[0, 1, 9, 1_000, 1_000_000]);
+        let job = charged_job(&mut random, most);
+        let (with, _) = planned(&job, NO_BUDGET, 2_100);
+        let (without, _) = planned(&uncharged(&job), NO_BUDGET, 2_100);
+        assert!(with.is_finished() && without.is_finished(), "{job:?}");
+        assert_eq!(with.cost, without.cost + landings(&job), "{job:?}");
+        assert_eq!(with.cost, legs(&job, &with.order[..job.n as usize]) + landings(&job), "{job:?}");
+        let first = first_order(job.n, &job.table);
+        assert_eq!(first.cost, legs(&job, &first.order[..job.n as usize]) + landings(&job), "{job:?}");
+    }
+}
+
+/// A record with the charges of its stops in its path cost, and every landing in its bound.
+fn with_landings(job: &Job, record: &[u32]) -> Vec<u32> {
+    let stops = job.charges().skip(1).enumerate().filter(|(bit, _)| record[1] >> bit & 1 == 1);
+    let path: u32 = stops.map(|(_, charge)| charge).sum();
+    vec![record[0], record[1], record[2] + path, record[3] + landings(job), record[4], record[5]]
+}
+
+/// Every node's close bound rises by all landings, and so does every order's cost: no choice falls otherwise.
+#[test]
+fn close_searches_take_the_same_steps() {
+    let mut random = Random(103);
+    let mut seen = [0; 8];
+    for _ in 0..10_000 {
+        let most = random.pick(&[0, 1, 9, 1_000, 1_000_000]);
+        let job = Job { bound: 1, ..charged_job(&mut random, most) };
+        let budget = random.pick(&[0, 3, 20, NO_BUDGET]);
+        let records = random.pick(&[1, 9, 2_100]);
+        let (with, charged) = planned(&job, budget, records);
+        let (without, mut pool) = planned(&uncharged(&job), budget, records);
+        let raised = |cost, is_told| if is_told { cost + landings(&job) } else { 0 };
+        let cost = raised(without.cost, without.order[0] != 0);
+        let floor = raised(without.floor, without.mark == 1);
+        assert_eq!(with, Report { cost, floor, ..without }, "{job:?}");
+        let branched = if job.rules & 4 != 0 { without.branched } else { 0 };
+        for record in pool.chunks_mut(RECORD_WORDS).take((without.active + branched) as usize) {
+            record.copy_from_slice(&with_landings(&job, record));
+        }
+        assert_eq!(charged, pool, "{job:?}");
+        seen[with.number as usize] += 1;
+    }
+    assert!(seen[0] > 5_000 && seen[7] > 1_000, "{seen:?}");
+}
