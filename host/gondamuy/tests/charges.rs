@@ -65,8 +65,8 @@ fn close_bounds_pay_every_landing() {
     assert_eq!((after.floor, pool.map(|record| record.path)), (10 + LANDINGS, [14, 27, 39]));
 }
 
-/// Both orders have the same legs, so that no exchange is made: the nearest stop alone decides. It is stop 1 by the legs,
-/// and stop 2 where a landing at stop 1 takes away more than its leg saves; at a tie the lower number.
+/// Both orders' legs cost the same, so that no exchange is made: the nearest stop alone decides. By the legs it is stop
+/// 1; it is stop 2 where landing at stop 1 costs more than its leg saves; at a tie the lower number.
 #[test]
 fn the_nearest_stop_is_landed_at() {
     let legs = [0, 1, 2, 2, 0, 2, 2, 1, 0];

@@ -1,10 +1,10 @@
-//! What landing charges change (request A.4), over random days, each planned with its charges and in two other ways by the
-//! same library:
+//! What landing charges change (request A.4), over random days of 1 to 6 stops under all choices. The same library
+//! plans each of them twice:
 //!
-//! - with the charges put into the legs instead, all is the same: 20,000 days under all choices, within a budget or none,
-//!   every field and every word of the pool, and their first orders;
-//! - without the charges, a finished search has the same cost less every landing: 20,000 days;
-//! - without them and under the close bound, costs are all that differs, in the pool too: 10,000 days.
+//! - with its charges and with them put into the legs: the same, to the last word of the pool, for 20,000 days, within
+//!   a budget or none, and for their first orders;
+//! - with its charges and without: the same cost but for every landing, for 20,000 finished searches; and the same
+//!   counts and orders under the close bound, costs alone being higher, in the pool too, for 10,000 days.
 
 mod common;
 
@@ -14,7 +14,7 @@ use gondamuy::{NO_BUDGET, RECORD_WORDS};
 use jobtext::Job;
 use samples::Random;
 
-/// A day of 1 to 6 stops with charges, half of them from a starting order.
+/// A day of 1 to 6 stops with charges.
 fn charged_job(random: &mut Random, most: u32) -> Job {
     let n = 1 + random.below(6) as usize;
     let mut job = random_job(random, n, most);

@@ -1,5 +1,5 @@
-//! The worked calls of host/vectors, for document 01 with requests A.1 to A.4: every field of the answers and, by its hash,
-//! every word of the pool. `.ci/jobs` holds the program `plan` to the files.
+//! The worked calls of host/vectors, for document 01 with requests A.1 to A.4: every field of the answers and, by its
+//! hash, every word of the pool. `.ci/jobs` holds the program `plan` to the files.
 
 use gondamuy::raw::{first_order, plan, read, FirstOrder, Job, Report};
 use gondamuy::{LONGEST_FILE, NO_BUDGET, RECORD_WORDS};
