@@ -76,21 +76,20 @@ fn the_nearest_stop_is_landed_at() {
     }
 }
 
+/// Seventeen flights of 1,100,000. All close bounds are equal, and the latest of equals leads straight to an order; under
+/// plain the latest generated does.
 #[test]
 fn the_dearest_day() {
     let table = charged(&level(16, DEAREST_LEG), &[DEAREST_CHARGE; 17]);
     assert_eq!(first_order(16, &table).unwrap().cost, 18_700_000);
-    for bound in [Bound::Plain, Bound::Close] {
-        let job = gondamuy::Job { n: 16, selection: Selection::LeastBoundLatest, rules: Rules::ALL, bound };
-        let mut pool = vec![Record::default(); 20_000];
-        let start: Vec<u8> = (1..=16).collect();
-        let planned = plan_records(job, &table, &start, 1_000, &mut pool).unwrap();
-        let cost = match planned {
-            Planned::Finished(plan) => plan.cost,
-            Planned::Stopped(stopped) => stopped.known.unwrap().cost,
-        };
-        assert_eq!(cost, 18_700_000, "{bound:?}");
-    }
+    let job = gondamuy::Job { n: 16, selection: Selection::LeastBoundLatest, bound: Bound::Close, ..FIFO_PLAIN };
+    let mut pool = [Record::default(); 121];
+    let plan = finished(job, &table, &mut pool);
+    assert_eq!((plan.cost, plan.counts.branched), (18_700_000, 16));
+    let job = gondamuy::Job { n: 16, selection: Selection::Lifo, ..FIFO_PLAIN };
+    let Planned::Stopped(after) = plan_records(job, &table, &[], 16, &mut pool).unwrap() else { panic!() };
+    assert_eq!((after.known.unwrap().cost, after.floor), (18_700_000, 1_100_000));
+    assert_eq!(pool[120].path, 17_600_000);
 }
 
 /// What each call answers of a job of three stops: `plan`, `first_order`, `write`, and `read` of its file.
