@@ -9,7 +9,7 @@ use node_answers::Extended;
 use sizes::MOST_STOPS;
 use stops::node_record::Record;
 
-// What is added: a stop, and what the leg to it costs.
+// What is added: a stop, and what flying there costs.
 pub struct Added {
     pub stop: u32,
     pub leg: u32,

@@ -91,7 +91,7 @@ pub fn costs(pool: &[Record], i: usize, job: Job, table: &[u32]) -> Figures
     )
 }
 
-// Extends record i by a stop and its leg, where they fit.
+// Extends record i by a stop and what flying there costs, its landing included, where they fit.
 pub fn extend(pool: &mut [Record], i: usize, stop: u32, leg: u32) -> Extended
     ensures { λ r. ⌜ (r ≡ extension (isInside (now (pool .entry)) i) (recordAt (now (pool .entry)) i) stop leg) × (now (pool .exit) ≡ extendAt (now (pool .entry)) i stop leg) ⌝ }
 {
