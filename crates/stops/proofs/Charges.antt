@@ -71,7 +71,7 @@ module _
         go (inl e) = omega arith
         go (inr k) = p .only s k .1
 
-    pub path-pays : path L x ≡ path M x + sum f x
+    path-pays : path L x ≡ path M x + sum f x
     unfolding path
     path-pays = path-from-pays 0 x near home-first
 
@@ -112,13 +112,13 @@ module _
           subst (λ (l : List ℕ). least (L .home) l ≡ least (M .home) l + f 0) (sym e) homes,
         )
 
-    pub cost-pays : T (complete n x) → cost L x ≡ cost M x + (sum f x + f 0)
+    cost-pays : T (complete n x) → cost L x ≡ cost M x + (sum f x + f 0)
     unfolding cost
     cost-pays whole =
         let h = p .only (last x) (last-flown n some x whole) in
         omega (arith, path-pays, home-pays (last x) (h .0) (h .1))
 
-    pub plain-pays : plain n L x ≡ plain n M x + (sum f x + cond (complete n x) (f 0) 0)
+    plain-pays : plain n L x ≡ plain n M x + (sum f x + cond (complete n x) (f 0) 0)
     unfolding plain
     plain-pays = go (complete n x) (λ t. t)
       where
@@ -128,7 +128,7 @@ module _
         go true whole = cost-pays (whole tt)
         go false whole = omega (arith, path-pays)
 
-    pub close-pays : close n L x ≡ close n M x + sum f (from 0 (suc n))
+    close-pays : close n L x ≡ close n M x + sum f (from 0 (suc n))
     unfolding close
     close-pays = go (complete n x) refl (left n x) refl
       where

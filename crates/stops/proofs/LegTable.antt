@@ -1,7 +1,6 @@
 -- Rows, and the legs that they give.
 --   leg-in-rows      from i to j rows have the cost that they were made of, for places up to n; leg-outside: other legs are 0
 --   leg-flying       the planner's have the table's leg and the charge of j; leg-itself: so from a place to itself its charge twice
---   leg-alone        document 01's have the leg alone
 --   entry-small      no number of the table is above the dearest leg, where it is priced
 --   rows-cheap       no leg of the planner's rows is above the dearest, if so
 use mathlib.Core.Path.{_≡_, ap, _∙_}
@@ -16,7 +15,7 @@ use Rattle.sizes.specs.Sizes.{mostStops, places, dearestLeg, dearest}
 use Rattle.lists.specs.Lists.{from}
 use Rattle.lists.proofs.Tests.{to-true, to-false, and-left, and-right, and-both, ordered}
 use Rattle.lists.proofs.Elements.{getD-from, getD-past, getD-small}
-use Rattle.stops.specs.Tables.{entry, charge, flying, inRows, rows, legRows}
+use Rattle.stops.specs.Tables.{entry, charge, flying, inRows, rows}
 use Rattle.stops.specs.Legs.{rowLeg, legs}
 use Rattle.stops.specs.Code.{Priced, Cheap}
 use Rattle.stops.specs.Examples
@@ -84,10 +83,6 @@ module _ (n : ℕ) (table : List ℕ) where
   pub leg-itself : n ≤ mostStops → (i : ℕ) → i ≤ n → rowLeg (rows n table) i i ≡ charge n table i + charge n table i
   unfolding charge
   leg-itself few i h = leg-flying few i i h h
-
-  pub leg-alone : n ≤ mostStops → (i j : ℕ) → i ≤ n → j ≤ n → rowLeg (legRows n table) i j ≡ entry n table i j
-  unfolding legRows
-  leg-alone few i j h k = leg-in-rows n (entry n table) few i j h k
 
   module _ (priced : Priced n table) where
     pub entry-small : (i j : ℕ) → entry n table i j ≤ dearestLeg
