@@ -77,10 +77,10 @@ module _ (n : ℕ) (table : List ℕ) where
   unfolding cause₃
   numbers-pass h = not-either (any (ltb dearestLeg) table) (any dear (from 0 (suc n))) h
 
-  legs-pass : T (not (cause₃ n table)) → (w : ℕ) → In w table → w ≤ dearestLeg
+  pub legs-pass : T (not (cause₃ n table)) → (w : ℕ) → In w table → w ≤ dearestLeg
   legs-pass h w m = nltb→le dearestLeg w (none-found (ltb dearestLeg) table (numbers-pass h .0) w m)
 
-  charges-pass : T (not (cause₃ n table)) → (j : ℕ) → j ≤ n → charge n table j ≤ dearestCharge
+  pub charges-pass : T (not (cause₃ n table)) → (j : ℕ) → j ≤ n → charge n table j ≤ dearestCharge
   charges-pass h j k =
       nltb→le dearestCharge (charge n table j)
       (none-found dear (from 0 (suc n)) (numbers-pass h .1) j (from-in 0 (suc n) j (omega arith) (omega arith)))

@@ -1,19 +1,20 @@
 -- Request A.4 beside its definitions (`charge`, `flying` and `rows` in crate `stops`, `cause₃` in `Checks`): a type for each of its sentences, as
 -- in `Demands`; proofs/ has a theorem for each.
 --   legDayOf, landings, everyLanding      a call's day by the legs alone, and what landings are charged
+--   LetsPass                              check 3
 --   PathPays, OrderPays, PlainPays, ClosePays    what is reckoned, against what the legs alone give
 --   DiagonalUnflown                       the diagonal of the rows plays no part
 --   OrderShownPays, CheapestByLegs        of a planner's answers
 --   Uncharged, answerOn, OnItsDay         a call without charges; an answer over any day, and that `answer` is such a one
 --   AsDocument01, AcceptedBefore          without charges every answer is document 01's
 use mathlib.Core.Path.{_≡_}
-use mathlib.Core.Bool.{Bool, not, _||_, cond}
+use mathlib.Core.Bool.{Bool, false, not, _||_, cond}
 use mathlib.Core.List.{List, []}
-use mathlib.Core.Logic.{_≢_}
-use Prim.Native.Nat.{ℕ, zero, suc, _+_, _≤_}
+use mathlib.Core.Logic.{_≢_, _↔_}
+use Prim.Native.Nat.{ℕ, zero, suc, _+_, _*_, _≤_}
 use lib.Dec.{ltb, eqb}
 use lib.ListN.{length}
-use Rattle.sizes.specs.Sizes.{dearestLeg}
+use Rattle.sizes.specs.Sizes.{dearestLeg, dearestCharge}
 use Rattle.lists.specs.Lists.{In, any, sum, least, from}
 use Rattle.search.specs.Problem.{Problem, Choices, State, upper, start}
 use Rattle.search.specs.Run.{Outcome, finished, stopped, full, unfinished, run}
@@ -23,9 +24,10 @@ use Rattle.stops.specs.Tables.{entry, charge, flying, inRows, legRows}
 use Rattle.stops.specs.Stops.{dayOn}
 use Rattle.records.specs.Records.{poolWords, recordsIn}
 use Rattle.answer.specs.Call.{Call, Answer, refusal}
-use Rattle.answer.specs.Checks.{cause₁, cause₂, cause₄, cause₅, cause₆, orLater, cause}
+use Rattle.answer.specs.Checks.{cause₁, cause₂, cause₃, cause₄, cause₅, cause₆, orLater, tableCause, cause}
 use Rattle.answer.specs.Answer.{dayOf, given, stopsOf, costOf, reportWith, answer}
-use Rattle.answer.specs.Ends.{Finishes, orderIn, HasOrder}
+use Rattle.answer.specs.Ends.{Finishes, orderIn}
+use Rattle.answer.specs.Budget.{ShowsOrder}
 use Rattle.answer.specs.Demands.{Planner}
 
 -- the day by the legs alone, which is document 01's
@@ -38,6 +40,16 @@ landings c places = sum (charge (c .job .n) (c .table)) places
 
 unfoldable pub everyLanding : Call → ℕ
 everyLanding c = landings c (from 0 (suc (c .job .n)))
+
+-- CHECK 3
+
+-- Of the tables with n + 1 rows of n + 1 numbers it lets just those pass whose legs, from each place to every other, are at most 1,000,000, and
+-- whose landing charges are at most 100,000.
+abbrev pub LetsPass : Type 0
+LetsPass =
+    (n : ℕ) (table : List ℕ) → length table ≡ suc n * suc n
+    → (cause₃ n table ≡ false)
+    ↔ (((i j : ℕ) → i ≤ n → j ≤ n → i ≢ j → entry n table i j ≤ dearestLeg) × ((j : ℕ) → j ≤ n → charge n table j ≤ dearestCharge))
 
 -- WHEREVER A LEG IS RECKONED WITH
 
@@ -60,15 +72,17 @@ abbrev pub ClosePays : Type 0
 ClosePays =
     (c : Call) → cause c ≡ 0 → (x : Node) → Partial (c .job .n) x → dayOf c .bound 1 x ≡ legDayOf c .bound 1 x + everyLanding c
 
--- Nobody flies from a place to itself: with whatever costs on the diagonal of the rows, a day has the same figures.
+-- Nobody flies from a place to itself: with whatever costs on the diagonal of the rows, a day has the same figures, and the same nodes dominate.
 pub record SameFigures (n : ℕ) (A B : Day) : Type 0 where
   pub paths : (x : Node) → Partial n x → A .path x ≡ B .path x
   pub bounds : (k : ℕ) (x : Node) → Partial n x → A .bound k x ≡ B .bound k x
+  pub dominances : (y z : Node) → Partial n y → Partial n z → A .dominates y z ≡ B .dominates y z
   pub orders-cost : (x : Node) → Order n x → A .cost x ≡ B .cost x
 
 abbrev pub DiagonalUnflown : Type 0
 DiagonalUnflown =
-    (c : Call) → cause c ≡ 0 → (costs : ℕ → ℕ → ℕ) → ((i j : ℕ) → i ≢ j → costs i j ≡ flying (c .job .n) (c .table) i j)
+    (c : Call) → cause c ≡ 0 → (costs : ℕ → ℕ → ℕ)
+    → ((i j : ℕ) → i ≤ c .job .n → j ≤ c .job .n → i ≢ j → costs i j ≡ flying (c .job .n) (c .table) i j)
     → SameFigures (c .job .n) (dayOn (c .job .n) (inRows (c .job .n) costs)) (dayOf c)
 
 -- WHAT COMES BACK
@@ -76,7 +90,7 @@ DiagonalUnflown =
 -- An order that a report shows, finished or stopped, costs its legs and every landing.
 abbrev pub OrderShownPays : Planner → Type 0
 OrderShownPays P =
-    (c : Call) (a : Answer) → P c a → a .report .number ≡ 0 → HasOrder c (a .report)
+    (c : Call) (a : Answer) → P c a → ShowsOrder (a .report)
     → a .report .cost ≡ legDayOf c .cost (orderIn c (a .report)) + everyLanding c
 
 -- So a finished run shows an order of the cheapest legs.
@@ -87,20 +101,27 @@ CheapestByLegs P =
 
 -- WITHOUT CHARGES
 
+abbrev pub NoCharges : ℕ → List ℕ → Type 0
+NoCharges n table = (j : ℕ) → j ≤ n → charge n table j ≡ 0
+
 abbrev pub Uncharged : Call → Type 0
-Uncharged c = (j : ℕ) → j ≤ c .job .n → charge (c .job .n) (c .table) j ≡ 0
+Uncharged c = NoCharges (c .job .n) (c .table)
 
 -- Document 01's cause 3: a leg is too dear, or an entry on the diagonal is not 0. And the number of the first cause with it.
 unfoldable pub legCause₃ : ℕ → List ℕ → Bool
 legCause₃ n table = any (ltb dearestLeg) table || any (λ i. not (eqb (entry n table i i) 0)) (from 0 (suc n))
 
+unfoldable pub legTableCause : ℕ → List ℕ → ℕ → ℕ
+legTableCause n table later = orLater (cause₁ n) 1 (orLater (cause₂ n table) 2 (orLater (legCause₃ n table) 3 later))
+
 unfoldable pub legCause : Call → ℕ
 legCause c =
-    let n : ℕ = c .job .n in
-    orLater (cause₁ n) 1
-    (orLater (cause₂ n (c .table)) 2
-    (orLater (legCause₃ n (c .table)) 3
-    (orLater (cause₄ (c .job)) 4 (orLater (cause₅ n (c .start)) 5 (orLater (cause₆ (c .pool)) 6 0)))))
+    legTableCause (c .job .n) (c .table)
+    (orLater (cause₄ (c .job)) 4 (orLater (cause₅ (c .job .n) (c .start)) 5 (orLater (cause₆ (c .pool)) 6 0)))
+
+-- Every call that looks at a table looks at it by `tableCause`: without charges, causes 1 to 3 are document 01's.
+abbrev pub TableCausesAsBefore : Type 0
+TableCausesAsBefore = (n : ℕ) (table : List ℕ) → NoCharges n table → (later : ℕ) → tableCause n table later ≡ legTableCause n table later
 
 -- The answer to a call over a day D, where the checks say `number`. It is made as `answer` is, with D in place of the call's own day.
 module _ (D : Day) (c : Call) where
@@ -133,7 +154,7 @@ module _ (D : Day) (c : Call) where
 abbrev pub OnItsDay : Type 0
 OnItsDay = (c : Call) → answer c ≡ answerOn (dayOf c) c (cause c)
 
--- With all charges 0, every answer is document 01's: over the legs alone, by its own causes.
+-- With all charges 0, every answer is document 01's, within whatever budget: over the legs alone, by its own causes.
 abbrev pub AsDocument01 : Planner → Type 0
 AsDocument01 P = (c : Call) (a : Answer) → P c a → Uncharged c → a ≡ answerOn (legDayOf c) c (legCause c)
 

@@ -1,7 +1,7 @@
 -- What the letter demands of a planner, a type for each of its sentences and in its order. A proof of a sentence is a theorem whose type is the
 -- sentence's name: of the written run (`written`) in proofs/ of this crate, of what the code of `plan` returns in proofs/ of crate `planner`.
--- What document 01 says beside the run's definition is in `Document01`, what request A.3 adds in `Budget`; what demands 1 and 2 say of files
--- is in crate `job_format`.
+-- What document 01 says beside the run's definition is in `Document01`, what requests A.3 and A.4 add in `Budget` and `Charges`; what demands
+-- 1 and 2 say of files is in crate `job_format`.
 use mathlib.Core.Path.{_≡_}
 use mathlib.Core.List.{[]}
 use mathlib.Core.Logic.{_⊎_, _≢_, _↔_}

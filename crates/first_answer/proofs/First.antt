@@ -1,7 +1,7 @@
 -- What requests A.1 and A.4 say of a first order (specs/Request), proved, a theorem for each type. Besides, for the crates above:
 --   firstOf-order      the first order of a table is an order
 --   promised-places    an answer has as many places as there may be stops
-use mathlib.Core.Path.{_≡_, refl, sym, ap, subst, _∙_}
+use mathlib.Core.Path.{_≡_, refl, sym, ap, ap₂, subst, _∙_}
 use mathlib.Core.Bool.{true, false, or-true}
 use mathlib.Core.List.{List}
 use mathlib.Core.Logic.{_≢_}
@@ -15,9 +15,12 @@ use Rattle.lists.proofs.Padded.{take-padded}
 use Rattle.orders.specs.Orders.{Order, isOrder}
 use Rattle.orders.proofs.Order.{order-length, order-isOrder}
 use Rattle.orders.proofs.Orders.{orders-in}
-use Rattle.stops.specs.Legs.{legs, cost}
+use Rattle.stops.specs.Tables.{rows}
+use Rattle.stops.specs.Legs.{Legs, legs, cost}
 use Rattle.stops.specs.Stops.{day, dayOn}
+use Rattle.stops.proofs.LegTable.{leg-flying}
 use Rattle.stops.proofs.Charges.{day-cost-pays, uncharged-rows}
+use Rattle.answer.proofs.Charges.{table-causes-as-before}
 use Rattle.answer.specs.Answer.{dayOf}
 use Rattle.answer.specs.Demands.{Planner, RunIsWritten}
 use Rattle.answer.specs.Checks.{cause₅, tableCause, jobCause}
@@ -42,8 +45,10 @@ use Rattle.first_answer.specs.Request.{
   RefusedByTable,
   PassesAsStart,
   PlanNoDearer,
+  FirstFlies,
   FirstPays,
   FirstUncharged,
+  firstOn,
 }
 use Rattle.first_answer.proofs.Cheapest.{cheapest-first}
 use Rattle.first_answer.proofs.NearestOrder.{nearest-free}
@@ -166,6 +171,10 @@ plan-no-dearer P run c a r p h g =
 
 -- ---- request A.4
 
+pub first-flies : FirstFlies
+unfolding legsOf legs
+first-flies n table few i j h k = leg-flying n table few i j h k
+
 pub first-pays : FirstPays
 unfolding legsOf dayOn day
 first-pays n table r (e, z) =
@@ -175,5 +184,11 @@ first-pays n table r (e, z) =
     ∙ day-cost-pays n (passed .some) (passed .priced .few) table (shown n r) (gives-order n table r (e, z) .0)
 
 pub first-uncharged : FirstUncharged
-unfolding legsOf
-first-uncharged n table none = ap legs (uncharged-rows n table none)
+unfolding firstAnswer respond firstOf nearestOf legsOf
+first-uncharged n table r e none =
+    e ∙ at (tableCause n table 0)
+    ∙ ap₂ (λ (L : Legs) (k : ℕ). firstOn L n k) (ap legs (uncharged-rows n table none)) (table-causes-as-before n table none 0)
+  where
+    at : (k : ℕ) → respond n table k ≡ firstOn (legs (rows n table)) n k
+    at zero = refl
+    at (suc k) = refl

@@ -13,7 +13,7 @@ use Rattle.first_answer.specs.Nearest.{anyNode, nearest}
 use Rattle.first_answer.specs.Exchanges.{improved}
 use Rattle.first_answer.specs.declared.FirstOrder.{FirstOrder}
 
--- the legs of a table
+-- what flying costs by a table, landings included (request A.4)
 unfoldable pub legsOf : ℕ → List ℕ → Legs
 legsOf n table = legs (rows n table)
 

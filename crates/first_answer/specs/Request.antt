@@ -1,24 +1,25 @@
--- What request A.1, and A.4 at the end, says of a first order beside how it is made, which the definitions say (Nearest, Exchanges) and Examples shows: a type for
--- each sentence, proved in proofs/. The first is over any elements, the next three over any legs and any test of what is allowed. The others
+-- What request A.1 and, at the end, request A.4 say of a first order beside how it is made, which the definitions say (Nearest, Exchanges) and
+-- Examples shows: a type for each sentence, proved in proofs/. The first is over any elements, the next three over any legs and any test of what is allowed. The others
 -- are over whatever a call returns that keeps its promise (`Promised`), so that they are of the definition and of the code at once.
 use mathlib.Core.Path.{_≡_}
 use mathlib.Core.Bool.{Bool, false}
 use mathlib.Core.List.{List, [], _∷_, _++_}
 use mathlib.Core.Logic.{_≢_}
-use Prim.Native.Nat.{ℕ, suc, _+_, _≤_, _<_}
+use Prim.Native.Nat.{ℕ, zero, suc, _+_, _≤_, _<_}
 use lib.Dec.{T}
 use lib.ListN.{length, take, replicate}
-use Rattle.sizes.specs.Sizes.{orderPlaces}
+use Rattle.sizes.specs.Sizes.{mostStops, orderPlaces}
 use Rattle.lists.specs.Lists.{In, sum, from, padded}
 use Rattle.orders.specs.Orders.{Node, Order}
-use Rattle.stops.specs.Tables.{charge, legRows}
+use Rattle.stops.specs.Tables.{entry, charge, legRows}
 use Rattle.stops.specs.Legs.{Legs, legs, cost}
 use Rattle.answer.specs.Call.{Call, Answer}
 use Rattle.answer.specs.declared.Job.{Job}
 use Rattle.answer.specs.Checks.{cause₅, tableCause, jobCause}
 use Rattle.answer.specs.Ends.{Finishes}
 use Rattle.answer.specs.Demands.{Planner}
-use Rattle.first_answer.specs.Nearest.{cheapest}
+use Rattle.answer.specs.Charges.{NoCharges, legTableCause}
+use Rattle.first_answer.specs.Nearest.{anyNode, cheapest, nearest}
 use Rattle.first_answer.specs.Exchanges.{exchanged, Settles, settled, lowered, improved}
 use Rattle.first_answer.specs.First.{legsOf, nearestOf, Promised}
 use Rattle.first_answer.specs.declared.FirstOrder.{FirstOrder}
@@ -105,12 +106,27 @@ PlanNoDearer P =
 
 -- REQUEST A.4
 
+-- the nearest stop, and every order, is reckoned by legs that have the landing: from i to j the table's leg and the charge of j
+abbrev pub FirstFlies : Type 0
+FirstFlies =
+    (n : ℕ) (table : List ℕ) → n ≤ mostStops → (i j : ℕ) → i ≤ n → j ≤ n
+    → legsOf n table .leg i j ≡ entry n table i j + charge n table j
+
 -- the cost is that of the order's legs as the table has them, and of every landing, home's included
 abbrev pub FirstPays : Type 0
 FirstPays =
     (n : ℕ) (table : List ℕ) (r : FirstOrder) → Given n table r
     → r .cost ≡ cost (legs (legRows n table)) (shown n r) + sum (charge n table) (from 0 (suc n))
 
--- with all charges 0, a first order is made of the legs alone, as before the request
+-- what the call answers by some legs, where the checks say `number`
+abbrev pub firstOn : Legs → ℕ → ℕ → FirstOrder
+firstOn L n zero =
+    let x : Node = improved L anyNode (nearest n L anyNode) in
+    record { number = 0; cost = cost L x; order = padded orderPlaces x }
+firstOn L n (suc k) = record { number = suc k; cost = 0; order = replicate orderPlaces 0 }
+
+-- with all charges 0, what is returned is what was returned before the request: by the legs alone, and by document 01's causes
 abbrev pub FirstUncharged : Type 0
-FirstUncharged = (n : ℕ) (table : List ℕ) → ((j : ℕ) → j ≤ n → charge n table j ≡ 0) → legsOf n table ≡ legs (legRows n table)
+FirstUncharged =
+    (n : ℕ) (table : List ℕ) (r : FirstOrder) → Promised n table r → NoCharges n table
+    → r ≡ firstOn (legs (legRows n table)) n (legTableCause n table 0)

@@ -146,6 +146,14 @@ refusal-is-zeros : read (file (2 ∷ []) (trailer 0 16 1 1 3 15 1)) ≡ record {
 unfolding a
 refusal-is-zeros = refl
 
+-- Landing charges stand in the table (request A.4): they are read back as they were written.
+charged : Contents
+charged = contents 1 (7 ∷ 3 ∷ 5 ∷ 100_000 ∷ []) 2 1 0 (1 ∷ [])
+
+charges-read : read (bytesOf charged) ≡ record { number = 0; contents = charged }
+unfolding a charged
+charges-read = refl
+
 -- Case h with an order: 30 bytes.
 h : Contents
 h = contents 1 (0 ∷ 3 ∷ 5 ∷ 0 ∷ []) 2 1 0 (1 ∷ [])

@@ -1,8 +1,8 @@
 -- Laws of the parts of a list: its first elements, those behind them, the list without one of them, and one of them.
---   in-take, in-drop, in-dropAt, in-getD    what stands in a part stands in the list
+--   in-take, in-drop, in-dropAt, in-getD    what stands in a part stands in the list; in-place: what stands in it, at some place
 --   dropped-length                          the list without one element is shorter by one
-use mathlib.Core.Path.{_≡_, subst, _∙_}
-use mathlib.Core.List.{List, [], _∷_, List·Memᴰ·append-cases, List·Memᴰ·tail, Memᴰ·append-left, Memᴰ·append-right}
+use mathlib.Core.Path.{_≡_, sym, subst, _∙_}
+use mathlib.Core.List.{List, [], _∷_, List·Memᴰ·append-cases, List·Memᴰ·tail, List·Memᴰ·cases-cons, List·Memᴰ·not-nil, Memᴰ·append-left, Memᴰ·append-right}
 use mathlib.Core.Logic.{_⊎_, inl, inr}
 use Prim.Native.Nat.{ℕ, zero, suc, _-_, _<_, min}
 use native.Mathlib.Omega.{arith}
@@ -24,6 +24,17 @@ module _ {A : Type 0} where
       go : In x (take i xs) ⊎ In x (drop (suc i) xs) → In x xs
       go (inl h) = in-take i xs x h
       go (inr h) = in-drop (suc i) xs x h
+
+  -- and what stands in a list stands at some place
+  pub in-place : (xs : List A) (a d : A) → In a xs → (i : ℕ) × (i < length xs) × (getD xs i d ≡ a)
+  in-place [] a d m = absurd (List·Memᴰ·not-nil m)
+  in-place (x ∷ xs) a d m = go (List·Memᴰ·cases-cons m) (λ k. in-place xs a d k)
+    where
+      go :
+          (a ≡ x) ⊎ In a xs → (In a xs → (i : ℕ) × (i < length xs) × (getD xs i d ≡ a))
+          → (i : ℕ) × (i < suc (length xs)) × (getD (x ∷ xs) i d ≡ a)
+      go (inl e) again = (0, omega arith, sym e)
+      go (inr k) again = let (i, h, e) = again k in (suc i, omega arith, e)
 
   pub in-getD : (xs : List A) (i : ℕ) (d : A) → i < length xs → In (getD xs i d) xs
   in-getD [] i d h = absurd (omega arith)

@@ -2,3 +2,4 @@ pub mod StopLaws
 pub mod NodeLaws
 pub mod NodesRead
 pub mod LongerLaws
+pub mod Charges

@@ -67,8 +67,8 @@ unfoldable pub figures : Bool → Record → Job → List ℕ → Figures
 figures true x job table = figuresBy (isNode (job .n) x) (jobCause job table [] 0) x job (dayOn (job .n) (rows (job .n) table))
 figures false x job table = noFigures false 0
 
--- A stop and its leg, which is what the caller says that flying there costs, fit on a record: it is a node's, for as many stops as a day may have; the node leaves the stop; and its path cost
--- with the leg still fits a word.
+-- A stop and its leg, which is what the caller says that flying there costs, fit on a record: it is a node's, for as many stops as a day may
+-- have; the node leaves the stop; and its path cost with the leg still fits a word.
 unfoldable pub fits : Record → ℕ → ℕ → Bool
 fits x stop leg = isNode mostStops x && flown (left mostStops (flownStops x)) stop && ltb (x .path + leg) (2 ^ 32)
 

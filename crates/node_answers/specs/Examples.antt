@@ -12,6 +12,7 @@ use Rattle.stops.specs.Code.{emptyRecord}
 use Rattle.stops.specs.declared.node_record.Record.{Record}
 use Rattle.records.specs.Records.{stopAt}
 use Rattle.answer.specs.Checks.{cause₁, cause₂, cause₃, cause₄, cause₅, tableCause, jobCause}
+use Rattle.answer.specs.ChargeCases.{chargedT}
 use Rattle.answer.specs.declared.Job.{Job}
 use Rattle.node_answers.specs.Nodes.{flownStops, isRecordOf, isNode}
 use Rattle.node_answers.specs.Answers.{isInside, noRecord, recordAt, found, verdict, flownAt, noFigures, figuresBy, figures}
@@ -110,10 +111,7 @@ figures-close : figures true twoOne (jobT 1) tableT ≡ record { inside = true; 
 unfolding twoOne tableT jobT
 figures-close = refl
 
--- with charges of 2 at home and of 10, 20 and 40 at the stops (request A.4): both stops' more in the path, every place's more in the close bound
-chargedT : List ℕ
-chargedT = 2 ∷ 4 ∷ 7 ∷ 9 ∷ 5 ∷ 10 ∷ 2 ∷ 6 ∷ 3 ∷ 8 ∷ 20 ∷ 1 ∷ 6 ∷ 5 ∷ 4 ∷ 40 ∷ []
-
+-- with charges of 2 at home and of 10, 20 and 40 at the stops (request A.4): both stops' in the path, every place's in the close bound
 figures-charged : figures true twoOne (jobT 1) chargedT ≡ record { inside = true; number = 0; node = true; path = 45; bound = 99 }
 unfolding twoOne jobT chargedT
 figures-charged = refl

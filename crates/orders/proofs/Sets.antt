@@ -4,14 +4,14 @@
 -- They hold for every list of numbers, with repeats and with numbers above n too.
 use mathlib.Core.Path.{_≡_, refl, ap, sym, _∙_, subst}
 use mathlib.Core.Bool.{Bool, true, false, not, _&&_, _||_}
-use mathlib.Core.List.{List, [], _∷_, _++_}
+use mathlib.Core.List.{List, [], _∷_, _++_, List·Memᴰ·tail}
 use Prim.Native.Nat.{ℕ, suc, _+_, _-_, _≤_, _<_}
 use native.Mathlib.Omega.{arith}
 use lib.Dec.{T, eqb, eqb→eq, eqb-refl}
 use lib.ListN.{length, getD}
 use Rattle.lists.specs.Lists.{In, without, Distinct}
 use Rattle.lists.proofs.Tests.{same-tests}
-use Rattle.lists.proofs.Members.{in-keep, keep-in, any-in, in-any, in-map, map-in, in-from, from-in, distinct-keep, distinct-from, length-from}
+use Rattle.lists.proofs.Members.{in-head, in-keep, keep-in, any-in, in-any, in-map, map-in, in-from, from-in, distinct-keep, distinct-from, length-from}
 use Rattle.lists.proofs.Empty.{no-members}
 use Rattle.lists.proofs.Numbers.{keep-parts}
 use Rattle.lists.proofs.Keep.{keep-same, keep-keep, any-append}
@@ -121,6 +121,20 @@ pub last-element : (x : Node) → 1 ≤ length x → last x ≡ getD x (length x
 unfolding last
 last-element [] h = absurd (omega arith)
 last-element (s ∷ x) h = let e : length x ≡ suc (length x) - 1 = omega arith in lastFrom-element 0 s x ∙ ap (λ (i : ℕ). getD (s ∷ x) i 0) e
+
+-- a node ends at one of its stops, or at home
+last-from-in : (place : ℕ) (x : Node) → In (lastFrom place x) (place ∷ x)
+last-from-in place [] = in-head
+last-from-in place (s ∷ x) = List·Memᴰ·tail (last-from-in s x)
+
+pub last-in : (x : Node) → In (last x) (0 ∷ x)
+unfolding last
+last-in x = last-from-in 0 x
+
+-- if it has any, at one of these
+pub last-of-some : (s : ℕ) (x : Node) → In (last (s ∷ x)) (s ∷ x)
+unfolding last
+last-of-some s x = last-from-in s x
 
 -- nodes of one set
 set-same-flown : (n : ℕ) (w x : Node) → setOf n w ≡ setOf n x → (s : ℕ) → 1 ≤ s → s ≤ n → flown w s ≡ flown x s

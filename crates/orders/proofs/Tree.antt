@@ -2,7 +2,7 @@
 -- dominance: sizes rise by one up to n, where just the complete nodes stand; a complete node leaves no stop; a node weighs more than its
 -- children together; and with more stops there are no fewer nodes (`nodes-rise`).
 use mathlib.Core.Path.{_≡_, ap, sym, _∙_, subst}
-use mathlib.Core.List.{List, [], _∷_}
+use mathlib.Core.List.{List, [], _∷_, List·Memᴰ·not-nil}
 use mathlib.Core.Logic.{_⊎_, inl, inr}
 use Prim.Native.Nat.{ℕ, zero, suc, _+_, _*_, _-_, _≤_, _<_}
 use native.Mathlib.Nat.{suc-mul}
@@ -16,8 +16,8 @@ use Rattle.lists.proofs.Numbers.{sum-same, sum-const, sum-map}
 use Rattle.search.specs.Problem.{Problem}
 use Rattle.search.specs.Selection.{empty}
 use Rattle.search.proofs.Laws.{Sized, Weighs}
-use Rattle.orders.specs.Orders.{Node, left, size, complete, extend, children, nodes}
-use Rattle.orders.proofs.Sets.{size-left, size-extend, child-extends}
+use Rattle.orders.specs.Orders.{Node, flown, left, last, size, complete, extend, children, nodes}
+use Rattle.orders.proofs.Sets.{left-in, size-left, last-of-some, size-extend, child-extends}
 
 -- complete nodes
 pub complete-size : (n : ℕ) (x : Node) → T (complete n x) → size n x ≡ n
@@ -33,6 +33,13 @@ complete-left n x h = no-members (left n x) (λ s m. omega (arith, in-nonempty m
 
 pub left-complete : (n : ℕ) (x : Node) → left n x ≡ [] → T (complete n x)
 left-complete n x e = size-complete n x (omega (arith, size-left n x, ap length e))
+
+-- it ends at a stop, where there are stops
+pub last-flown : (n : ℕ) → 1 ≤ n → (x : Node) → T (complete n x) → In (last x) x
+unfolding flown
+last-flown n some [] whole =
+    absurd (List·Memᴰ·not-nil (subst (λ (l : List ℕ). In 1 l) (complete-left n [] whole) (left-in n [] 1 (omega arith) some tt)))
+last-flown n some (s ∷ x) whole = last-of-some s x
 
 -- the same as a test
 pub complete-empty : (n : ℕ) (x : Node) → complete n x ≡ empty (left n x)

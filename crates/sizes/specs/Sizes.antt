@@ -16,10 +16,11 @@ tableNumbers = places * places
 abbrev pub dearestLeg : ℕ
 dearestLeg = 1_000_000
 
--- Document 02, A.4: the dearest landing charge, and so the most that flying from one place to another can cost
+-- Document 02, A.4: the dearest landing charge
 abbrev pub dearestCharge : ℕ
 dearestCharge = 100_000
 
+-- and so the most that flying from one place to another can cost
 abbrev pub dearest : ℕ
 dearest = dearestLeg + dearestCharge
 

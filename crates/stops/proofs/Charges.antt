@@ -7,42 +7,30 @@
 -- And so of the days of a table:
 --   day-path-pays, day-plain-pays, day-close-pays, day-cost-pays    the planner's, against that of the legs alone
 --   uncharged-rows      where there are no charges, the two are one
---   diagonal-path, diagonal-bound, diagonal-cost    with any other costs on the diagonal of the rows, a day has the same figures
-use mathlib.Core.Path.{_≡_, refl, sym, subst}
-use mathlib.Core.Bool.{Bool, true, false, _&&_, cond}
+--   diagonal-path, diagonal-bound, diagonal-dominates, diagonal-cost    with any other costs on the diagonal of the rows, a day is the same
+use mathlib.Core.Path.{_≡_, refl, sym, subst, ap₂}
+use mathlib.Core.Bool.{Bool, true, false, not, _&&_, cond}
 use mathlib.Core.List.{List, [], _∷_, List·Memᴰ·tail, List·Memᴰ·cases-cons, List·Memᴰ·not-nil}
 use mathlib.Core.Logic.{_⊎_, inl, inr, _≢_}
 use Prim.Native.Nat.{ℕ, zero, suc, _+_, _≤_}
 use native.Mathlib.Omega.{arith}
-use lib.Dec.{T, T-not, leb, leb→le}
+use lib.Dec.{T, T-not, eqb, leb, leb→le}
 use Rattle.sizes.specs.Sizes.{mostStops, places}
-use Rattle.lists.specs.Lists.{In, sum, least, without, from, Distinct, more}
+use Rattle.lists.specs.Lists.{In, sum, least, without, same, from, Distinct, more}
 use Rattle.lists.proofs.Tests.{and-right, neq}
 use Rattle.lists.proofs.Map.{map-same}
 use Rattle.lists.proofs.Members.{in-head, in-keep}
 use Rattle.lists.proofs.Numbers.{least-adds, sum-adds, sum-const}
-use Rattle.orders.specs.Orders.{Node, flown, left, lastFrom, last, complete, Partial, Order}
-use Rattle.orders.proofs.Sets.{in-flown, in-left, left-in}
-use Rattle.orders.proofs.Tree.{complete-left, left-complete}
+use Rattle.orders.specs.Orders.{Node, flown, setOf, left, last, complete, Partial, Order}
+use Rattle.orders.proofs.Sets.{in-flown, in-left, last-in}
+use Rattle.orders.proofs.Tree.{complete-left, left-complete, last-flown}
 use Rattle.orders.proofs.Partial.{partial-sum}
 use Rattle.orders.proofs.Order.{order-partial, order-complete, order-sum}
 use Rattle.stops.specs.Tables.{entry, charge, flying, inRows, rows, legRows}
 use Rattle.stops.specs.Legs.{Legs, rowLeg, legs, pathFrom, path, cost}
-use Rattle.stops.specs.Bounds.{plain, cheapestInto, remainder, close, boundBy}
+use Rattle.stops.specs.Bounds.{plain, cheapestInto, remainder, close, boundBy, dominates}
 use Rattle.stops.specs.Stops.{day, dayOn}
 use Rattle.stops.proofs.LegTable.{leg-in-rows}
-
--- where a node ends: at one of its stops, or at home
-last-from-in : (place : ℕ) (x : Node) → In (lastFrom place x) (place ∷ x)
-last-from-in place [] = in-head
-last-from-in place (s ∷ x) = List·Memᴰ·tail (last-from-in s x)
-
--- a complete node ends at a stop
-last-flown : (n : ℕ) → 1 ≤ n → (x : Node) → T (complete n x) → In (last x) x
-unfolding last flown
-last-flown n some [] whole =
-    absurd (List·Memᴰ·not-nil (subst (λ (l : List ℕ). In 1 l) (complete-left n [] whole) (left-in n [] 1 (omega arith) some tt)))
-last-flown n some (s ∷ x) whole = last-from-in s x
 
 module _
     (n : ℕ) (some : 1 ≤ n) (L M : Legs) (f : ℕ → ℕ)
@@ -75,13 +63,9 @@ module _
     unfolding path
     path-pays = path-from-pays 0 x near home-first
 
-    ends : In (last x) (0 ∷ x)
-    unfolding last
-    ends = last-from-in 0 x
-
     -- a stop that is left is not where the node ends
     elsewhere : (s : ℕ) → In s (left n x) → last x ≢ s
-    elsewhere s m e = go (List·Memᴰ·cases-cons ends)
+    elsewhere s m e = go (List·Memᴰ·cases-cons (last-in x))
       where
         go : (last x ≡ 0) ⊎ In (last x) x → ⊥
         go (inl z) = omega (arith, e, z, in-left n x s m .0)
@@ -94,7 +78,7 @@ module _
         (λ r k. let h = among r (List·Memᴰ·cases-cons k) in legs-pay r s (h .0) (in-left n x s m .1) (h .1))
       where
         among : (r : ℕ) → (r ≡ last x) ⊎ In r (without s (left n x)) → (r ≤ n) × (r ≢ s)
-        among r (inl e) = rw e (near (last x) ends, elsewhere s m)
+        among r (inl e) = rw e (near (last x) (last-in x), elsewhere s m)
         among r (inr k) =
             let (i, apart) = in-keep _ (left n x) r k in
             (in-left n x r i .1, λ e. neq s r apart (rw e refl))
@@ -148,9 +132,9 @@ module _
 -- two days over rows, where costs are g's and f of the place landed at
 module _
     (n : ℕ) (some : 1 ≤ n) (few : n ≤ mostStops) (costs g : ℕ → ℕ → ℕ) (f : ℕ → ℕ)
-    (pays : (i j : ℕ) → i ≢ j → costs i j ≡ g i j + f j) where
+    (pays : (i j : ℕ) → i ≤ n → j ≤ n → i ≢ j → costs i j ≡ g i j + f j) where
   row-pays : (i j : ℕ) → i ≤ n → j ≤ n → i ≢ j → rowLeg (inRows n costs) i j ≡ rowLeg (inRows n g) i j + f j
-  row-pays i j h k apart = rw (leg-in-rows n costs few i j h k, leg-in-rows n g few i j h k) (pays i j apart)
+  row-pays i j h k apart = rw (leg-in-rows n costs few i j h k, leg-in-rows n g few i j h k) (pays i j h k apart)
 
   home-row-pays : (s : ℕ) → 1 ≤ s → s ≤ n → rowLeg (inRows n costs) s 0 ≡ rowLeg (inRows n g) s 0 + f 0
   home-row-pays s h k = row-pays s 0 k (omega arith) (λ e. omega arith)
@@ -181,9 +165,9 @@ module _
 
 -- the planner's day, against that of the legs alone
 module _ (n : ℕ) (some : 1 ≤ n) (few : n ≤ mostStops) (table : List ℕ) where
-  charges-paid : (i j : ℕ) → i ≢ j → flying n table i j ≡ entry n table i j + charge n table j
+  charges-paid : (i j : ℕ) → i ≤ n → j ≤ n → i ≢ j → flying n table i j ≡ entry n table i j + charge n table j
   unfolding flying
-  charges-paid i j apart = refl
+  charges-paid i j h k apart = refl
 
   module _ (x : Node) (p : Partial n x) where
     pub day-path-pays : dayOn n (rows n table) .path x ≡ dayOn n (legRows n table) .path x + sum (charge n table) x
@@ -208,13 +192,13 @@ module _ (n : ℕ) (some : 1 ≤ n) (few : n ≤ mostStops) (table : List ℕ) w
 -- the planner's rows, but for what stands on their diagonal
 module _
     (n : ℕ) (some : 1 ≤ n) (few : n ≤ mostStops) (table : List ℕ) (costs : ℕ → ℕ → ℕ)
-    (apart : (i j : ℕ) → i ≢ j → costs i j ≡ flying n table i j) where
+    (apart : (i j : ℕ) → i ≤ n → j ≤ n → i ≢ j → costs i j ≡ flying n table i j) where
   nothing : (b : Bool) → _≡_ {A = ℕ} (cond b 0 0) 0
   nothing true = refl
   nothing false = refl
 
-  nothing-added : (i j : ℕ) → i ≢ j → costs i j ≡ flying n table i j + 0
-  nothing-added i j h = omega (arith, apart i j h)
+  nothing-added : (i j : ℕ) → i ≤ n → j ≤ n → i ≢ j → costs i j ≡ flying n table i j + 0
+  nothing-added i j h k e = omega (arith, apart i j h k e)
 
   module _ (x : Node) (p : Partial n x) where
     pub diagonal-path : dayOn n (inRows n costs) .path x ≡ dayOn n (rows n table) .path x
@@ -235,6 +219,12 @@ module _
     diagonal-bound zero = diagonal-plain
     diagonal-bound (suc zero) = diagonal-close
     diagonal-bound (suc (suc k)) = refl
+
+  pub diagonal-dominates :
+      (y z : Node) → Partial n y → Partial n z → dayOn n (inRows n costs) .dominates y z ≡ dayOn n (rows n table) .dominates y z
+  unfolding dayOn day dominates
+  diagonal-dominates y z p q =
+      ap₂ (λ (a b : ℕ). not (same y z) && same (setOf n y) (setOf n z) && eqb (last y) (last z) && leb a b) (diagonal-path y p) (diagonal-path z q)
 
   pub diagonal-cost : (x : Node) → Order n x → dayOn n (inRows n costs) .cost x ≡ dayOn n (rows n table) .cost x
   unfolding rows

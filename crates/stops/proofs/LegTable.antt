@@ -1,19 +1,22 @@
 -- Rows, and the legs that they give.
 --   leg-in-rows      from i to j rows have the cost that they were made of, for places up to n; leg-outside: other legs are 0
 --   leg-flying       the planner's have the table's leg and the charge of j; leg-itself: so from a place to itself its charge twice
+--   in-table         every number of a table is one of its entries
 --   entry-small      no number of the table is above the dearest leg, where it is priced
 --   rows-cheap       no leg of the planner's rows is above the dearest, if so
-use mathlib.Core.Path.{_≡_, ap, _∙_}
+use mathlib.Core.Path.{_≡_, sym, ap, _∙_}
 use mathlib.Core.Bool.{Bool, true, false, _&&_, cond}
 use mathlib.Core.List.{List, [], map}
 use mathlib.Core.Logic.{_⊎_, inl, inr}
-use Prim.Native.Nat.{ℕ, suc, _+_, _*_, _≤_, _<_}
+use Prim.Native.Nat.{ℕ, zero, suc, _+_, _*_, _≤_, _<_}
+use native.Mathlib.Nat.{mul-le-mul, suc-mul}
 use native.Mathlib.Omega.{arith}
 use lib.Dec.{T, leb, leb→le, le→leb, not-T}
-use lib.ListN.{getD}
+use lib.ListN.{length, getD}
 use Rattle.sizes.specs.Sizes.{mostStops, places, dearestLeg, dearest}
-use Rattle.lists.specs.Lists.{from}
+use Rattle.lists.specs.Lists.{In, from}
 use Rattle.lists.proofs.Tests.{to-true, to-false, and-left, and-right, and-both, ordered}
+use Rattle.lists.proofs.Parts.{in-place}
 use Rattle.lists.proofs.Elements.{getD-from, getD-past, getD-small}
 use Rattle.stops.specs.Tables.{entry, charge, flying, inRows, rows}
 use Rattle.stops.specs.Legs.{rowLeg, legs}
@@ -74,6 +77,29 @@ module _ (n : ℕ) (costs : ℕ → ℕ → ℕ) where
       go : (rowLeg (inRows n costs) i j ≡ cell i j) ⊎ (rowLeg (inRows n costs) i j ≡ 0) → rowLeg (inRows n costs) i j ≤ m
       go (inl e) = rw e (at (leb i n && leb j n) (λ t. leb→le j n (and-right (leb i n) (leb j n) t)))
       go (inr e) = omega arith
+
+-- every place k of a table is row i, column j of it
+row-column : (n k : ℕ) → (i : ℕ) × (j : ℕ) × (k ≡ i * suc n + j) × (j ≤ n)
+row-column n zero = (0, 0, omega arith, omega arith)
+row-column n (suc k) = let (i, j, e, h) = row-column n k in go i j e h (ordered n j)
+  where
+    go : (i j : ℕ) → k ≡ i * suc n + j → j ≤ n → (n ≤ j) ⊎ (j < n) → (i : ℕ) × (j : ℕ) × (suc k ≡ i * suc n + j) × (j ≤ n)
+    go i j e h (inl l) = (suc i, 0, omega (arith, suc-mul i (suc n)), omega arith)
+    go i j e h (inr l) = (i, suc j, omega arith, omega arith)
+
+-- every number of it is an entry
+pub in-table :
+    (n : ℕ) (table : List ℕ) → length table ≡ suc n * suc n → (w : ℕ) → In w table
+    → (i : ℕ) × (j : ℕ) × (i ≤ n) × (j ≤ n) × (entry n table i j ≡ w)
+unfolding entry
+in-table n table square w m =
+    let (k, short, at) = in-place table w 0 m in
+    let (i, j, e, h) = row-column n k in
+    (i, j, inside i j k e short (ordered (suc n) i), h, ap (λ (v : ℕ). getD table v 0) (sym e) ∙ at)
+  where
+    inside : (i j k : ℕ) → k ≡ i * suc n + j → k < length table → (suc n ≤ i) ⊎ (i < suc n) → i ≤ n
+    inside i j k e short (inl l) = absurd (omega (arith, mul-le-mul {n₁ = suc n} {m₁ = suc n} {n₂ = i} {m₂ = suc n} l (omega arith)))
+    inside i j k e short (inr l) = omega arith
 
 module _ (n : ℕ) (table : List ℕ) where
   pub leg-flying : n ≤ mostStops → (i j : ℕ) → i ≤ n → j ≤ n → rowLeg (rows n table) i j ≡ entry n table i j + charge n table j

@@ -128,7 +128,7 @@ module _ (rows : List (List ℕ)) (cheap : Cheap rows) where
   unfolding reckonOn reckoning
   ahead-small k bound place rest h = loops.ahead-small dearest (legs rows) cheap place k bound rest h
 
-  -- at most 16 stops, and no leg above 1,000,000: an order costs at most 17,000,000
+  -- at most 16 stops, and no cost above 1,100,000: an order costs at most 18,700,000
   pub order-below : (n : ℕ) → n ≤ mostStops → (x : Node) → Order n x → dayOn n rows .cost x < aboveEveryCost
   unfolding dayOn day
   order-below n few x o = omega (arith, paths.cost-small dearest (legs rows) cheap x, order-length n x o)

@@ -70,7 +70,7 @@ never-itself : dominates 3 legsT (1 ∷ 2 ∷ []) (1 ∷ 2 ∷ []) ≡ false
 unfolding legsT
 never-itself = refl
 
--- T with charges, of 2 at home and of 10, 20 and 40 at the stops (request A.4): what it costs to fly to 1, to 12 and so on, and home
+-- T with charges, of 2 at home and of 10, 20 and 40 at the stops (request A.4): what it costs to fly 1, 12 and 123
 chargedT : Legs
 unfolding level orders computedDay
 chargedT = legs (rows 3 (2 ∷ 4 ∷ 7 ∷ 9 ∷ 5 ∷ 10 ∷ 2 ∷ 6 ∷ 3 ∷ 8 ∷ 20 ∷ 1 ∷ 6 ∷ 5 ∷ 4 ∷ 40 ∷ []))

@@ -6,7 +6,7 @@ ghost use Rattle.sizes.specs.Sizes.{mostStops};
 ghost use Rattle.stops.specs.Legs.{rowLeg};
 use crate::table::Rows;
 
-// The leg from one place to another.
+// What flying from one place to another costs, as the rows have it.
 pub fn leg(t: &Rows, from: u32, to: u32) -> u32
     requires { ⌜ (from ≤ mostStops) × (to ≤ mostStops) ⌝ }
     ensures { λ r. ⌜ r ≡ rowLeg (now (t .entry)) from to ⌝ }

@@ -32,7 +32,7 @@ impl Record {
         }
     }
 
-    // The node with a stop and its leg added, and no bound yet. Its size is counted from its set.
+    // The node with a stop and what flying there costs added, and no bound yet. Its size is counted from its set.
     pub fn extended(mut self, stop: u32, leg: u32) -> Record
         requires { ⌜ Wide self stop leg ⌝ }
         ensures { λ r. ⌜ r ≡ extended self stop leg ⌝ }

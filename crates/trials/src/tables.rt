@@ -94,7 +94,7 @@ fn drawn(kind: Kind, x: u64) -> u32
     (kind.least + below(x, kind.span)) as u32
 }
 
-// Table k, of n stops; its numbers stand at the front.
+// Table k, of n stops, with the charges on its diagonal; its numbers stand at the front.
 pub fn table_of(k: u64, n: usize) -> [u32; 49]
     requires { ⌜ n ≤ 6 ⌝ }
     ensures { λ r. ⌜ 49 ≡ length r ⌝ }

@@ -1,5 +1,5 @@
 -- `cost::reckoned` meets its contract: the rows are the table's, the path cost is that of the stops, and what the bound adds is over the
--- stops that the set leaves (`FigureLaws`). Nothing wraps: a path cost is at most 16,000,000, and a bound adds at most 17,000,000.
+-- stops that the set leaves (`FigureLaws`). Nothing wraps: a path cost is at most the dearest for each stop, and a bound adds at most that for each place.
 use mathlib.Core.Path.{_≡_, refl}
 use Prim.Native.Nat.{ℕ, _*_, _-_, _^_, _%_, _≤_, _<_}
 use native.Mathlib.Omega.{arith}

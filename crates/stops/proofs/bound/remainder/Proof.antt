@@ -1,5 +1,5 @@
 -- `stops::bound::remainder` meets its contract. The loop's invariant: the sum so far and the cheapest legs into the stops left make the
--- remainder, and the stops left are of the set. The remainder is at most 17,000,000, so no sum on the way wraps. The measure is the
+-- remainder, and the stops left are of the set. The remainder is at most the dearest cost for each place, so no sum on the way wraps. The measure is the
 -- set of the stops left, as a number.
 use mathlib.Core.Path.{_≡_, refl, ap, _∙_}
 use Prim.Native.Nat.{ℕ, _+_, _*_, _-_, _^_, _≤_}

@@ -1,5 +1,5 @@
 -- `stops::cost::order_cost` meets its contract. The loop's invariant: `Spent`, and that it has got to one of the places. No sum on the way
--- is above the cost, which is at most 17,000,000, so none wraps. The measure is how many stops are left.
+-- is above the cost, which is at most the dearest for each place, so none wraps. The measure is how many stops are left.
 use Prim.Native.Nat.{_*_, _-_, _≤_}
 use native.Mathlib.Omega.{arith}
 use lib.ListN.{length, getD}

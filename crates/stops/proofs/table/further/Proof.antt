@@ -1,4 +1,4 @@
--- `stops::table::further` meets its contract: what a stop adds is its leg.
+-- `stops::table::further` meets its contract: what a stop adds is what flying there costs.
 use native.Mathlib.Omega.{arith}
 use Rattle.stops.specs.Legs.{legs}
 use Rattle.stops.specs.Code.{reckoning, reckonOn}

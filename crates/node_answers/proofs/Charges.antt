@@ -1,0 +1,35 @@
+-- Request A.4 of the figures of a record, a theorem for each type of specs/Charges.
+use mathlib.Core.Path.{_≡_, ap, _∙_, subst, sym}
+use mathlib.Core.Bool.{Bool, true}
+use mathlib.Core.List.{List, []}
+use Prim.Native.Nat.{ℕ}
+use lib.Dec.{T}
+use Rattle.lists.proofs.Tests.{to-true}
+use Rattle.stops.specs.Tables.{rows}
+use Rattle.stops.specs.Stops.{dayOn}
+use Rattle.stops.specs.declared.node_record.Record.{Record}
+use Rattle.stops.proofs.Charges.{day-path-pays, day-plain-pays, day-close-pays}
+use Rattle.answer.specs.Checks.{jobCause}
+use Rattle.answer.specs.declared.Job.{Job}
+use Rattle.node_answers.specs.Nodes.{flownStops, isNode}
+use Rattle.node_answers.specs.Answers.{figuresBy, figures}
+use Rattle.node_answers.specs.Charges.{FiguresPathPays, FiguresPlainPays, FiguresClosePays}
+use Rattle.node_answers.proofs.NodeLaws.{node-record}
+
+pub figures-path-pays : FiguresPathPays
+unfolding figures figuresBy
+figures-path-pays x job table node none =
+    let r = node-record (job .n) x node in
+    rw (to-true (isNode (job .n) x) node, none) (day-path-pays (job .n) (r .some) (r .few) table (flownStops x) (r .node))
+
+pub figures-plain-pays : FiguresPlainPays
+unfolding figures figuresBy
+figures-plain-pays x job table node none plain =
+    let r = node-record (job .n) x node in
+    rw (to-true (isNode (job .n) x) node, none, plain) (day-plain-pays (job .n) (r .some) (r .few) table (flownStops x) (r .node))
+
+pub figures-close-pays : FiguresClosePays
+unfolding figures figuresBy
+figures-close-pays x job table node none close =
+    let r = node-record (job .n) x node in
+    rw (to-true (isNode (job .n) x) node, none, close) (day-close-pays (job .n) (r .some) (r .few) table (flownStops x) (r .node))
