@@ -1,16 +1,6 @@
 -- Request A.4 of the figures of a record, a theorem for each type of specs/Charges.
-use mathlib.Core.Path.{_≡_, ap, _∙_, subst, sym}
-use mathlib.Core.Bool.{Bool, true}
-use mathlib.Core.List.{List, []}
-use Prim.Native.Nat.{ℕ}
-use lib.Dec.{T}
 use Rattle.lists.proofs.Tests.{to-true}
-use Rattle.stops.specs.Tables.{rows}
-use Rattle.stops.specs.Stops.{dayOn}
-use Rattle.stops.specs.declared.node_record.Record.{Record}
 use Rattle.stops.proofs.Charges.{day-path-pays, day-plain-pays, day-close-pays}
-use Rattle.answer.specs.Checks.{jobCause}
-use Rattle.answer.specs.declared.Job.{Job}
 use Rattle.node_answers.specs.Nodes.{flownStops, isNode}
 use Rattle.node_answers.specs.Answers.{figuresBy, figures}
 use Rattle.node_answers.specs.Charges.{FiguresPathPays, FiguresPlainPays, FiguresClosePays}
