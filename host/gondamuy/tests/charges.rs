@@ -3,7 +3,7 @@
 use gondamuy::raw::{self, Job};
 use gondamuy::{first_order, plan_records, read, words, write, Bound, Plan, Planned, Record, Refusal};
 use gondamuy::{Rules, Selection, DEAREST_CHARGE, DEAREST_LEG, LONGEST_FILE, NO_BUDGET};
-use samples::{level, T};
+use samples::{charged, level, T};
 
 /// Home's charge, then those of the stops of table T.
 const CHARGES: [u32; 4] = [5, 10, 20, 30];
@@ -11,15 +11,6 @@ const LANDINGS: u32 = 65;
 
 const FIFO_PLAIN: gondamuy::Job =
     gondamuy::Job { n: 3, selection: Selection::Fifo, rules: Rules::NONE, bound: Bound::Plain };
-
-/// A table with these charges on its diagonal.
-fn charged(table: &[u32], charges: &[u32]) -> Vec<u32> {
-    let mut table = table.to_vec();
-    for (place, &charge) in charges.iter().enumerate() {
-        table[place * (charges.len() + 1)] = charge;
-    }
-    table
-}
 
 fn finished(job: gondamuy::Job, table: &[u32], pool: &mut [Record]) -> Plan {
     plan_records(job, table, &[], NO_BUDGET, pool).unwrap().finished().unwrap()

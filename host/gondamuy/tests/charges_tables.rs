@@ -12,29 +12,19 @@ use common::{choices, random_job};
 use gondamuy::raw::{first_order, plan, Report};
 use gondamuy::{NO_BUDGET, RECORD_WORDS};
 use jobtext::Job;
-use samples::Random;
+use samples::{folded, uncharged, Random};
 
 /// A day of 1 to 6 stops with charges.
 fn charged_job(random: &mut Random, most: u32) -> Job {
     let n = 1 + random.below(6) as usize;
     let mut job = random_job(random, n, most);
-    job.table = random.with_charges(n, job.table);
+    job.table = random.with_charges(n, &job.table);
     job
 }
 
-/// The same day without its charges.
-fn uncharged(job: &Job) -> Job {
-    let places = job.n as usize + 2;
-    let leg = |(k, &number)| if k % places == 0 { 0 } else { number };
-    Job { table: job.table.iter().enumerate().map(leg).collect(), ..job.clone() }
-}
-
-/// The same day with each charge put into the legs that land there.
-fn folded(job: &Job) -> Job {
-    let side = job.n as usize + 1;
-    let charges: Vec<u32> = job.charges().collect();
-    let flying = |(k, &leg): (usize, &u32)| if k % (side + 1) == 0 { 0 } else { leg + charges[k % side] };
-    Job { table: job.table.iter().enumerate().map(flying).collect(), ..job.clone() }
+/// The same day over another form of its table.
+fn over(form: fn(usize, &[u32]) -> Vec<u32>, job: &Job) -> Job {
+    Job { table: form(job.n as usize, &job.table), ..job.clone() }
 }
 
 /// The report, and the words of a pool of so many records.
@@ -59,8 +49,9 @@ fn charges_put_into_the_legs() {
         let budget = random.pick(&[0, 3, 20, NO_BUDGET, NO_BUDGET]);
         let records = random.pick(&[1, 9, 40, 2_100]);
         let (report, pool) = planned(&job, budget, records);
-        assert_eq!((report, pool), planned(&folded(&job), budget, records), "{job:?}");
-        assert_eq!(first_order(job.n, &job.table), first_order(job.n, &folded(&job).table), "{job:?}");
+        let in_the_legs = over(folded, &job);
+        assert_eq!((report, pool), planned(&in_the_legs, budget, records), "{job:?}");
+        assert_eq!(first_order(job.n, &job.table), first_order(job.n, &in_the_legs.table), "{job:?}");
         seen[report.number as usize] += 1;
         stopped += report.mark;
     }
@@ -80,7 +71,7 @@ fn every_landing_is_paid_once() {
         let most = random.pick(&[0, 1, 9, 1_000, 1_000_000]);
         let job = charged_job(&mut random, most);
         let (with, _) = planned(&job, NO_BUDGET, 2_100);
-        let (without, _) = planned(&uncharged(&job), NO_BUDGET, 2_100);
+        let (without, _) = planned(&over(uncharged, &job), NO_BUDGET, 2_100);
         assert!(with.is_finished() && without.is_finished(), "{job:?}");
         assert_eq!(with.cost, without.cost + landings(&job), "{job:?}");
         assert_eq!(with.cost, legs(&job, &with.order[..job.n as usize]) + landings(&job), "{job:?}");
@@ -107,7 +98,7 @@ fn close_searches_take_the_same_steps() {
         let budget = random.pick(&[0, 3, 20, NO_BUDGET]);
         let records = random.pick(&[1, 9, 2_100]);
         let (with, charged) = planned(&job, budget, records);
-        let (without, mut pool) = planned(&uncharged(&job), budget, records);
+        let (without, mut pool) = planned(&over(uncharged, &job), budget, records);
         let raised = |cost, is_told| if is_told { cost + landings(&job) } else { 0 };
         let cost = raised(without.cost, without.order[0] != 0);
         let floor = raised(without.floor, without.mark == 1);

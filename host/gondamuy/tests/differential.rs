@@ -6,7 +6,7 @@
 
 mod common;
 
-use common::{choices, first_stops, maybe_charged, random_job, some_budget, told};
+use common::{choices, first_stops, random_job, some_budget, told};
 use gondamuy::raw::{plan, Report, STOPPED};
 use gondamuy::{NO_BUDGET, RECORD_WORDS};
 use jobtext::Job;
@@ -130,7 +130,7 @@ fn up_to_sixteen_stops() {
             }
             both(&mut random, &job, records * RECORD_WORDS);
             // All legs equal, the latest of ties: straight down to an order.
-            job.table = maybe_charged(&mut random, n, level(n, 7));
+            job.table = random.maybe_charged(n, level(n, 7));
             job.selection = 1;
             job.rules = random.below(16) as u32;
             let found = both(&mut random, &job, 400 * RECORD_WORDS);

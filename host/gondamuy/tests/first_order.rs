@@ -10,7 +10,7 @@ mod common;
 
 use std::ops::RangeInclusive;
 
-use common::{any_job, maybe_charged, some_of, spoil_length, spoil_stops, spoil_table};
+use common::{any_job, some_of, spoil_length, spoil_stops, spoil_table};
 use gondamuy::raw::{first_order, plan, FirstOrder, Job, Report};
 use gondamuy::{NO_BUDGET, RECORD_WORDS};
 use samples::{level, nearest, Random};
@@ -30,7 +30,7 @@ fn any_table(random: &mut Random, n: usize) -> Vec<u32> {
         0..=2 => random.few_free(n),
         kind => random.table(n, 0, [0, 1, 2, 3, 1_000, 1_000_000][kind as usize - 3]),
     };
-    maybe_charged(random, n, table)
+    random.maybe_charged(n, table)
 }
 
 /// Compares over so many tables of some sizes, and counts those where stops of the nearest-stop order were exchanged.
@@ -125,7 +125,7 @@ fn as_a_pilots_starting_order() {
         for _ in 0..10 {
             let job = Job { n, selection: 3, rules: 1, bound: 1 };
             let table = random.table(n as usize, 1, 1_000);
-            let table = maybe_charged(&mut random, n as usize, table);
+            let table = random.maybe_charged(n as usize, table);
             let (with, without) = started(job, &table, 150);
             assert!(with.most < 100, "{}", with.most);
             fewer += (with.branched < without.branched) as u32;

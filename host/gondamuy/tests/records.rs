@@ -1,8 +1,5 @@
 //! The pool as records and as words: one memory, the same jobs over both views, equal reports and equal memory.
 
-mod common;
-
-use common::maybe_charged;
 use gondamuy::raw::{plan, plan_records, words, Job, Record};
 use gondamuy::{NO_BUDGET, RECORD_WORDS};
 use samples::Random;
@@ -41,7 +38,7 @@ fn the_same_plan_over_both_views() {
         let n = 1 + random.below(5) as usize;
         let (low, high) = random.pick(&[(0, 0), (0, 1), (0, 9), (0, 1_000_000)]);
         let table = random.table(n, low, high);
-        let mut table = maybe_charged(&mut random, n, table);
+        let mut table = random.maybe_charged(n, table);
         match random.below(100) {
             0 => table[n] = 1_000_001,
             1 => table[n + 2] = 100_001,

@@ -1,5 +1,10 @@
 //! What the tests and the bench try planners on: a fixed generator with the
-//! tables and orders drawn from it, and some that need none.
+//! tables and orders drawn from it, and some that need none. Module `charges`
+//! has landing charges on the tables' diagonals.
+
+mod charges;
+
+pub use charges::{charged, charges, folded, uncharged};
 
 /// Document 01's table T, of three stops.
 pub const T: [u32; 16] = [0, 4, 7, 9, 5, 0, 2, 6, 3, 8, 0, 1, 6, 5, 4, 0];
@@ -9,9 +14,6 @@ pub struct Random(pub u64);
 
 /// Least and dearest leg, the kinds with many ties first, the widest last.
 pub const KINDS: [(u32, u32); 6] = [(0, 2), (1, 1), (0, 0), (0, 1), (1, 12), (0, 1_000_000)];
-
-/// The dearest landing charge of each kind, those like small legs first.
-const CHARGES: [u32; 5] = [1, 3, 12, 1_000, 100_000];
 
 impl Random {
     pub fn draw(&mut self) -> u64 {
@@ -53,16 +55,6 @@ impl Random {
     /// exchanges of two stops gain the same.
     pub fn few_free(&mut self, n: usize) -> Vec<u32> {
         table(n, || self.pick(&[0, 2, 2, 2, 2, 2, 2, 3]))
-    }
-
-    /// A table with landing charges on its diagonal, home's too (request A.4); about one place in four asks for none.
-    pub fn with_charges(&mut self, n: usize, mut table: Vec<u32>) -> Vec<u32> {
-        let most = self.pick(&CHARGES);
-        for place in 0..=n {
-            let charge = self.below(most as u64 + 1) as u32;
-            table[place * (n + 2)] = self.pick(&[0, charge, charge, charge]);
-        }
-        table
     }
 
     /// The stops 1 to n, shuffled.

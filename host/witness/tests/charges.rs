@@ -3,7 +3,7 @@
 mod common;
 
 use common::{check_finished, choices, course, Job};
-use samples::{level, T};
+use samples::{charged, level, T};
 use witness::legs::Legs;
 use witness::node::{Bound, Node};
 use witness::{Report, STOPPED};
@@ -11,14 +11,6 @@ use witness::{Report, STOPPED};
 /// Two stops; landings cost 7 at home, 10 at stop 1 and 20 at stop 2. Flying
 /// costs 11 and 22 from home, 24 from 1 to 2, 16 from 2 to 1, 10 and 12 home.
 const TWO: [u32; 9] = [7, 1, 2, 3, 10, 4, 5, 6, 20];
-
-fn with_charges(table: &[u32], charges: &[u32]) -> Vec<u32> {
-    let mut table = table.to_vec();
-    for (place, &charge) in charges.iter().enumerate() {
-        table[place * (charges.len() + 1)] = charge;
-    }
-    table
-}
 
 fn expect(job: &Job, records: usize, cost: u32, order: &[u32], counts: [u64; 5]) {
     let (report, pool) = job.run(records);
@@ -106,7 +98,7 @@ fn one_stop() {
 /// 12, so node 2 is still cheaper and is branched; close has it in all bounds.
 #[test]
 fn home_charges_alone() {
-    let table = with_charges(&[0; 9], &[1, 0, 0]);
+    let table = charged(&[0; 9], &[1, 0, 0]);
     expect(&Job::new(2, &table, [0, 0, 0], &[]), 5, 1, &[1, 2], [3, 5, 0, 2, 2]);
     expect(&Job::new(2, &table, [0, 0, 1], &[]), 5, 1, &[1, 2], [2, 4, 0, 2, 2]);
     expect(&Job::new(2, &[0; 9], [0, 0, 0], &[]), 5, 0, &[1, 2], [2, 4, 0, 2, 2]);
@@ -116,7 +108,7 @@ fn home_charges_alone() {
 /// 30: each order and close bound is 61 dearer, the counts are the same.
 #[test]
 fn table_t_with_charges() {
-    let table = with_charges(&T, &[1, 10, 20, 30]);
+    let table = charged(&T, &[1, 10, 20, 30]);
     let on_t = |choices, start: &[u32]| Job::new(3, &table, choices, start);
     expect(&on_t([0, 1, 1], &[]), 16, 74, &[1, 2, 3], [3, 7, 3, 1, 4]);
     expect(&on_t([2, 0, 0], &[]), 16, 74, &[1, 2, 3], [10, 16, 0, 6, 6]);
@@ -132,7 +124,7 @@ fn table_t_with_charges() {
 /// Every leg and every landing the dearest.
 #[test]
 fn dearest_legs_and_charges() {
-    let table = with_charges(&level(16, 1_000_000), &[100_000; 17]);
+    let table = charged(&level(16, 1_000_000), &[100_000; 17]);
     let order: Vec<u32> = (1..=16).rev().collect();
     let job = Job::new(16, &table, [1, 15, 1], &[]);
     expect(&job, 137, 17 * 1_100_000, &order, [16, 137, 0, 121, 121]);
@@ -144,8 +136,8 @@ fn dearest_legs_and_charges() {
 #[test]
 fn nearest_stop_by_leg_and_charge() {
     let told = [(7 + 1 + 15 + 5, vec![2, 3, 1]), (14 + 6 + 4 + 3, vec![1, 3, 2]), (14 + 2 + 1 + 6, vec![1, 2, 3])];
-    assert_eq!(course(3, &with_charges(&T, &[0, 10, 0, 0])), told);
-    assert_eq!(course(3, &with_charges(&T, &[500, 0, 0, 0])), [(513, vec![1, 2, 3])]);
+    assert_eq!(course(3, &charged(&T, &[0, 10, 0, 0])), told);
+    assert_eq!(course(3, &charged(&T, &[500, 0, 0, 0])), [(513, vec![1, 2, 3])]);
 }
 
 /// Legs out of 4 and 7, landings of 3 and 0: both stops are at 7, and the
@@ -153,6 +145,6 @@ fn nearest_stop_by_leg_and_charge() {
 #[test]
 fn nearest_stops_tie_by_the_sum() {
     let table = [0, 4, 7, 1, 0, 1, 1, 1, 0];
-    assert_eq!(course(2, &with_charges(&table, &[0, 3, 0]))[0], (7 + 1 + 1, vec![1, 2]));
-    assert_eq!(course(2, &with_charges(&table, &[0, 4, 0]))[0], (7 + 5 + 1, vec![2, 1]));
+    assert_eq!(course(2, &charged(&table, &[0, 3, 0]))[0], (7 + 1 + 1, vec![1, 2]));
+    assert_eq!(course(2, &charged(&table, &[0, 4, 0]))[0], (7 + 5 + 1, vec![2, 1]));
 }

@@ -4,19 +4,16 @@
 
 mod common;
 
-use common::charges::{charged, charges, folded, uncharged};
 use common::{ample, check_finished, choices, read_pool, Job};
-use samples::{Random, KINDS};
+use samples::{charges, folded, uncharged, Random, KINDS};
+use witness::checks::DEAREST_LEG;
 use witness::enumerate::all_orders;
 use witness::{first_order, plan, Report, Request, WORDS};
-
-/// The dearest leg that check 3 lets pass.
-const DEAREST_LEG: u32 = 1_000_000;
 
 fn some_table(random: &mut Random, n: usize) -> Vec<u32> {
     let kind = random.below(KINDS.len() as u64) as usize;
     let table = random.table_of_kind(n, kind);
-    charged(random, n, &table)
+    random.with_charges(n, &table)
 }
 
 fn some_job(random: &mut Random, n: usize) -> Job {

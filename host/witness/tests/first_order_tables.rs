@@ -3,9 +3,8 @@
 
 mod common;
 
-use common::charges::{folded, half_charged};
 use common::{ample, course, for_each_table, Job};
-use samples::{nearest, Random};
+use samples::{folded, nearest, Random};
 use witness::first_order;
 
 /// By legs that have the charges in them.
@@ -16,7 +15,7 @@ fn nearest_stops(job: &Job) -> Vec<u32> {
 /// With charges as often as without.
 fn few_free(random: &mut Random, n: usize) -> Vec<u32> {
     let table = random.few_free(n);
-    half_charged(random, n, table)
+    random.maybe_charged(n, table)
 }
 
 fn over(n: usize, table: &[u32]) -> Job {
@@ -103,7 +102,7 @@ fn exchanges_of_sixteen_stops() {
             2 => random.table(16, 1, 1_000),
             _ => random.table(16, 0, 1_000_000),
         };
-        let table = half_charged(&mut random, 16, table);
+        let table = random.maybe_charged(16, table);
         let course = course(16, &table);
         let exchanges = course.len() - 1;
         assert!(exchanges <= course[0].0 as usize, "{table:?}");

@@ -35,19 +35,11 @@ pub fn first_stops(n: usize, table: &[u32]) -> Vec<u8> {
     raw::first_order(n as u32, table).order[..n].to_vec()
 }
 
-/// The table as it is or with landing charges, as often the one as the other.
-pub fn maybe_charged(random: &mut Random, n: usize, table: Vec<u32>) -> Vec<u32> {
-    match random.below(2) {
-        0 => table,
-        _ => random.with_charges(n, table),
-    }
-}
-
 /// A job of n stops that every check lets pass: in half of the cases with landing charges, and in half of them from the
 /// first order, else from none or from any.
 pub fn random_job(random: &mut Random, n: usize, most: u32) -> Job {
     let table = random.table(n, 0, most);
-    let table = maybe_charged(random, n, table);
+    let table = random.maybe_charged(n, table);
     let start = match random.below(4) {
         0 => Vec::new(),
         1 => random.order(n),

@@ -2,9 +2,6 @@
 //! once more from an order alone, legs and landing charges each by themselves.
 #![allow(dead_code)]
 
-pub mod charges;
-
-use charges::half_charged;
 use samples::{Random, KINDS};
 use witness::enumerate::all_orders;
 use witness::first_order::{best_exchange, nearest_stop_order};
@@ -168,7 +165,7 @@ pub fn choices() -> Vec<[u64; 3]> {
 /// A table of the kind, with charges as often as without.
 pub fn table_of_kind(random: &mut Random, n: usize, kind: usize) -> Vec<u32> {
     let table = random.table_of_kind(n, kind);
-    half_charged(random, n, table)
+    random.maybe_charged(n, table)
 }
 
 /// Holds `check` to `tables` tables of each kind.
