@@ -4,7 +4,8 @@
 //! - with its charges and with them put into the legs: the same, to the last word of the pool, for 20,000 days, within
 //!   a budget or none, and for their first orders;
 //! - with its charges and without: the same cost but for every landing, for 20,000 finished searches; and the same
-//!   counts and orders under the close bound, costs alone being higher, in the pool too, for 10,000 days.
+//!   counts and orders under the close bound, costs alone being higher, in the pool too, for 10,000 days; other ones
+//!   under plain, for two days worked by hand.
 
 mod common;
 
@@ -12,7 +13,7 @@ use common::{choices, random_job};
 use gondamuy::raw::{first_order, plan, Report};
 use gondamuy::{NO_BUDGET, RECORD_WORDS};
 use jobtext::Job;
-use samples::{folded, uncharged, Random};
+use samples::{charged, folded, level, uncharged, Random, T};
 
 /// A day of 1 to 6 stops with charges.
 fn charged_job(random: &mut Random, most: u32) -> Job {
@@ -97,7 +98,7 @@ fn close_searches_take_the_same_steps() {
         let job = Job { bound: 1, ..charged_job(&mut random, most) };
         let budget = random.pick(&[0, 3, 20, NO_BUDGET]);
         let records = random.pick(&[1, 9, 2_100]);
-        let (with, charged) = planned(&job, budget, records);
+        let (with, raised_pool) = planned(&job, budget, records);
         let (without, mut pool) = planned(&over(uncharged, &job), budget, records);
         let raised = |cost, is_told| if is_told { cost + landings(&job) } else { 0 };
         let cost = raised(without.cost, without.order[0] != 0);
@@ -107,8 +108,24 @@ fn close_searches_take_the_same_steps() {
         for record in pool.chunks_mut(RECORD_WORDS).take((without.active + branched) as usize) {
             record.copy_from_slice(&with_landings(&job, record));
         }
-        assert_eq!(charged, pool, "{job:?}");
+        assert_eq!(raised_pool, pool, "{job:?}");
         seen[with.number as usize] += 1;
     }
     assert!(seen[0] > 5_000 && seen[7] > 1_000, "{seen:?}");
+}
+
+/// A plain bound has the landings flown so far and no others: with all legs 1 stop 2 is then the cheaper one to begin
+/// with, and both orders cost the same; in table T the cheapest order is found after more branchings.
+#[test]
+fn plain_searches_may_take_others() {
+    let found = |n: u32, table: &[u32]| {
+        let job = Job { n, table: table.to_vec(), selection: 0, rules: 1, bound: 0, start: Vec::new() };
+        let (report, _) = planned(&job, NO_BUDGET, 10);
+        (report.cost, report.order[..n as usize].to_vec(), report.branched)
+    };
+    let legs = level(2, 1);
+    assert_eq!(found(2, &legs), (3, vec![1, 2], 3));
+    assert_eq!(found(2, &charged(&legs, &[0, 5, 1])), (3 + 6, vec![2, 1], 3));
+    assert_eq!(found(3, &T), (13, vec![1, 2, 3], 7));
+    assert_eq!(found(3, &charged(&T, &[2, 10, 20, 40])), (13 + 72, vec![1, 2, 3], 10));
 }
