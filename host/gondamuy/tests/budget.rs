@@ -141,48 +141,67 @@ fn within_each_budget(job: Job, table: &[u32], start: &[u8], pool: &mut [u32]) -
     unreachable!("every search ends");
 }
 
-/// The floor is no more than every order costs, and the known order is one and costs no less than the cheapest; with
-/// more branchings the floor never falls, and a known order is never lost for a dearer one.
+/// How often a stopped search knew no order, one that is not cheapest, and one that costs the floor.
+#[derive(Debug, Default)]
+struct Seen {
+    unknown: u32,
+    off: u32,
+    close: u32,
+}
+
+/// The known order is one and costs no less than the cheapest, and it is off by no more than it costs above the floor.
+fn hold_known(text: &jobtext::Job, answer: &Stopped, least: u32, seen: &mut Seen) {
+    let legs = Legs::new(text.n as usize, &text.table);
+    let known = answer.known.unwrap();
+    let stops: Vec<usize> = known.order().iter().map(|&stop| stop.into()).collect();
+    assert!(is_order(known.order(), text.n) && legs.order_cost(&stops) == known.cost, "{answer:?} {text:?}");
+    assert!(least <= known.cost && known.cost - least <= answer.far_off().unwrap(), "{answer:?} {text:?}");
+    seen.off += (known.cost > least) as u32;
+    seen.close += (known.cost == answer.floor) as u32;
+}
+
+/// The floor is no more than every order costs. With more branchings it never falls, and a known order is never lost
+/// for none or for a dearer one.
+fn hold_stopped(text: &jobtext::Job, stopped: &[Stopped], least: u32, seen: &mut Seen) {
+    let (mut floor, mut cost) = (0, None);
+    for (budget, answer) in stopped.iter().enumerate() {
+        assert_eq!(answer.counts.branched, budget as u64, "{text:?}");
+        assert!(floor <= answer.floor && answer.floor <= least, "{budget} {text:?}");
+        floor = answer.floor;
+        match answer.known {
+            Some(known) => {
+                hold_known(text, answer, least, seen);
+                assert!(cost.is_none_or(|cost| known.cost <= cost), "{budget} {text:?}");
+                cost = Some(known.cost);
+            }
+            None => {
+                assert!(cost.is_none() && text.start.is_empty(), "{budget} {text:?}");
+                seen.unknown += 1;
+            }
+        }
+    }
+}
+
 #[test]
 fn held_to_all_orders() {
     let mut random = Random(91);
-    let (mut count, mut unknown, mut off, mut close) = (0, 0, 0, 0);
+    let mut seen = Seen::default();
     for round in 0..6_000 {
         let n = 1 + random.below(if round % 10 == 0 { 5 } else { 4 }) as usize;
         let most = random.pick(&[0, 1, 2, 9, 1_000, 1_000_000]);
         let text = random_job(&mut random, n, most);
         let job = Job::try_from(choices(&text)).unwrap();
-        let legs = Legs::new(n, &text.table);
-        let least = least_cost(&legs);
+        let least = least_cost(&Legs::new(n, &text.table));
         let mut pool = random.words(400 * RECORD_WORDS);
-        let told = within_each_budget(job, &text.table, &text.start, &mut pool);
-        let (mut floor, mut known) = (0, None);
-        for (budget, answer) in told.stopped.iter().enumerate() {
-            assert_eq!(answer.counts.branched, budget as u64, "{text:?}");
-            assert!(floor <= answer.floor && answer.floor <= least, "{budget} {text:?}");
-            floor = answer.floor;
-            assert!(answer.known.is_some() || (known.is_none() && text.start.is_empty()), "{budget} {text:?}");
-            count += 1;
-            let Some(order) = answer.known else {
-                unknown += 1;
-                continue;
-            };
-            let stops: Vec<usize> = order.order().iter().map(|&stop| stop.into()).collect();
-            assert!(is_order(order.order(), text.n) && legs.order_cost(&stops) == order.cost, "{budget} {text:?}");
-            assert!(least <= order.cost && known.is_none_or(|cost| order.cost <= cost), "{budget} {text:?}");
-            assert!(order.cost - least <= answer.far_off().unwrap(), "{budget} {text:?}");
-            known = Some(order.cost);
-            off += (order.cost > least) as u32;
-            close += (order.cost == answer.floor) as u32;
-        }
-        let Told { stopped, plan: found } = told;
+        let Told { stopped, plan: found } = within_each_budget(job, &text.table, &text.start, &mut pool);
+        hold_stopped(&text, &stopped, least, &mut seen);
         assert_eq!((found.cost, found.counts.branched), (least, stopped.len() as u64), "{text:?}");
         for budget in [found.counts.branched + 1, NO_BUDGET] {
             let without = plan(job, &text.table, &text.start, budget, &mut pool).unwrap();
             assert_eq!(without, Planned::Finished(found), "{text:?}");
         }
     }
-    assert!([unknown, off, close].iter().all(|&k| k > 2_000), "{count} {unknown} {off} {close}");
+    assert!([seen.unknown, seen.off, seen.close].iter().all(|&k| k > 2_000), "{seen:?}");
 }
 
 /// What stands in the pool is what a larger budget goes on from: the active nodes, whose least bound is the floor.
