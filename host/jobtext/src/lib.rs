@@ -15,13 +15,17 @@
 //! start 1 2 3             # or none, or no such line
 //! ```
 //!
-//! Numbers are only held to their widths: what a job may hold is for its
-//! reader, its writer and the planner to say.
+//! The table's rows stand behind `table` with no other line between them;
+//! comments and blank lines may. Numbers stand in plain digits and are only
+//! held to their widths: what a job may hold is for its reader, its writer and
+//! the planner to say.
 
 mod names;
+mod numbers;
 mod parse;
 mod table;
 
+pub use numbers::number;
 pub use parse::{parse, Fault, Parsed};
 
 #[derive(Clone, Debug, PartialEq, Eq)]

@@ -1,9 +1,9 @@
 //! From the text to a job, or to a fault with its line.
 
 use std::fmt;
-use std::str::FromStr;
 
 use crate::names::{by_name, list, Named, ALL_RULES, BOUNDS, RULES, SELECTIONS};
+use crate::numbers::{number, numbers};
 use crate::table::{self, Charges, Row};
 use crate::Job;
 
@@ -86,7 +86,7 @@ struct Lines {
     rules: Option<At<u32>>,
     bound: Option<At<u32>>,
     start: Option<At<Vec<u8>>>,
-    /// Numbers at the front of a line are a row of the table.
+    /// A number at the front of a line opens a row of the table.
     in_table: bool,
 }
 
@@ -168,14 +168,9 @@ fn there<T>(place: Option<At<T>>, keyword: &str, end: usize) -> Result<At<T>, Fa
     place.ok_or_else(|| Fault { line: end, what: format!("the text ends without `{keyword}`") })
 }
 
-pub fn numbers<T: FromStr>(words: &[&str], what: &str) -> Result<Vec<T>, String> {
-    let of = |word: &&str| word.parse().map_err(|_| format!("`{word}` is no number of a {what}"));
-    words.iter().map(of).collect()
-}
-
 fn single(words: &[&str], what: &str) -> Result<u32, String> {
     match words {
-        [word] => word.parse().map_err(|_| format!("`{word}` is not {what}")),
+        [word] => number(word).ok_or_else(|| format!("`{word}` is not {what}")),
         _ => Err(format!("{what} is one number")),
     }
 }
@@ -184,9 +179,9 @@ fn single(words: &[&str], what: &str) -> Result<u32, String> {
 fn choice(words: &[&str], named: &[Named]) -> Result<u32, String> {
     let names = list(named);
     match words {
-        [word] => by_name(named, word)
-            .or_else(|| word.parse().ok())
-            .ok_or(format!("`{word}` is none of {names}, and no number")),
+        [word] => {
+            by_name(named, word).or_else(|| number(word)).ok_or(format!("`{word}` is none of {names}, and no number"))
+        }
         _ => Err(format!("one of {names}, or a number")),
     }
 }

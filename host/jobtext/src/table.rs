@@ -1,7 +1,8 @@
 //! The table of a text. Its rows have the legs; the landing charges (request A.4) have a line of their own, and the
 //! rows' diagonal says nothing.
 
-use crate::parse::{numbers, At, Fault};
+use crate::numbers::{counted, number, numbers};
+use crate::parse::{At, Fault};
 use crate::Job;
 
 /// What stands on the diagonal where charges are told. Where none are, a 0 does.
@@ -13,15 +14,15 @@ pub type Row = Vec<Option<u32>>;
 /// Home's charge and each stop's, or none at all.
 pub type Charges = Option<Vec<u32>>;
 
-/// Whether a line that begins so is a row.
+/// Whether a line that begins so is a row. A sign is no part of a number, but who writes one means a row.
 pub fn opens_row(word: &str) -> bool {
-    word.starts_with(|c: char| c.is_ascii_digit() || c == '-')
+    word.starts_with(|c: char| c.is_ascii_digit() || "+-".contains(c))
 }
 
 pub fn row(words: &[&str]) -> Result<Row, String> {
     let entry = |&word: &&str| match word {
         NO_LEG => Ok(None),
-        _ => word.parse().map(Some).map_err(|_| format!("`{word}` is no number of a leg")),
+        _ => number(word).map(Some).ok_or_else(|| format!("`{word}` is no number of a leg")),
     };
     words.iter().map(entry).collect()
 }
@@ -35,12 +36,16 @@ pub fn charges(words: &[&str]) -> Result<Charges, String> {
 
 /// The table of so many stops, row by row, with its charges on the diagonal; or what does not fit, and where.
 pub fn table(stops: u32, rows: &At<Vec<At<Row>>>, charges: &At<Charges>) -> Result<Vec<u32>, Fault> {
-    let side = stops as usize + 1;
+    let n = stops as usize;
+    let side = n + 1;
+    let stops_have = counted(n, "stop has", "stops have");
     if let Some(row) = rows.value.iter().find(|row| row.value.len() != side) {
-        return Err(row.fault(format!("a row of {} entries, and {stops} stops have {side}", row.value.len())));
+        let entries = counted(row.value.len(), "entry", "entries");
+        return Err(row.fault(format!("a row of {entries}, and {stops_have} {side}")));
     }
     if rows.value.len() != side {
-        return Err(rows.fault(format!("a table of {} rows, and {stops} stops have {side}", rows.value.len())));
+        let lines = counted(rows.value.len(), "row", "rows");
+        return Err(rows.fault(format!("a table of {lines}, and {stops_have} {side}")));
     }
     let mut table = Vec::new();
     for (place, row) in rows.value.iter().enumerate() {
@@ -48,8 +53,8 @@ pub fn table(stops: u32, rows: &At<Vec<At<Row>>>, charges: &At<Charges>) -> Resu
     }
     if let Some(each) = &charges.value {
         if each.len() != side {
-            let what = format!("{} charges, and home and {stops} stops have {side}", each.len());
-            return Err(charges.fault(what));
+            let (told, stops) = (counted(each.len(), "charge", "charges"), counted(n, "stop", "stops"));
+            return Err(charges.fault(format!("{told}, and home and {stops} have {side}")));
         }
         for (place, &charge) in each.iter().enumerate() {
             table[place * (side + 1)] = charge;

@@ -83,12 +83,13 @@ fn the_text_of_a_job_says_its_charges() {
 #[test]
 fn faults_name_their_lines() {
     let with = |old: &str, new: &str| fault(&LINES.join("\n").replace(old, new));
-    for count in [0, 1, 2, 4] {
+    for (count, told) in [(0, "0 charges"), (1, "1 charge"), (2, "2 charges"), (4, "4 charges")] {
         let line = format!("charges{}", " 1".repeat(count));
-        assert_eq!(fault(&behind(&line)), format!("line 1: {count} charges, and home and 2 stops have 3"));
+        assert_eq!(fault(&behind(&line)), format!("line 1: {told}, and home and 2 stops have 3"));
     }
     assert_eq!(fault(&behind("charges 1 x 3")), "line 1: `x` is no number of a charge");
     assert_eq!(fault(&behind("charges 1 - 3")), "line 1: `-` is no number of a charge");
+    assert_eq!(fault(&behind("charges +1 2 3")), "line 1: `+1` is no number of a charge");
     assert_eq!(fault(&behind("charges none 1 2")), "line 1: `none` is no number of a charge");
     let twice = "charges none\ncharges 1 2 3";
     assert_eq!(fault(&behind(twice)), "line 2: `charges` stands on line 1 already");

@@ -98,3 +98,37 @@ fn faults_name_their_lines() {
     assert_eq!(fault(&with(9, "")), "line 8: the text ends without `bound`");
     assert_eq!(fault(&with(1, "start 1 256")), "line 1: `256` is no number of a stop");
 }
+
+/// No sign in front, not even where it changes nothing, and no digits but 0 to 9.
+#[test]
+fn numbers_stand_in_plain_digits() {
+    for word in ["+2", "-2", "2.0", "0x2", "\u{662}"] {
+        assert_eq!(fault(&with(2, &format!("stops {word}"))), format!("line 2: `{word}` is not the number of stops"));
+        assert_eq!(fault(&with(4, &format!("0 3 {word}"))), format!("line 4: `{word}` is no number of a leg"));
+        assert_eq!(fault(&with(1, &format!("start 1 {word}"))), format!("line 1: `{word}` is no number of a stop"));
+        for (line, keyword) in [(7, "selection"), (8, "rules"), (9, "bound")] {
+            let told = fault(&with(line, &format!("{keyword} {word}")));
+            assert!(told.starts_with(&format!("line {line}: `{word}` is none of ")), "{told}");
+        }
+    }
+    assert_eq!(fault(&with(5, "+5 0 6")), "line 5: `+5` is no number of a leg");
+    assert_eq!(parsed(&with(5, "005 0 6")), job());
+}
+
+#[test]
+fn no_other_line_between_the_rows() {
+    assert_eq!(parsed(&with(5, "\n5 0 6 # from the first stop\n# the second\n")), job());
+    assert_eq!(
+        fault(&with(5, "5 0 6\nstart 2 1")),
+        "line 7: `7` is none of stops, table, charges, selection, rules, bound, start"
+    );
+}
+
+#[test]
+fn one_of_a_kind() {
+    let of_one = |table: &str| fault(&format!("stops 1\n{table}\nselection 0\nrules 0\nbound 0\n"));
+    assert_eq!(of_one("table\n0 1\n2"), "line 4: a row of 1 entry, and 1 stop has 2");
+    assert_eq!(of_one("table\n0 1"), "line 2: a table of 1 row, and 1 stop has 2");
+    assert_eq!(of_one("table"), "line 2: a table of 0 rows, and 1 stop has 2");
+    assert_eq!(of_one("table\n0 1\n2 0\ncharges 1"), "line 5: 1 charge, and home and 1 stop have 2");
+}

@@ -22,7 +22,7 @@ use std::io::{self, Read, Write};
 use std::process::ExitCode;
 
 use gondamuy::{first_order, raw, read, Contents, FirstOrder, Refusal, LONGEST_FILE};
-use jobtext::{parse, text, Job, Parsed};
+use jobtext::{number, parse, text, Job, Parsed};
 
 const USAGE: &str = "\
 jobtool write < TEXT > FILE
@@ -42,7 +42,7 @@ fn main() -> ExitCode {
         ["plan", ref words @ ..] => {
             plan::Asked::of(words).and_then(|asked| input().and_then(|job| plan::planned(&job, &asked)))
         }
-        ["refusal", word] => word.parse().map(in_words).map_err(|_| USAGE.to_string()),
+        ["refusal", word] => number(word).map(in_words).ok_or(USAGE.to_string()),
         _ => Err(USAGE.to_string()),
     };
     let written = answer.and_then(|bytes| io::stdout().write_all(&bytes).map_err(|fault| fault.to_string()));

@@ -2,7 +2,7 @@
 //! have no line in common but that of the counts, and a stopped one calls no order cheapest and no search finished.
 
 use gondamuy::{plan_records, raw, read, Counts, Plan, Planned, Record, Refusal, Refused, Stopped, NO_BUDGET};
-use jobtext::Job;
+use jobtext::{number, Job};
 
 use crate::{at_line, flown, job_of, parsed, with_landings};
 
@@ -30,7 +30,7 @@ impl Asked {
             };
             match *pair {
                 [name, _] if asked.is_some() => return Err(format!("`{name}` twice")),
-                [name, word] => *asked = Some(number(name, word, most)?),
+                [name, word] => *asked = Some(up_to(most, name, word)?),
                 _ => return Err(format!("`{}` without its number", pair[0])),
             }
         }
@@ -46,12 +46,9 @@ impl Asked {
 }
 
 /// A number in plain digits, from 0 to `most`.
-fn number(name: &str, word: &str, most: u64) -> Result<u64, String> {
-    let digits = word.bytes().all(|byte| byte.is_ascii_digit());
-    match word.parse() {
-        Ok(number) if digits && number <= most => Ok(number),
-        _ => Err(format!("`{word}` behind `{name}` is no number from 0 to {most} in plain digits")),
-    }
+fn up_to(most: u64, name: &str, word: &str) -> Result<u64, String> {
+    let told = number(word).filter(|&number| number <= most);
+    told.ok_or_else(|| format!("`{word}` behind `{name}` is no number from 0 to {most} in plain digits"))
 }
 
 /// A job file always holds a zero byte, the first of its trailer. So what holds none is a text; a text with one is not

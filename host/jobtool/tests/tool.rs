@@ -102,7 +102,10 @@ fn the_pilot_from_the_first_order() {
 
 #[test]
 fn faulty_texts() {
-    assert_eq!(write(&TEXT.replace("5 0 6", "5 0 x")).unwrap_err(), "line 4: `x` is no number of a leg\n");
+    for word in ["x", "+6"] {
+        let told = format!("line 4: `{word}` is no number of a leg\n");
+        assert_eq!(write(&TEXT.replace("5 0 6", &format!("5 0 {word}"))).unwrap_err(), told);
+    }
     assert_eq!(run(&["write"], &[0xff]).unwrap_err(), "the input is no text\n");
     assert_eq!(run(&["first"], &[0xff]).unwrap_err(), "the input is no text\n");
 }
@@ -119,7 +122,9 @@ fn refused_files() {
 fn numbers_in_words() {
     assert_eq!(run(&["refusal", "7"], b"").unwrap(), b"7: the pool is full\n");
     assert_eq!(run(&["refusal", "11"], b"").unwrap(), b"11: no such number\n");
-    for arguments in [&["refusal", "x"][..], &["refusal"], &["first", "order"], &["read"], &[]] {
-        assert!(run(arguments, b"").unwrap_err().starts_with("jobtool write"));
+    let words = [&["refusal"][..], &["first", "order"], &["read"], &[]];
+    let numbers = ["x", "+7", "-7", "7.0", "4294967296", ""].map(|word| ["refusal", word]);
+    for arguments in numbers.iter().map(|pair| &pair[..]).chain(words) {
+        assert!(run(arguments, b"").unwrap_err().starts_with("jobtool write"), "{arguments:?}");
     }
 }

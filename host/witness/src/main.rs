@@ -7,6 +7,7 @@
 use std::io::{Read, Write};
 use std::process::ExitCode;
 
+use jobtext::number;
 use witness::job_file::Contents;
 use witness::node::Node;
 use witness::{plan_watched, Report, Request, State, LARGEST_BUDGET, WORDS};
@@ -33,9 +34,9 @@ struct Asked {
 impl Asked {
     fn parse(words: &[&str]) -> Option<Asked> {
         let (records, rest) = words.split_first()?;
-        let records = records.parse().ok().filter(|&records| records <= MOST_RECORDS)?;
+        let records = number(records).filter(|&records| records <= MOST_RECORDS)?;
         let (budget, rest) = match rest {
-            ["budget", budget, rest @ ..] => (budget.parse().ok()?, rest),
+            ["budget", budget, rest @ ..] => (number(budget)?, rest),
             _ => (LARGEST_BUDGET, rest),
         };
         match rest {

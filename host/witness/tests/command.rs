@@ -63,8 +63,9 @@ fn trace() {
 fn faulty_arguments() {
     let usage = run("").unwrap_err();
     assert!(usage.starts_with("usage: "), "{usage}");
-    let faulty = ["x", "1000001", "6 budget", "6 budget x", "6 budget -1", "6 budget 18446744073709551616"];
-    for arguments in faulty.into_iter().chain(["6 budget 5 traces", "6 trace budget 5", "6 5", "6 trace trace"]) {
+    let numbers = ["x", "+6", "1000001", "6 budget x", "6 budget +5", "6 budget -1", "6 budget 18446744073709551616"];
+    let words = ["6 budget", "6 budget 5 traces", "6 trace budget 5", "6 5", "6 trace trace"];
+    for arguments in numbers.into_iter().chain(words) {
         assert_eq!(run(arguments).unwrap_err(), usage, "{arguments}");
     }
 }
