@@ -61,12 +61,11 @@ enum gondamuy_rules {
 
 /* What a node's whole orders cost at least. */
 enum gondamuy_bound {
-    GONDAMUY_BOUND_PLAIN = 0, /* what is flown so far */
-    GONDAMUY_BOUND_CLOSE = 1  /* what is flown so far, and the cheapest legs to come with their landings */
+    GONDAMUY_BOUND_PLAIN = 0, /* what the flying so far costs, landings included */
+    GONDAMUY_BOUND_CLOSE = 1  /* what the flying so far costs, and the cheapest legs to come with their landings */
 };
 
-/* Whether its budget stopped a search (request A.3). Beside a refusal the mark is 0 too, so that mark 0 alone says
- * nothing either. */
+/* Whether its budget stopped a search (request A.3). Mark 0 alone says nothing either: a refusal has it too. */
 enum gondamuy_mark {
     GONDAMUY_NOT_STOPPED = 0, /* beside number 0: the search finished, and its order is a cheapest one */
     GONDAMUY_STOPPED = 1      /* it did not finish, and another order may be cheaper than the one shown */
@@ -151,11 +150,10 @@ struct gondamuy_record {
 /* Puts the stops 1 to job.n into the cheapest order, within a budget of branchings.
  *
  * table: (n+1)*(n+1) numbers, row by row; home is place 0. Row i has the leg from place i to each other place, at most
- * GONDAMUY_DEAREST_LEG, and on the diagonal the landing charge of place i, at most GONDAMUY_DEAREST_CHARGE, or 0 for
- * none (request A.4). Flying from i to j costs the leg and the charge of j. So an order costs its legs and every
- * landing: one at each stop, and one at home at the end. start: an order of the n stops that is known beforehand, or
- * nothing. budget: how many nodes may be branched, 0 included, or GONDAMUY_NO_BUDGET. pool: words, six to a record;
- * what they hold beforehand plays no part.
+ * GONDAMUY_DEAREST_LEG, and on the diagonal the landing charge of place i, at most GONDAMUY_DEAREST_CHARGE, 0 for none
+ * (request A.4). Flying from i to j costs the leg and the charge of j, so that an order costs its legs and a landing at
+ * each stop and, at the end, at home. start: an order of the n stops known beforehand, or nothing. budget: how many
+ * nodes may be branched, 0 included, or GONDAMUY_NO_BUDGET. pool: words, six to a record; what they hold plays no part.
  *
  * What comes back and what the pool then holds, by number and mark; the lowest number that applies is returned:
  *   0, mark 0  Finished: a cheapest order, its cost, and the counts of the search. The pool holds the nodes that were
@@ -212,8 +210,7 @@ struct gondamuy_first gondamuy_first_order(uint32_t n, const uint32_t *table, si
  *
  * What comes back, by number:
  *   0                 The job, its table and its starting order; zeros in the places that they do not take.
- *   8, 1, 9, 3, 4, 5  The number, and zeros in every other field. Of several, the first in this row is returned. 2
- *                     never comes from a file.
+ *   8, 1, 9, 3, 4, 5  The number, and zeros in every other field. Of several, the first in this row; 2 never comes.
  * The file is not written to. To plan what was read, hand in reading.job, the first (n+1)*(n+1) numbers of
  * reading.table and the first reading.stops of reading.start.
  */

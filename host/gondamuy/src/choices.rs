@@ -62,9 +62,9 @@ impl BitOr for Rules {
 #[derive(Clone, Copy, Debug, PartialEq, Eq, Hash)]
 #[repr(u32)]
 pub enum Bound {
-    /// 0: what is flown so far.
+    /// 0: what the flying so far costs, landings included.
     Plain = 0,
-    /// 1: what is flown so far, and the cheapest legs to come with their landings.
+    /// 1: what the flying so far costs, and the cheapest legs to come with their landings.
     Close = 1,
 }
 

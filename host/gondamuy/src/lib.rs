@@ -4,8 +4,8 @@
 //! ```
 //! use gondamuy::{plan_records, Bound, Job, Planned, Record, Rules, Selection, NO_BUDGET};
 //!
-//! // Three stops. Entry j of row i is the leg from place i to place j, and home is place 0. On the diagonal stands what
-//! // a landing is charged, here nothing.
+//! // Three stops. Entry j of row i is the leg from place i to place j, and home is place 0. On the diagonal stands
+//! // what a landing is charged, here nothing.
 //! let table = [0, 4, 7, 9, 5, 0, 2, 6, 3, 8, 0, 1, 6, 5, 4, 0];
 //! let selection = Selection::LeastBoundEarliest;
 //! let job = Job { n: 3, selection, rules: Rules::UPPER_COST, bound: Bound::Close };
@@ -42,8 +42,8 @@ pub use sizes::*;
 ///
 /// `table` has (n+1) squared numbers, row by row: legs, and landing charges on the diagonal (below); `start` is a
 /// starting order or empty; `budget` is how many nodes may be branched, 0 included, or [`NO_BUDGET`]; `pool` is lent
-/// for whole records of [`RECORD_WORDS`] words each, and what it holds beforehand plays no part. Refused by 1 to 3 and 5
-/// to 7, the lowest number that applies.
+/// for whole records of [`RECORD_WORDS`] words each, and what it holds beforehand plays no part. Refused by 1 to 3 and
+/// 5 to 7, the lowest number that applies.
 ///
 /// Before each branching it is asked first whether the search is finished, then whether the budget is spent, then
 /// whether the pool holds what comes of it. So a search that finishes within its budget gives the same as without one,
@@ -120,11 +120,12 @@ pub fn plan_records(
 
 /// Makes an order of the stops 1 to n to start from, where nobody has typed one (request A.1).
 ///
-/// From each place on, home first, the nearest stop left is flown: the one that is cheapest to fly to and land at, the
-/// lowest number of several. Then two stops change places as long as that lowers the cost: of all pairs the one that
-/// lowers it most, of several the one that begins earliest in the order, then the one that ends earliest. The order
-/// costs no more than that of the nearest stops, and no exchange of two of its stops makes it cheaper; but another
-/// order may be cheaper still, and [`plan`] finds one that is cheapest. Refused by the lowest of 1 to 3 that applies.
+/// `n` and `table` are as for [`plan`]. From each place on, home first, the nearest stop left is flown: the one that is
+/// cheapest to fly to and land at, the lowest number of several. Then two stops change places as long as that lowers
+/// the cost: of all pairs the one that lowers it most, of several the one that begins earliest in the order, then the
+/// one that ends earliest. The order costs no more than that of the nearest stops, and no exchange of two of its stops
+/// makes it cheaper; but another order may be cheaper still, and [`plan`] finds one that is cheapest. Refused by the
+/// lowest of 1 to 3 that applies.
 ///
 /// [`plan`] does not make one by itself. As a starting order it is never refused by 5:
 ///
@@ -148,9 +149,9 @@ pub fn read(file: &[u8]) -> Result<Contents, Refusal> {
     Contents::of(raw::read(file))
 }
 
-/// Writes a job's file at the front of `buffer` and gives its length; the bytes behind it stay as they were. Refused by
-/// the lowest of 1 to 3, 5 and 10 that applies, which leaves the whole buffer as it was. [`LONGEST_FILE`] bytes are
-/// enough for every job.
+/// Writes a job's file at the front of `buffer` and gives its length; the bytes behind it stay as they were. `job` with
+/// its n, `table` and `start` are as for [`plan`]. Refused by the lowest of 1 to 3, 5 and 10 that applies, which leaves
+/// the whole buffer as it was. [`LONGEST_FILE`] bytes are enough for every job.
 ///
 /// ```
 /// # use gondamuy::*;
