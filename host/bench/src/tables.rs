@@ -1,5 +1,6 @@
 //! Tables to time on, by seed: uniform legs, and points in the plane with a
-//! wind that differs by place.
+//! wind that differs by place. They are without landing charges (request A.4),
+//! which the unverified code beside ours does not know.
 
 use gondamuy::PLACES;
 use samples::Random;
