@@ -1,6 +1,6 @@
 //! The unit's first order beside an unverified one of the same method: ns a call, exchanges made, and the ratio of the
-//! times. Both load the table into rows, try an exchange by making it, reckon the whole cost and undo it. The proved one
-//! checks the table too.
+//! times. Both load the table into rows, try an exchange by making it, reckon the whole cost and undo it. The proved
+//! one checks the table too.
 
 use std::hint::black_box;
 use std::time::{Duration, Instant};

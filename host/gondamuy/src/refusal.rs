@@ -22,8 +22,8 @@ pub enum Refusal {
     Start = 5,
     /// 6: the pool has no record, or one that is not whole.
     Pool = 6,
-    /// 7: the pool is full. Lend more records, or search in fewer, if longer: depth first, with [`UPPER_COST`], the close
-    /// bound and a starting order.
+    /// 7: the pool is full. Lend more records, or search in fewer, if longer: depth first, with [`UPPER_COST`], the
+    /// close bound and a starting order.
     ///
     /// [`UPPER_COST`]: crate::Rules::UPPER_COST
     Full = 7,

@@ -67,8 +67,8 @@ fn the_nearest_stop_is_landed_at() {
     }
 }
 
-/// Seventeen flights of 1,100,000. All close bounds are equal, and the latest of equals leads straight to an order; under
-/// plain the latest generated does.
+/// Seventeen flights of 1,100,000. All close bounds are equal, and the latest of equals leads straight to an order;
+/// under plain the latest generated does.
 #[test]
 fn the_dearest_day() {
     let table = charged(&level(16, DEAREST_LEG), &[DEAREST_CHARGE; 17]);

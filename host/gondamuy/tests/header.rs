@@ -95,7 +95,7 @@ fn asserted<'a>(line: &'a str, opening: &str) -> Option<&'a str> {
     line.strip_prefix(opening)?.strip_suffix(");")
 }
 
-/// `GONDAMUY_SIZE(job, 16);` and a `GONDAMUY_FIELD(job, n, 0);` for each field, as `layout!(Job, 16: n 0, ..);` says it.
+/// `GONDAMUY_SIZE(job, 16);` and a `GONDAMUY_FIELD(job, n, 0);` for each field, as `layout!(Job, 16: n 0, ..);` has it.
 #[test]
 fn the_same_layout() {
     let header = header();

@@ -17,8 +17,8 @@ pub fn told(report: &witness::Report) -> raw::Report {
     raw::Report { number, mark, cost, floor, order, branched, generated, eliminated, active, most }
 }
 
-/// A budget for a search that makes `own` branchings without one: 0, a few, any that stops it, about as many as it makes,
-/// or so many that no search reaches them.
+/// A budget for a search that makes `own` branchings without one: 0, a few, any that stops it, about as many as it
+/// makes, or so many that no search reaches them.
 pub fn some_budget(random: &mut Random, own: u64) -> u64 {
     match random.below(6) {
         0 => 0,
@@ -111,8 +111,8 @@ pub fn spoil_choice(random: &mut Random, job: &mut Job, more: &[u32]) {
     }
 }
 
-/// Number 5: a starting order cut short or too long (though its file is not), with a stop twice, or with one that is not
-/// there.
+/// Number 5: a starting order cut short or too long (though its file is not), with a stop twice, or with one that is
+/// not there.
 pub fn spoil_start(random: &mut Random, job: &mut Job) {
     let n = job.n as usize;
     job.start = random.order(n);
