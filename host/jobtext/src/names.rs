@@ -21,7 +21,7 @@ pub const RULES: [Named; 4] = [
 pub const ALL_RULES: u32 = 15;
 
 pub const BOUNDS: [Named; 2] =
-    [(0, "plain", "the path cost"), (1, "close", "the path cost and the cheapest legs to come")];
+    [(0, "plain", "the path cost"), (1, "close", "the path cost, and the cheapest legs to come with their landings")];
 
 /// The choice that a name among some stands for.
 pub fn by_name(named: &[Named], name: &str) -> Option<u32> {
