@@ -1,12 +1,12 @@
 -- The lower bounds of a call that every check lets pass: they never fall, are exact at complete nodes, and close is never below plain.
-use mathlib.Core.Path.{ap}
+use mathlib.Core.Path.{ap, sym}
 use native.Mathlib.Omega.{arith}
 use Rattle.days.specs.Days.{Day, problem, choices}
 use Rattle.days.proofs.Walk.{walk-closer}
 use Rattle.answer.specs.Answer.{problemOf, choicesOf}
 use Rattle.answer.specs.Document01.{BoundNeverFalls, BoundExact, CloseNotBelowPlain}
 use Rattle.answer.proofs.Passes.{passes}
-use Rattle.answer.proofs.Instance.{one-day, call-walk, bound-laws}
+use Rattle.answer.proofs.Instance.{one-day, closer-ends, call-walk, bound-laws}
 
 pub bound-never-falls : BoundNeverFalls
 unfolding problemOf problem
@@ -21,6 +21,6 @@ unfolding choicesOf choices
 close-not-below-plain a b one h e x =
     omega (
       arith,
-      ap (λ (D : Day). D .bound (a .job .bound) x) (one-day a b one),
-      walk-closer (call-walk b) (a .job .bound) (b .job .bound) h (passes b e .bound) x,
+      ap (λ (D : Day). D .bound (a .job .bound) x) (one-day a b one (sym (closer-ends (b .job .bound) (a .job .bound) h))),
+      walk-closer (call-walk b) (b .job .bound) (a .job .bound) h (passes b e .bound) x,
     )

@@ -17,7 +17,7 @@ use Rattle.records.specs.Records.{recordsIn}
 use Rattle.answer.specs.Call.{Call, Answer}
 use Rattle.answer.specs.Answer.{dayOf, problemOf, choicesOf, given, stopsOf, reportWith, finishedReport, ending, answer}
 use Rattle.answer.specs.Ends.{Finishes, orderIn}
-use Rattle.answer.specs.Demands.{written, OneTable, OneCost, Cheapest, CheapestOfAll, OrdersAreAll}
+use Rattle.answer.specs.Demands.{written, OneTable, EndAlike, OneCost, Cheapest, CheapestOfAll, OrdersAreAll}
 use Rattle.answer.proofs.Passes.{Passes, passes}
 use Rattle.answer.proofs.Instance.{one-day, finished-state, state-reached, finish-stops, call-lawful, bound-laws, call-manner, call-solvable, start-known}
 use Rattle.answer.proofs.Ending.{Finished, finishes-finished}
@@ -70,17 +70,17 @@ cheapest-of-all c a e h =
 
 -- one of two runs over one table costs at most as much as the other, so by symmetry they cost the same
 pub one-cost : OneCost written
-one-cost a b x y p q one hx hy =
-    le-antisymm (below a b x y p q one hx hy) (below b a y x q p (record { n = sym (one .n); table = sym (one .table) }) hy hx)
+one-cost a b x y p q one ends hx hy =
+    le-antisymm (below a b x y p q one ends hx hy) (below b a y x q p (record { n = sym (one .n); table = sym (one .table) }) (sym ends) hy hx)
   where
     below :
-        (a b : Call) (x y : Answer) → written a x → written b y → OneTable a b → Finishes (x .report) → Finishes (y .report)
+        (a b : Call) (x y : Answer) → written a x → written b y → OneTable a b → EndAlike a b → Finishes (x .report) → Finishes (y .report)
         → x .report .cost ≤ y .report .cost
-    below a b x y p q one hx hy =
+    below a b x y p q one ends hx hy =
         let best : Cheapest a (x .report) = cheapest-of-all a x p hx in
         let other : Cheapest b (y .report) = cheapest-of-all b y q hy in
         let order : Node = orderIn b (y .report) in
-        subst (λ (v : ℕ). x .report .cost ≤ v) (ap (λ (D : Day). D .cost order) (one-day a b one) ∙ sym (other .has-order .cost-is-its))
+        subst (λ (v : ℕ). x .report .cost ≤ v) (ap (λ (D : Day). D .cost order) (one-day a b one ends) ∙ sym (other .has-order .cost-is-its))
         (best .least order (orders-in (a .job .n) order (subst (λ (k : ℕ). Order k order) (sym (one .n)) (other .has-order .is-order))))
 
 pub orders-are-all : OrdersAreAll

@@ -8,8 +8,8 @@ use Prim.Native.Nat.{ℕ, zero, suc, _≤_}
 use native.Mathlib.Omega.{arith}
 use lib.Dec.{eqb, ltb→lt, lt→ltb}
 use lib.ListN.{length}
-use Rattle.search.specs.Problem.{Problem, State, upper, start}
-use Rattle.search.specs.Run.{finished}
+use Rattle.search.specs.Problem.{Problem, Choices, State, upper, start}
+use Rattle.search.specs.Run.{finished, run}
 use Rattle.search.proofs.General.{Plan, cap, search, done}
 use Rattle.search.proofs.Cover.{root-good, good-bound}
 use Rattle.search.proofs.PlainSelection.{lateBy, rankBy}
@@ -17,8 +17,9 @@ use Rattle.search.proofs.Plain.{tree, planOf, cutOf, adds, finished-iff-done}
 use Rattle.search.proofs.Below.{Closer}
 use Rattle.search.proofs.Compare.{compare-runs}
 use Rattle.orders.specs.Orders.{Node, size, Order, nodes}
-use Rattle.days.specs.Days.{problem, choices}
+use Rattle.days.specs.Days.{Day, problem, choices}
 use Rattle.days.proofs.Walk.{walk-closer}
+use Rattle.stops.specs.Bounds.{endsAway}
 use Rattle.records.specs.Records.{recordsIn}
 use Rattle.answer.specs.Call.{Call, Answer}
 use Rattle.answer.specs.Checks.{cause}
@@ -26,7 +27,7 @@ use Rattle.answer.specs.Answer.{dayOf, problemOf, choicesOf, given, outc
 use Rattle.answer.specs.Ends.{Finishes}
 use Rattle.answer.specs.Demands.{written, AsClose, Favours, NoWorse, FavouredFinishes}
 use Rattle.answer.proofs.Passes.{Passes, passes}
-use Rattle.answer.proofs.Instance.{call-walk, order-cheap, call-lawful, bound-laws, call-manner, call-solvable, start-known, selection-small}
+use Rattle.answer.proofs.Instance.{call-walk, one-day, closer-ends, order-cheap, call-lawful, bound-laws, call-manner, call-solvable, start-known, selection-small}
 use Rattle.answer.proofs.Ending.{Finished, finishes-finished}
 
 -- B over A's own n, table and selection
@@ -48,13 +49,28 @@ same-rank P f g (suc (suc zero)) h = refl
 same-rank P f g (suc (suc (suc k))) h = refl
 
 module _ (a : Call) (ok : Passes a) (rules bound : ℕ) (first : List ℕ) (budget : ℕ) (pool : List ℕ) (favours : Favours a (alongside a rules bound first budget pool)) where
-  -- B's bound, 0 or 1, is at most A's
-  bound-below : bound ≤ a .job .bound
-  bound-below = go (favours .bound)
+  abbrev b : Call
+  b = alongside a rules bound first budget pool
+
+  -- both end at home, or both away
+  ends-alike : endsAway bound ≡ endsAway (a .job .bound)
+  ends-alike = go (favours .bound)
     where
-      go : AsClose (a .job) (alongside a rules bound first budget pool .job) → bound ≤ a .job .bound
-      go (inl e) = omega arith
-      go (inr h) = h .1
+      go : AsClose (a .job) (b .job) → endsAway bound ≡ endsAway (a .job .bound)
+      go (inl e) = ap endsAway (sym e)
+      go (inr h) = sym (closer-ends (a .job .bound) bound (h .1))
+
+  -- so that they have one day: B's choices over A's
+  abbrev other : Choices Node
+  other = choices (dayOf a) (a .job .selection) rules bound budget
+
+  -- and on it B's bound is at most A's
+  bound-below : (x : Node) → dayOf a .bound bound x ≤ dayOf a .bound (a .job .bound) x
+  bound-below x = go (favours .bound)
+    where
+      go : AsClose (a .job) (b .job) → dayOf a .bound bound x ≤ dayOf a .bound (a .job .bound) x
+      go (inl e) = omega (arith, ap (λ (k : ℕ). dayOf a .bound k x) e)
+      go (inr h) = walk-closer (call-walk a) (a .job .bound) bound (h .1) (ok .bound) x
 
   one-rank :
       rankBy (problemOf a) (dayOf a .bound bound) (a .job .selection)
@@ -62,15 +78,15 @@ module _ (a : Call) (ok : Passes a) (rules bound : ℕ) (first : List ℕ) (budg
   one-rank = go (favours .bound)
     where
       go :
-          AsClose (a .job) (alongside a rules bound first budget pool .job)
+          AsClose (a .job) (b .job)
           → rankBy (problemOf a) (dayOf a .bound bound) (a .job .selection)
           ≡ rankBy (problemOf a) (dayOf a .bound (a .job .bound)) (a .job .selection)
       go (inl e) = ap (λ (k : ℕ). rankBy (problemOf a) (dayOf a .bound k) (a .job .selection)) (sym e)
       go (inr h) = same-rank (problemOf a) (dayOf a .bound bound) (dayOf a .bound (a .job .bound)) (a .job .selection) (h .0)
 
   -- both runs share the plan: ranks and dominance rules agree
-  one-plan : planOf (problemOf a) (choicesOf (alongside a rules bound first budget pool)) ≡ planOf (problemOf a) (choicesOf a)
-  unfolding choicesOf choices dayOf
+  one-plan : planOf (problemOf a) other ≡ planOf (problemOf a) (choicesOf a)
+  unfolding choicesOf choices
   one-plan = λ i. record {
     late = lateBy (a .job .selection);
     rank = one-rank i;
@@ -81,10 +97,10 @@ module _ (a : Call) (ok : Passes a) (rules bound : ℕ) (first : List ℕ) (budg
     rule8 = sym (favours .rule-8) i;
   }
 
-  closer : Closer (cutOf (choicesOf a)) (cutOf (choicesOf (alongside a rules bound first budget pool)))
-  unfolding choicesOf choices dayOf
+  closer : Closer (cutOf (choicesOf a)) (cutOf other)
+  unfolding choicesOf choices
   closer = record {
-    closer = walk-closer (call-walk a) bound (a .job .bound) bound-below (ok .bound);
+    closer = bound-below;
     stricter = favours .rule-1;
     longer = λ j k h t. lt→ltb j (a .budget) (omega (arith, favours .budget, ltb→lt k budget t));
   }
@@ -118,33 +134,41 @@ module _ (a : Call) (ok : Passes a) (rules bound : ℕ) (first : List ℕ) (budg
   unfolding recordsIn
   more-records = let h : length pool ≤ length (a .pool) = favours .pool in omega arith
 
-  -- B's run, over A's problem and plan
+  -- B's run over A's problem ..
+  one-run : outcome b ≡ run (problemOf a) other (recordsIn pool) (suc (nodes (a .job .n))) (start (problemOf a) (given first))
+  unfolding outcome problemOf choicesOf
+  one-run =
+      ap
+      (λ (D : Day).
+      let P : Problem Node = problem (a .job .n) D in
+      run P (choices D (a .job .selection) rules bound budget) (recordsIn pool) (suc (nodes (a .job .n))) (start P (given first)))
+      (one-day b a (record { n = refl; table = refl }) ends-alike)
+
+  -- .. and over A's plan
   other-done :
-      (e : State Node) → outcome (alongside a rules bound first budget pool) ≡ finished e
-      → search (tree (problemOf a)) (planOf (problemOf a) (choicesOf a)) (cutOf (choicesOf (alongside a rules bound first budget pool))) (recordsIn pool)
+      (e : State Node) → outcome b ≡ finished e
+      → search (tree (problemOf a)) (planOf (problemOf a) (choicesOf a)) (cutOf other) (recordsIn pool)
       (suc (nodes (a .job .n))) (start (problemOf a) (given first))
       ≡ done e
-  unfolding outcome problemOf choicesOf choices dayOf
+  unfolding choices
   other-done e h =
       subst
       (λ (p : Plan Node).
-      search (tree (problemOf a)) p (cutOf (choicesOf (alongside a rules bound first budget pool))) (recordsIn pool) (suc (nodes (a .job .n)))
-      (start (problemOf a) (given first))
-      ≡ done e)
+      search (tree (problemOf a)) p (cutOf other) (recordsIn pool) (suc (nodes (a .job .n))) (start (problemOf a) (given first)) ≡ done e)
       one-plan
-      (finished-iff-done (problemOf a) (choicesOf (alongside a rules bound first budget pool)) (recordsIn pool) (ok .selection) (suc (nodes (a .job .n)))
-      (start (problemOf a) (given first)) e .0 h)
+      (finished-iff-done (problemOf a) other (recordsIn pool) (ok .selection) (suc (nodes (a .job .n)))
+      (start (problemOf a) (given first)) e .0 (sym one-run ∙ h))
 
   -- so A's run is finished too, with no higher counts
   beside-finishes :
-      (e : State Node) → outcome (alongside a rules bound first budget pool) ≡ finished e
+      (e : State Node) → outcome b ≡ finished e
       → (d : State Node) × (outcome a ≡ finished d) × (length (d .branched) ≤ length (e .branched)) × (d .generated ≤ e .generated)
       × (d .most ≤ e .most)
   unfolding outcome cap
   beside-finishes e h =
       let (d, ran, branched, generated, most) =
       compare-runs (tree (problemOf a)) (planOf (problemOf a) (choicesOf a)) (cutOf (choicesOf a))
-      (cutOf (choicesOf (alongside a rules bound first budget pool))) (size (a .job .n)) (a .job .n) (call-lawful a ok) (adds (problemOf a)) (bound-laws a ok)
+      (cutOf other) (size (a .job .n)) (a .job .n) (call-lawful a ok) (adds (problemOf a)) (bound-laws a ok)
       (call-manner a ok) closer (recordsIn (a .pool)) (recordsIn pool) more-records (given (a .start)) (given first) lower-start root-within
       (suc (nodes (a .job .n))) e (other-done e h) in (
         d,

@@ -3,7 +3,7 @@
 --   Came, call-came                   a check refuses the call, or one of these. No run is left `unfinished`: its fuel is never used up
 --                                     (`outcome-ends`)
 --   finishes-finished, number-7       the number and the mark of a report say which
---   tableCause-small, cause-small    a cause of a table is one of three, and of a call one of six
+--   boundCause-small, cause-small    a cause of a table and a bound is one of four, and of a call one of six
 use mathlib.Core.Path.{_≡_, refl, ap, sym, _∙_}
 use mathlib.Core.Bool.{Bool, true, false}
 use mathlib.Core.List.{List}
@@ -13,7 +13,7 @@ use Rattle.search.specs.Problem.{State}
 use Rattle.search.specs.Run.{Outcome, finished, stopped, full, unfinished}
 use Rattle.orders.specs.Orders.{Node}
 use Rattle.answer.specs.Call.{Call, Answer, refusal}
-use Rattle.answer.specs.Checks.{cause₁, cause₂, cause₃, cause₄, cause₅, cause₆, orLater, tableCause, jobCause, cause}
+use Rattle.answer.specs.Checks.{cause₁, cause₂, cause₃, noSuchBound, cause₄, cause₅, cause₆, orLater, tableCause, boundCause, jobCause, cause}
 use Rattle.answer.specs.Answer.{outcome, reportWith, ending, respond, answer}
 use Rattle.answer.specs.Ends.{Finishes}
 use Rattle.answer.proofs.Instance.{outcome-ends}
@@ -62,11 +62,12 @@ or-later : (b : Bool) (number later m : ℕ) → number ≤ m → later ≤ m �
 or-later true number later m h k = h
 or-later false number later m h k = k
 
-pub tableCause-small : (n : ℕ) (table : List ℕ) → tableCause n table 0 ≤ 3
-unfolding tableCause
-tableCause-small n table =
-    or-later (cause₁ n) 1 _ 3 (omega arith)
-    (or-later (cause₂ n table) 2 _ 3 (omega arith) (or-later (cause₃ n table) 3 0 3 (omega arith) (omega arith)))
+pub boundCause-small : (n bound : ℕ) (table : List ℕ) → boundCause n bound table ≤ 4
+unfolding tableCause boundCause
+boundCause-small n bound table =
+    or-later (cause₁ n) 1 _ 4 (omega arith)
+    (or-later (cause₂ n table) 2 _ 4 (omega arith)
+    (or-later (cause₃ n table) 3 _ 4 (omega arith) (or-later (noSuchBound bound) 4 0 4 (omega arith) (omega arith))))
 
 pub cause-small : (c : Call) → cause c ≤ 6
 unfolding cause tableCause jobCause

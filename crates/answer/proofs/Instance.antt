@@ -1,6 +1,6 @@
 -- A call that every check lets pass is an instance of the theory: its problem and choices are lawful, some order is cheaper than
 -- "above every cost", and its fuel is enough.
-use mathlib.Core.Path.{_≡_, refl, ap, ap₂, _∙_}
+use mathlib.Core.Path.{_≡_, refl, ap, _∙_}
 use mathlib.Core.List.{List, [], _∷_}
 use mathlib.Core.Logic.{_⊎_, inl, inr}
 use Prim.Native.Nat.{ℕ, suc, _-_, _≤_, _<_}
@@ -17,9 +17,10 @@ use Rattle.search.proofs.Outcome.{finished-means, stopped-means, full-means, ov
 use Rattle.orders.specs.Orders.{Node, size, Order, nodes}
 use Rattle.orders.proofs.Partial.{partial-root, partial-size}
 use Rattle.orders.proofs.Order.{order-complete, order-leads}
-use Rattle.days.specs.Days.{problem, choices}
+use Rattle.days.specs.Days.{Closer, problem, choices}
 use Rattle.days.proofs.Walk.{Walk, walk-lawful, walk-bound, day-weighs, day-solvable}
 use Rattle.stops.specs.Tables.{rows}
+use Rattle.stops.specs.Bounds.{endsAway}
 use Rattle.stops.specs.Stops.{dayOn}
 use Rattle.stops.specs.Code.{reckonOn, Cheap}
 use Rattle.stops.proofs.LegTable.{rows-cheap}
@@ -27,7 +28,7 @@ use Rattle.stops.proofs.StopsWalk.{rows-walk, order-below}
 use Rattle.records.specs.Records.{recordsIn}
 use Rattle.answer.specs.Call.{Call}
 use Rattle.answer.specs.Answer.{dayOf, problemOf, choicesOf, given, outcome, StateOf}
-use Rattle.answer.specs.Demands.{OneTable}
+use Rattle.answer.specs.Demands.{OneTable, EndAlike}
 use Rattle.answer.proofs.Passes.{Passes}
 
 -- a node weighs as much as there are nodes below it, itself included
@@ -94,22 +95,28 @@ Reaches c s =
     (start (problemOf c) (given (c .start))) s
 
 -- the day of a call is a walk
-pub call-walk : (c : Call) → Walk (c .job .n) 1 (dayOf c) (reckonOn (rows (c .job .n) (c .table)))
+pub call-walk : (c : Call) → Walk (c .job .n) 3 (dayOf c) (reckonOn (rows (c .job .n) (endsAway (c .job .bound)) (c .table)))
 unfolding dayOf
-call-walk c = rows-walk (c .job .n) (rows (c .job .n) (c .table))
+call-walk c = rows-walk (c .job .n) (rows (c .job .n) (endsAway (c .job .bound)) (c .table))
 
--- and two calls over one table have one day
-pub one-day : (a b : Call) → OneTable a b → dayOf a ≡ dayOf b
+-- and two calls over one table have one day, where both end at home or both away
+pub one-day : (a b : Call) → OneTable a b → EndAlike a b → dayOf a ≡ dayOf b
 unfolding dayOf
-one-day a b one = ap₂ (λ (k : ℕ) (t : List ℕ). dayOn k (rows k t)) (one .n) (one .table)
+one-day a b one ends = λ i. dayOn (one .n i) (rows (one .n i) (ends i) (one .table i))
+
+-- as they do where one's bound is closer than the other's
+pub closer-ends : (j k : ℕ) → Closer j k → endsAway j ≡ endsAway k
+unfolding endsAway
+closer-ends j k (inl h) = rw (h .0, h .1) refl
+closer-ends j k (inr h) = rw (h .0, h .1) refl
 
 module _ (c : Call) (ok : Passes c) where
-  pub call-cheap : Cheap (rows (c .job .n) (c .table))
-  call-cheap = rows-cheap (c .job .n) (c .table) (ok .priced)
+  pub call-cheap : Cheap (rows (c .job .n) (endsAway (c .job .bound)) (c .table))
+  call-cheap = rows-cheap (c .job .n) (c .table) (ok .priced) (endsAway (c .job .bound))
 
   pub order-cheap : (x : Node) → Order (c .job .n) x → dayOf c .cost x < aboveEveryCost
   unfolding dayOf
-  order-cheap x o = order-below (rows (c .job .n) (c .table)) call-cheap (c .job .n) (ok .priced .few) x o
+  order-cheap x o = order-below (rows (c .job .n) (endsAway (c .job .bound)) (c .table)) call-cheap (c .job .n) (ok .priced .few) x o
 
   pub known-cheap : (x : Node) → Order (c .job .n) x → problemOf c .cost x < aboveEveryCost
   unfolding problemOf problem

@@ -13,4 +13,7 @@ pub mod Demand3
 pub mod Demand3Pairs
 pub mod Budget
 pub mod BudgetPairs
+pub mod OnDay
 pub mod Charges
+pub mod Away
+pub mod AsBefore

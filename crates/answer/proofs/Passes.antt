@@ -7,6 +7,7 @@ use Prim.Native.Nat.{ℕ, suc, _*_, _%_, _≤_}
 use native.Mathlib.Omega.{arith}
 use lib.Dec.{T, T-not, not-T, ltb, eqb, nltb→le, eqb→eq}
 use lib.ListN.{length}
+use borrow.Author.Tests.{le-ltb}
 use Rattle.lists.specs.Lists.{In, any, from}
 use Rattle.lists.proofs.Tests.{neq, not-either, twice-not}
 use Rattle.lists.proofs.Members.{in-any, from-in}
@@ -18,10 +19,11 @@ use Rattle.sizes.specs.Sizes.{mostStops, dearestLeg, dearestCharge, recordWords
 use Rattle.records.specs.Records.{recordsIn}
 use Rattle.answer.specs.Call.{Call}
 use Rattle.answer.specs.declared.Job.{Job}
-use Rattle.answer.specs.Checks.{cause₁, cause₂, cause₃, cause₄, cause₅, cause₆, isEmpty, orLater, tableCause, jobCause, cause}
+use Rattle.answer.specs.Checks.{cause₁, cause₂, cause₃, noSuchBound, cause₄, cause₅, cause₆, isEmpty, orLater, tableCause, boundCause, jobCause, cause}
 use Rattle.answer.specs.Cases
 use Rattle.answer.specs.BudgetCases
 use Rattle.answer.specs.ChargeCases
+use Rattle.answer.specs.AwayCases
 
 pub record TablePasses (n : ℕ) (table : List ℕ) : Type 0 where
   pub some : 1 ≤ n
@@ -31,7 +33,7 @@ pub record JobPasses (job : Job) (table order : List ℕ) : Type 0 where
   pub legs : TablePasses (job .n) table
   pub selection : job .selection ≤ 3
   pub rules : job .rules ≤ 15
-  pub bound : job .bound ≤ 1
+  pub bound : job .bound ≤ 3
   pub start : (order ≡ []) ⊎ Order (job .n) order
 
 pub record Passes (c : Call) : Type 0 where
@@ -39,7 +41,7 @@ pub record Passes (c : Call) : Type 0 where
   pub priced : Priced (c .job .n) (c .table)
   pub selection : c .job .selection ≤ 3
   pub rules : c .job .rules ≤ 15
-  pub bound : c .job .bound ≤ 1
+  pub bound : c .job .bound ≤ 3
   pub start : (c .start ≡ []) ⊎ Order (c .job .n) (c .start)
   pub pool : 1 ≤ recordsIn (c .pool)
   pub whole : length (c .pool) % recordWords ≡ 0
@@ -85,12 +87,16 @@ module _ (n : ℕ) (table : List ℕ) where
       nltb→le dearestCharge (charge n table j)
       (none-found dear (from 0 (suc n)) (numbers-pass h .1) j (from-in 0 (suc n) j (omega arith) (omega arith)))
 
-choices-pass : (job : Job) → T (not (cause₄ job)) → (job .selection ≤ 3) × (job .rules ≤ 15) × (job .bound ≤ 1)
+pub bound-passes : (bound : ℕ) → T (not (noSuchBound bound)) → bound ≤ 3
+unfolding noSuchBound
+bound-passes bound h = nltb→le 3 bound h
+
+pub choices-pass : (job : Job) → T (not (cause₄ job)) → (job .selection ≤ 3) × (job .rules ≤ 15) × (job .bound ≤ 3)
 unfolding cause₄
 choices-pass job h =
-    let (p, q) = not-either (ltb 3 (job .selection) || ltb 15 (job .rules)) (ltb 1 (job .bound)) h in
+    let (p, q) = not-either (ltb 3 (job .selection) || ltb 15 (job .rules)) (noSuchBound (job .bound)) h in
     let (r, s) = not-either (ltb 3 (job .selection)) (ltb 15 (job .rules)) p in
-    (nltb→le 3 (job .selection) r, nltb→le 15 (job .rules) s, nltb→le 1 (job .bound) q)
+    (nltb→le 3 (job .selection) r, nltb→le 15 (job .rules) s, bound-passes (job .bound) q)
 
 start-passes : (n : ℕ) (x : List ℕ) → T (not (cause₅ n x)) → (x ≡ []) ⊎ Order n x
 unfolding cause₅
@@ -121,6 +127,16 @@ table-passed n table later e =
       };
     } in
     (passed, e₃)
+
+-- where none of causes 1 to 4 applies to a table and a bound
+pub bound-passed : (n bound : ℕ) (table : List ℕ) → boundCause n bound table ≡ 0 → TablePasses n table
+unfolding boundCause
+bound-passed n bound table e = table-passed n table _ e .0
+
+-- a bound that there is has no cause
+pub known-bound : (n bound : ℕ) (table : List ℕ) → bound ≤ 3 → boundCause n bound table ≡ tableCause n table 0
+unfolding boundCause noSuchBound
+known-bound n bound table h = rw (le-ltb 3 bound h) refl
 
 pub job-passed :
     (job : Job) (table order : List ℕ) (later : ℕ) → jobCause job table order later ≡ 0 → JobPasses job table order × (later ≡ 0)

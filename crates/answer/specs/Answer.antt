@@ -1,5 +1,5 @@
 -- The one function from what a caller hands in to the report and the pool's words afterwards: `answer`.
--- Document 01, "The report", "The pool" and "Causes and numbers"; document 02, A.3.
+-- Document 01, "The report", "The pool" and "Causes and numbers"; document 02, A.3 and A.5.
 use mathlib.Core.List.{List, [], _∷_}
 use mathlib.Core.Option.{Option, none, some}
 use Prim.Native.Nat.{ℕ, zero, suc}
@@ -10,6 +10,7 @@ use Rattle.search.specs.Run.{Outcome, finished, stopped, full, unfinished, run,
 use Rattle.orders.specs.Orders.{Node, nodes}
 use Rattle.days.specs.Days.{Day, problem, choices}
 use Rattle.stops.specs.Tables.{rows}
+use Rattle.stops.specs.Bounds.{endsAway}
 use Rattle.stops.specs.Stops.{dayOn}
 use Rattle.records.specs.Records.{poolWords, recordsIn}
 use Rattle.sizes.specs.Sizes.{orderPlaces}
@@ -17,9 +18,9 @@ use Rattle.answer.specs.Call.{Call, Answer, refusal}
 use Rattle.answer.specs.declared.Report.{Report}
 use Rattle.answer.specs.Checks.{cause}
 
--- the day that a call is about
+-- the day that a call is about; by its bound it ends at home, or away (request A.5)
 unfoldable pub dayOf : Call → Day
-dayOf c = dayOn (c .job .n) (rows (c .job .n) (c .table))
+dayOf c = dayOn (c .job .n) (rows (c .job .n) (endsAway (c .job .bound)) (c .table))
 
 unfoldable pub problemOf : Call → Problem Node
 problemOf c = problem (c .job .n) (dayOf c)

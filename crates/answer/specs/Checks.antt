@@ -1,4 +1,4 @@
--- Causes 1 to 6, each over just what it looks at, and which is returned: document 01, "Causes and numbers"; document 02, A.4.
+-- Causes 1 to 6, each over just what it looks at, and which is returned: document 01, "Causes and numbers"; document 02, A.4 and A.5.
 use mathlib.Core.Bool.{Bool, true, false, not, _||_}
 use mathlib.Core.List.{List, [], _∷_}
 use Prim.Native.Nat.{ℕ, suc, _*_, _%_}
@@ -24,9 +24,13 @@ cause₂ n table = not (eqb (length table) (suc n * suc n))
 unfoldable pub cause₃ : ℕ → List ℕ → Bool
 cause₃ n table = any (ltb dearestLeg) table || any (λ j. ltb dearestCharge (charge n table j)) (from 0 (suc n))
 
+-- no such bound; 2 and 3 are those of request A.5
+unfoldable pub noSuchBound : ℕ → Bool
+noSuchBound bound = ltb 3 bound
+
 -- no such selection, sum of rules or bound
 unfoldable pub cause₄ : Job → Bool
-cause₄ job = ltb 3 (job .selection) || ltb 15 (job .rules) || ltb 1 (job .bound)
+cause₄ job = ltb 3 (job .selection) || ltb 15 (job .rules) || noSuchBound (job .bound)
 
 -- the starting order is neither empty nor an order of 1 to n
 abbrev pub isEmpty : List ℕ → Bool
@@ -45,9 +49,13 @@ abbrev pub orLater : Bool → ℕ → ℕ → ℕ
 orLater true number later = number
 orLater false number later = later
 
--- causes 1 to 3, of a table for n stops, which are all that request A.1 asks for; `later` where none applies
+-- causes 1 to 3, of a table for n stops; `later` where none applies
 unfoldable pub tableCause : ℕ → List ℕ → ℕ → ℕ
 tableCause n table later = orLater (cause₁ n) 1 (orLater (cause₂ n table) 2 (orLater (cause₃ n table) 3 later))
+
+-- causes 1 to 4, of a table and a bound, which are all that request A.1 asks for, since request A.5 with the bound
+unfoldable pub boundCause : ℕ → ℕ → List ℕ → ℕ
+boundCause n bound table = tableCause n table (orLater (noSuchBound bound) 4 0)
 
 -- causes 1 to 5, of a job with its table and its starting order
 unfoldable pub jobCause : Job → List ℕ → List ℕ → ℕ → ℕ

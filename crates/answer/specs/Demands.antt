@@ -1,6 +1,6 @@
 -- What the letter demands of a planner, a type for each of its sentences and in its order. A proof of a sentence is a theorem whose type is the
 -- sentence's name: of the written run (`written`) in proofs/ of this crate, of what the code of `plan` returns in proofs/ of crate `planner`.
--- What document 01 says beside the run's definition is in `Document01`, what requests A.3 and A.4 add in `Budget` and `Charges`; what demands
+-- What document 01 says beside the run's definition is in `Document01`, what requests A.3, A.4 and A.5 add in `Budget`, `Charges` and `Away`; what demands
 -- 1 and 2 say of files is in crate `job_format`.
 use mathlib.Core.Path.{_≡_}
 use mathlib.Core.List.{[]}
@@ -11,6 +11,8 @@ use lib.ListN.{length}
 use Rattle.lists.specs.Lists.{In, Distinct}
 use Rattle.search.specs.Step.{on}
 use Rattle.orders.specs.Orders.{Node, Order, orders, factorial}
+use Rattle.days.specs.Days.{Closer}
+use Rattle.stops.specs.Bounds.{endsAway}
 use Rattle.answer.specs.Call.{Call, Answer}
 use Rattle.answer.specs.declared.Job.{Job}
 use Rattle.answer.specs.declared.Report.{Report}
@@ -59,16 +61,19 @@ CountsBalance P = (c : Call) (a : Answer) → P c a → a .report .generated ≡
 abbrev pub FullIff : Planner → Type 0
 FullIff P = (c : Call) (a : Answer) → P c a → (a .report .number ≡ 7) ↔ ComesTo c NextDoesNotFit
 
--- DEMAND 3, the first half: two runs over one table that finish.
+-- DEMAND 3, the first half: two runs over one table that finish. Since request A.5, both end at home or both end away.
 
 pub record OneTable (a b : Call) : Type 0 where
   pub n : a .job .n ≡ b .job .n
   pub table : a .table ≡ b .table
 
+abbrev pub EndAlike : Call → Call → Type 0
+EndAlike a b = endsAway (a .job .bound) ≡ endsAway (b .job .bound)
+
 -- They report equal costs.
 abbrev pub OneCost : Planner → Type 0
 OneCost P =
-    (a b : Call) (x y : Answer) → P a x → P b y → OneTable a b → Finishes (x .report) → Finishes (y .report)
+    (a b : Call) (x y : Answer) → P a x → P b y → OneTable a b → EndAlike a b → Finishes (x .report) → Finishes (y .report)
     → x .report .cost ≡ y .report .cost
 
 -- The cost is that of the order reported with it, and each of the n! orders of the stops costs at least as much.
@@ -90,9 +95,10 @@ OrdersAreAll = (n : ℕ) → AllOrders n
 
 -- DEMAND 3, the second half: two jobs A and B over one table.
 
--- A has B's bound or, under selections 2 and 3 (FIFO and LIFO), one that is at least as close: close (1) is as close as plain (0), and closer.
+-- A has B's bound or, under selections 2 and 3 (FIFO and LIFO), one that is closer: close (1) than plain (0); or, where both end away (request A.5),
+-- close (3) than plain (2).
 abbrev pub AsClose : Job → Job → Type 0
-AsClose a b = (a .bound ≡ b .bound) ⊎ ((2 ≤ a .selection) × (b .bound ≤ a .bound))
+AsClose a b = (a .bound ≡ b .bound) ⊎ ((2 ≤ a .selection) × Closer (a .bound) (b .bound))
 
 -- A stands to B as the letter asks, and request A.3 of the budgets.
 pub record Favours (a b : Call) : Type 0 where

@@ -14,6 +14,7 @@ use Rattle.lists.specs.Lists.{In}
 use Rattle.search.specs.Problem.{State, upper}
 use Rattle.search.specs.Selection.{chosen, select, empty, finishes}
 use Rattle.orders.specs.Orders.{Node, complete, children}
+use Rattle.days.specs.Days.{Closer}
 use Rattle.answer.specs.Call.{Call, callOf, Answer}
 use Rattle.answer.specs.Checks.{cause}
 use Rattle.answer.specs.Answer.{problemOf, choicesOf, StateOf}
@@ -81,7 +82,7 @@ BoundNeverFalls =
 abbrev pub BoundExact : Type 0
 BoundExact = (c : Call) → cause c ≡ 0 → (x : Node) → T (complete (c .job .n) x) → choicesOf c .bound x ≡ problemOf c .cost x
 
--- .. and close (1) is never below plain (0).
+-- .. and close is never below plain: 1 never below 0 nor, on a day that ends away (request A.5), 3 below 2.
 abbrev pub CloseNotBelowPlain : Type 0
 CloseNotBelowPlain =
-    (a b : Call) → OneTable a b → a .job .bound ≤ b .job .bound → cause b ≡ 0 → (x : Node) → choicesOf a .bound x ≤ choicesOf b .bound x
+    (a b : Call) → OneTable a b → Closer (b .job .bound) (a .job .bound) → cause b ≡ 0 → (x : Node) → choicesOf a .bound x ≤ choicesOf b .bound x

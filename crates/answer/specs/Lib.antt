@@ -9,4 +9,8 @@ pub mod Document01
 pub mod Budget
 pub mod BudgetCases
 pub mod ChargeCases
+pub mod AwayCases
+pub mod OnDay
 pub mod Charges
+pub mod Away
+pub mod AsBefore

@@ -224,7 +224,7 @@ pub own-cases-hold : AllHold ownCases
 unfolding ownCases
 own-cases-hold = (holds-fifo-on-case-i, (holds-rule-4-fills, (holds-rule-8-keeps-later, (holds-rules-2-and-8, (holds-all-rules-tied, (holds-all-rules-started, (holds-rule-4-eliminates, tt)))))))
 
--- Each cause by itself, at its edge: document 01's table of causes, row by row, with 3 as request A.4 has it. h is case h's table.
+-- Each cause by itself, at its edge: document 01's table of causes, row by row, with 3 as request A.4 has it and 4 as A.5 has it. h is case h's table.
 h : List ℕ
 h = 0 ∷ 3 ∷ 5 ∷ 0 ∷ []
 
@@ -239,12 +239,12 @@ each-cause :
     ∷ call 1 (0 ∷ 3 ∷ 5 ∷ 100_001 ∷ []) 0 0 0 [] 1
     ∷ call 1 h 4 0 0 [] 1
     ∷ call 1 h 0 16 0 [] 1
-    ∷ call 1 h 0 0 2 [] 1
+    ∷ call 1 h 0 0 4 [] 1
     ∷ call 1 h 0 0 0 (2 ∷ []) 1
     ∷ call 1 h 0 0 0 (1 ∷ 1 ∷ []) 1
     ∷ call 1 h 0 0 0 [] 0
     ∷ partRecord
-    ∷ call 1 h 3 15 1 (1 ∷ []) 1
+    ∷ call 1 h 3 15 3 (1 ∷ []) 1
     ∷ [])
     ≡ 1 ∷ 2 ∷ 3 ∷ 3 ∷ 4 ∷ 4 ∷ 4 ∷ 5 ∷ 5 ∷ 6 ∷ 6 ∷ 0 ∷ []
 unfolding h computed

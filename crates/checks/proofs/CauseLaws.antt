@@ -1,6 +1,7 @@
 -- Causes 1 to 5, test by test: what each test of the code decides of its cause, and what the causes make up.
 --   table-first, table-second, table-third, table-right    the answer of `table_cause`, by causes 1 to 3
 --   table-refuses, table-passes                            what it says of a job with this table
+--   bound-refused, bound-alone                             and of a bound with it
 use mathlib.Core.Path.{_≡_, refl, sym, _∙_}
 use mathlib.Core.Bool.{Bool, true, false, not, or-true}
 use mathlib.Core.List.{List, [], _∷_}
@@ -16,7 +17,7 @@ use Rattle.lists.proofs.Tests.{both-false}
 use Rattle.orders.specs.Orders.{isOrder}
 use Rattle.stops.specs.Tables.{charge}
 use Rattle.answer.specs.declared.Job.{Job}
-use Rattle.answer.specs.Checks.{cause₁, cause₂, cause₃, cause₄, cause₅, isEmpty, orLater, tableCause, jobCause}
+use Rattle.answer.specs.Checks.{cause₁, cause₂, cause₃, noSuchBound, cause₄, cause₅, isEmpty, orLater, tableCause, boundCause, jobCause}
 use Rattle.answer.proofs.JobCause.{table-causes}
 
 -- ---- causes 1 to 3
@@ -90,7 +91,7 @@ module _ (job : Job) where
   unfolding cause₄
   high-rules h = rw (lt-ltb 15 (job .rules) h, or-true)
 
-  pub bound-left : job .selection ≤ 3 → job .rules ≤ 15 → cause₄ job ≡ ltb 1 (job .bound)
+  pub bound-left : job .selection ≤ 3 → job .rules ≤ 15 → cause₄ job ≡ noSuchBound (job .bound)
   unfolding cause₄
   bound-left h k = rw (le-ltb 3 (job .selection) h, le-ltb 15 (job .rules) k)
 
@@ -125,3 +126,14 @@ module _ (job : Job) (table start : List ℕ) (k : ℕ) (e : k ≡ tableCause (j
   pub table-passes : k ≡ 0 → jobCause job table start 0 ≡ later job start
   unfolding jobCause
   table-passes z = table-causes (job .n) table .none (sym e ∙ z) (later job start)
+
+-- ---- a bound alone
+
+module _ (n bound : ℕ) (table : List ℕ) (k : ℕ) (e : k ≡ tableCause n table 0) where
+  pub bound-refused : k ≢ 0 → k ≡ boundCause n bound table
+  unfolding boundCause
+  bound-refused h = e ∙ table-causes n table .own (λ z. h (e ∙ z)) (orLater (noSuchBound bound) 4 0)
+
+  pub bound-alone : k ≡ 0 → boundCause n bound table ≡ orLater (noSuchBound bound) 4 0
+  unfolding boundCause
+  bound-alone z = table-causes n table .none (sym e ∙ z) (orLater (noSuchBound bound) 4 0)

@@ -1,10 +1,10 @@
 // Checks 1 to 5, which look at a job, its table and its starting order: `job_cause`. What it answers is `jobCause` of crate `answer`
-// (specs/Checks), whose proofs/JobCause ties that to the cause of a call with a pool. `table_cause` is for a caller without choices, `wrong_n`
-// for one that knows n alone. They are public for the crates above and not for hosts; they ask nothing.
+// (specs/Checks), whose proofs/JobCause ties that to the cause of a call with a pool. `bound_cause` is for a caller with a bound
+// alone, `wrong_n` for one that knows n alone. They are public for the crates above and not for hosts; they ask nothing.
 ghost use mathlib.Core.Path.{_≡_};
 ghost use Prim.Native.Nat.{_≤_};
 ghost use Rattle.sizes.specs.Sizes.{mostStops};
-ghost use Rattle.answer.specs.Checks.{cause₁, cause₄, cause₅, tableCause, jobCause};
+ghost use Rattle.answer.specs.Checks.{cause₁, noSuchBound, cause₄, cause₅, tableCause, boundCause, jobCause};
 
 mod order;
 
@@ -25,7 +25,7 @@ pub fn wrong_n(n: u32) -> bool
 }
 
 // The number of the first of causes 1 to 3 that applies, 0 if none does.
-pub fn table_cause(n: u32, table: &[u32]) -> u32
+fn table_cause(n: u32, table: &[u32]) -> u32
     ensures { λ r. ⌜ r ≡ tableCause n (now (table .entry)) 0 ⌝ }
 {
     if wrong_n(n) {
@@ -44,6 +44,27 @@ pub fn table_cause(n: u32, table: &[u32]) -> u32
     0
 }
 
+// Whether there is no such bound; 2 and 3 are those of request A.5.
+fn unknown_bound(bound: u32) -> bool
+    ensures { λ r. ⌜ r ≡ noSuchBound bound ⌝ }
+{
+    3 < bound
+}
+
+// The number of the first of causes 1 to 4 that applies to a table and a bound, 0 if none does.
+pub fn bound_cause(n: u32, bound: u32, table: &[u32]) -> u32
+    ensures { λ r. ⌜ r ≡ boundCause n bound (now (table .entry)) ⌝ }
+{
+    let number = table_cause(n, table);
+    if number != 0 {
+        return number;
+    }
+    if unknown_bound(bound) {
+        return 4;
+    }
+    0
+}
+
 // Whether cause 4 applies.
 fn unknown_choice(job: Job) -> bool
     ensures { λ r. ⌜ r ≡ cause₄ job ⌝ }
@@ -54,7 +75,7 @@ fn unknown_choice(job: Job) -> bool
     if 15 < job.rules {
         return true;
     }
-    1 < job.bound
+    unknown_bound(job.bound)
 }
 
 // Whether cause 5 applies.

@@ -37,7 +37,7 @@ module _ {d : Setting} {t : Table} (rows : Rows d t) where
   abbrev R : Reckoning
   R = reckonOn t
 
-  walk : Walk n 1 D R
+  walk : Walk n 3 D R
   walk = rows-walk n t
 
   -- the record of e

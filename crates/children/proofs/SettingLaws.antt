@@ -26,6 +26,7 @@ use Rattle.orders.proofs.Order.{order-complete, order-leads}
 use Rattle.days.specs.Days.{problem, choices}
 use Rattle.days.proofs.Walk.{bound-exact, walk-lawful, walk-bound, day-weighs, day-solvable}
 use Rattle.stops.specs.Tables.{rows}
+use Rattle.stops.specs.Bounds.{endsAway}
 use Rattle.stops.specs.Stops.{dayOn}
 use Rattle.stops.specs.Code.{emptyRecord, Cheap}
 use Rattle.stops.proofs.StopsWalk.{rows-walk, order-below}
@@ -103,7 +104,7 @@ module _ {d : Setting} {t : Table} (ok : Rows d t) where
   unfolding encodeOf encode problemOf problem
   order-words x o = (bound-exact (rows-walk (d .n) t) (d .bound) (ok .bound) x (order-complete (d .n) x o), refl, refl)
 
-module _ (c : Call) {t : Table} (e : t ≡ rows (c .job .n) (c .table)) where
+module _ (c : Call) {t : Table} (e : t ≡ rows (c .job .n) (endsAway (c .job .bound)) (c .table)) where
   pub call-rows : Passes c → Rows (settingOf c) t
   call-rows ok = record {
     some = ok .some;

@@ -50,7 +50,7 @@ pub record Rows (d : Setting) (t : Table) : Type 0 where
   pub some : 1 ≤ d .n
   pub few : d .n ≤ mostStops
   pub cheap : Cheap t
-  pub bound : d .bound ≤ 1
+  pub bound : d .bound ≤ 3
 
 unfoldable pub problemOf : Setting → Table → Problem Node
 problemOf d t = problem (d .n) (dayOn (d .n) t)

@@ -9,7 +9,7 @@
 -- same further cost.
 use mathlib.Core.Path.{_≡_, refl, sym, ap, _∙_, subst}
 use mathlib.Core.List.{List, []}
-use mathlib.Core.Logic.{_⊎_}
+use mathlib.Core.Logic.{_⊎_, inl, inr}
 use Prim.Native.Nat.{ℕ, _+_, _-_, _≤_, _<_}
 use native.Mathlib.Omega.{arith}
 use lib.Dec.{T, eqb}
@@ -23,7 +23,7 @@ use Rattle.orders.proofs.Sets.{distinct-left, left-extend, child-extends, exten
 use Rattle.orders.proofs.Tree.{complete-size, complete-left, tree-sized, tree-weighs}
 use Rattle.orders.proofs.Partial.{partial-root, partial-size}
 use Rattle.orders.proofs.Order.{stops-order, order-complete, order-leads}
-use Rattle.days.specs.Days.{Day, problem}
+use Rattle.days.specs.Days.{Day, Closer, problem}
 use Rattle.days.specs.Code.{Reckoning}
 
 -- w has the set of x, is where x is, and has no more path cost
@@ -47,7 +47,7 @@ pub record Walk (n most : ℕ) (D : Day) (R : Reckoning) : Type 0 where
   pub ahead-grows :
       (k : ℕ) → k ≤ most → (place s : ℕ) (rest : List ℕ) → Distinct rest → In s rest
       → R .ahead k place rest ≤ R .further place s + R .ahead k (R .after place s) (without s rest)
-  pub ahead-closer : (j k : ℕ) → j ≤ k → k ≤ most → (place : ℕ) (rest : List ℕ) → R .ahead j place rest ≤ R .ahead k place rest
+  pub ahead-closer : (j k : ℕ) → Closer j k → (place : ℕ) (rest : List ℕ) → R .ahead k place rest ≤ R .ahead j place rest
   -- a dominator of x is like x; and what is like x is x or dominates it, but no node dominates itself
   pub dominator-alike : (w x : Node) → T (D .dominates w x) → Alike n D R w x
   pub alike-dominates : (w x : Node) → Alike n D R w x → (w ≡ x) ⊎ T (D .dominates w x)
@@ -144,10 +144,14 @@ module _ {n most : ℕ} {D : Day} {R : Reckoning} (walk : Walk n most D R) where
     fair = λ w x d. alike-bound k h w x (walk .dominator-alike w x d);
   }
 
-  pub walk-closer : (j k : ℕ) → j ≤ k → k ≤ most → (x : Node) → D .bound j x ≤ D .bound k x
+  closer-above : (j k : ℕ) → Closer j k → k ≤ j
+  closer-above j k (inl h) = omega (arith, h)
+  closer-above j k (inr h) = omega (arith, h)
+
+  pub walk-closer : (j k : ℕ) → Closer j k → j ≤ most → (x : Node) → D .bound k x ≤ D .bound j x
   walk-closer j k h i x =
-      rw (walk .bound-ahead j (omega arith) x, walk .bound-ahead k i x)
-      (omega (arith, walk .ahead-closer j k h i (R .place x) (left n x)))
+      rw (walk .bound-ahead j i x, walk .bound-ahead k (omega (arith, closer-above j k h)) x)
+      (omega (arith, walk .ahead-closer j k h (R .place x) (left n x)))
 
 pub day-weighs : (n : ℕ) (D : Day) → Weighs (problem n D) (λ x. nodes (n - size n x))
 unfolding problem

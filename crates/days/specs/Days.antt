@@ -1,7 +1,9 @@
 -- What a day reckons with, and the search for its cheapest order: document 01, "Nodes" and "One run". The stops of a table are a day
 -- (crate `stops`).
+use mathlib.Core.Path.{_≡_}
 use mathlib.Core.Bool.{Bool}
 use mathlib.Core.List.{[]}
+use mathlib.Core.Logic.{_⊎_}
 use Prim.Native.Nat.{ℕ}
 use Rattle.sizes.specs.Sizes.{aboveEveryCost}
 use Rattle.search.specs.Problem.{Problem, Choices}
@@ -16,6 +18,11 @@ pub record Day : Type 0 where
   pub bound : ℕ → Node → ℕ
   -- y dominates z: `dominates y z`
   pub dominates : Node → Node → Bool
+
+-- Bound j is closer than bound k: close (1) than plain (0); and, on a day that ends away (request A.5), close (3) than plain (2). A bound of the one
+-- day is never compared with one of the other.
+abbrev pub Closer : ℕ → ℕ → Type 0
+Closer j k = ((j ≡ 1) × (k ≡ 0)) ⊎ ((j ≡ 3) × (k ≡ 2))
 
 -- the search for the cheapest order of n stops
 unfoldable pub problem : ℕ → Day → Problem Node

@@ -1,31 +1,35 @@
--- What requests A.1 and A.4 say of a first order (specs/Request), proved, a theorem for each type. Besides, for the crates above:
+-- What requests A.1, A.4 and A.5 say of a first order (specs/Request), proved, a theorem for each type. Besides, for the crates above:
 --   firstOf-order      the first order of a table is an order
 --   promised-places    an answer has as many places as there may be stops
 use mathlib.Core.Path.{_≡_, refl, sym, ap, ap₂, subst, _∙_}
-use mathlib.Core.Bool.{true, false, or-true}
+use mathlib.Core.Bool.{Bool, true, false, or-true}
 use mathlib.Core.List.{List}
 use mathlib.Core.Logic.{_≢_}
 use Prim.Native.Nat.{ℕ, zero, suc, _≤_, _<_}
 use native.Mathlib.Omega.{arith}
 use lib.ListN.{length, take, replicate, length-append, length-replicate}
+use borrow.Author.Tests.{lt-leb}
 use Rattle.sizes.specs.Sizes.{mostStops, orderPlaces}
 use Rattle.lists.specs.Lists.{padded}
 use Rattle.lists.proofs.Tests.{to-true}
 use Rattle.lists.proofs.Padded.{take-padded}
-use Rattle.orders.specs.Orders.{Order, isOrder}
+use Rattle.orders.specs.Orders.{Node, Order, isOrder}
 use Rattle.orders.proofs.Order.{order-length, order-isOrder}
 use Rattle.orders.proofs.Orders.{orders-in}
 use Rattle.stops.specs.Tables.{rows}
-use Rattle.stops.specs.Legs.{Legs, legs, cost}
+use Rattle.stops.specs.Legs.{Legs, legs, path, cost}
+use Rattle.stops.specs.Bounds.{endsAway}
 use Rattle.stops.specs.Stops.{day, dayOn}
+use Rattle.stops.specs.Away.{dayAway, dayAwayOn}
 use Rattle.stops.proofs.LegTable.{leg-flying}
 use Rattle.stops.proofs.Charges.{day-cost-pays, uncharged-rows}
-use Rattle.answer.proofs.Charges.{table-causes-as-before}
+use Rattle.stops.proofs.Away.{away-cost}
+use Rattle.answer.proofs.AsBefore.{table-causes-as-before}
 use Rattle.answer.specs.Answer.{dayOf}
 use Rattle.answer.specs.Demands.{Planner, RunIsWritten}
-use Rattle.answer.specs.Checks.{cause₅, tableCause, jobCause}
-use Rattle.answer.proofs.Passes.{table-passed}
-use Rattle.answer.proofs.Ending.{tableCause-small}
+use Rattle.answer.specs.Checks.{cause₅, boundCause, jobCause}
+use Rattle.answer.proofs.Passes.{bound-passed, known-bound}
+use Rattle.answer.proofs.Ending.{boundCause-small}
 use Rattle.answer.proofs.Demand3.{cheapest-of-all}
 use Rattle.first_answer.specs.Nearest.{anyNode}
 use Rattle.first_answer.specs.Exchanges.{exchanged}
@@ -42,15 +46,19 @@ use Rattle.first_answer.specs.Request.{
   OwnCost,
   NoExchangeCheaper,
   NoDearerThanNearest,
-  RefusedByTable,
+  RefusedByCause,
   PassesAsStart,
   PlanNoDearer,
   FirstFlies,
   FirstPays,
   FirstUncharged,
+  FirstEndsHome,
+  FirstEndsAway,
+  FirstByEnd,
   firstOn,
 }
 use Rattle.first_answer.proofs.Cheapest.{cheapest-first}
+use Rattle.first_answer.proofs.Exchanged.{exchanged-order}
 use Rattle.first_answer.proofs.NearestOrder.{nearest-free}
 use Rattle.first_answer.proofs.Settled.{improved-settles, improved-only, settles-few, improved-cost, improved-least, improved-order}
 
@@ -68,73 +76,73 @@ exchanges-improve L allowed x = (improved-cost L allowed x, improved-least L all
 
 -- ---- the first order of a table
 
-module _ (n : ℕ) (table : List ℕ) where
-  nearestOf-order : Order n (nearestOf n table)
+module _ (n bound : ℕ) (table : List ℕ) where
+  nearestOf-order : Order n (nearestOf n bound table)
   unfolding nearestOf
-  nearestOf-order = nearest-free n (legsOf n table) anyNode (λ x. tt)
+  nearestOf-order = nearest-free n (legsOf n bound table) anyNode (λ x. tt)
 
-  pub firstOf-order : Order n (firstOf n table)
+  pub firstOf-order : Order n (firstOf n bound table)
   unfolding firstOf
-  firstOf-order = improved-order (legsOf n table) anyNode n (nearestOf n table) nearestOf-order
+  firstOf-order = improved-order (legsOf n bound table) anyNode n (nearestOf n bound table) nearestOf-order
 
-  firstOf-cost : cost (legsOf n table) (firstOf n table) ≤ cost (legsOf n table) (nearestOf n table)
+  firstOf-cost : cost (legsOf n bound table) (firstOf n bound table) ≤ cost (legsOf n bound table) (nearestOf n bound table)
   unfolding firstOf
-  firstOf-cost = improved-cost (legsOf n table) anyNode (nearestOf n table)
+  firstOf-cost = improved-cost (legsOf n bound table) anyNode (nearestOf n bound table)
 
-  firstOf-least : (p q : ℕ) → p < q → q < n → cost (legsOf n table) (firstOf n table) ≤ cost (legsOf n table) (exchanged (firstOf n table) p q)
+  firstOf-least : (p q : ℕ) → p < q → q < n → cost (legsOf n bound table) (firstOf n bound table) ≤ cost (legsOf n bound table) (exchanged (firstOf n bound table) p q)
   unfolding firstOf
   firstOf-least p q h k =
-      improved-least (legsOf n table) anyNode (nearestOf n table) p q h (omega (arith, order-length n (firstOf n table) firstOf-order)) tt
+      improved-least (legsOf n bound table) anyNode (nearestOf n bound table) p q h (omega (arith, order-length n (firstOf n bound table) firstOf-order)) tt
 
   -- what is returned with number 0
   record Shows (r : FirstOrder) : Type 0 where
-    costs : r .cost ≡ cost (legsOf n table) (firstOf n table)
-    places : r .order ≡ padded orderPlaces (firstOf n table)
-    stops : shown n r ≡ firstOf n table
+    costs : r .cost ≡ cost (legsOf n bound table) (firstOf n bound table)
+    places : r .order ≡ padded orderPlaces (firstOf n bound table)
+    stops : shown n r ≡ firstOf n bound table
 
-  given-shows : (r : FirstOrder) → Given n table r → Shows r
+  given-shows : (r : FirstOrder) → Given n bound table r → Shows r
   unfolding firstAnswer respond
-  given-shows r (e, z) = go (tableCause n table 0) e
+  given-shows r (e, z) = go (boundCause n bound table) e
     where
-      go : (k : ℕ) → r ≡ respond n table k → Shows r
+      go : (k : ℕ) → r ≡ respond n bound table k → Shows r
       go zero e = record {
         costs = ap (λ (a : FirstOrder). a .cost) e;
         places = ap (λ (a : FirstOrder). a .order) e;
         stops =
             ap (λ (a : FirstOrder). take n (a .order)) e
-            ∙ subst (λ (k : ℕ). take k (padded orderPlaces (firstOf n table)) ≡ firstOf n table) (order-length n (firstOf n table) firstOf-order)
-            (take-padded orderPlaces (firstOf n table));
+            ∙ subst (λ (k : ℕ). take k (padded orderPlaces (firstOf n bound table)) ≡ firstOf n bound table) (order-length n (firstOf n bound table) firstOf-order)
+            (take-padded orderPlaces (firstOf n bound table));
       }
       go (suc k) e = absurd (omega (arith, ap (λ (a : FirstOrder). a .number) e, z))
 
 -- ---- what is returned
 
 pub gives-order : GivesOrder
-gives-order n table r g =
-    let s = given-shows n table r g in
-    (rw (s .stops) (firstOf-order n table), rw (s .stops) (s .places))
+gives-order n bound table r g =
+    let s = given-shows n bound table r g in
+    (rw (s .stops) (firstOf-order n bound table), rw (s .stops) (s .places))
 
 pub own-cost : OwnCost
-own-cost n table r g = let s = given-shows n table r g in rw (s .stops) (s .costs)
+own-cost n bound table r g = let s = given-shows n bound table r g in rw (s .stops) (s .costs)
 
 pub no-exchange-cheaper : NoExchangeCheaper
-no-exchange-cheaper n table r g p q h k =
-    let s = given-shows n table r g in
-    rw (s .stops, s .costs) (firstOf-least n table p q h k)
+no-exchange-cheaper n bound table r g p q h k =
+    let s = given-shows n bound table r g in
+    rw (s .stops, s .costs) (firstOf-least n bound table p q h k)
 
 pub no-dearer-than-nearest : NoDearerThanNearest
-no-dearer-than-nearest n table r g =
-    let s = given-shows n table r g in
-    (nearestOf-order n table, rw (s .costs) (firstOf-cost n table))
+no-dearer-than-nearest n bound table r g =
+    let s = given-shows n bound table r g in
+    (nearestOf-order n bound table, rw (s .costs) (firstOf-cost n bound table))
 
-pub refused-by-table : RefusedByTable
+pub refused-by-cause : RefusedByCause
 unfolding firstAnswer respond
-refused-by-table n table r e = go (tableCause n table 0) (tableCause-small n table) e
+refused-by-cause n bound table r e = go (boundCause n bound table) (boundCause-small n bound table) e
   where
     zeros : FirstOrder
     zeros = record { number = r .number; cost = 0; order = replicate orderPlaces 0 }
 
-    go : (k : ℕ) → k ≤ 3 → r ≡ respond n table k → (r .number ≡ k) × (r .number ≤ 3) × (r .number ≢ 0 → r ≡ zeros)
+    go : (k : ℕ) → k ≤ 4 → r ≡ respond n bound table k → (r .number ≡ k) × (r .number ≤ 4) × (r .number ≢ 0 → r ≡ zeros)
     go zero h e =
         let none : r .number ≡ 0 = ap (λ (a : FirstOrder). a .number) e in
         (none, omega arith, λ some. absurd (some none))
@@ -142,53 +150,91 @@ refused-by-table n table r e = go (tableCause n table 0) (tableCause-small n tab
         let number : r .number ≡ suc k = ap (λ (a : FirstOrder). a .number) e in
         (number, omega arith, λ some. e ∙ rw number)
 
-pub promised-places : (n : ℕ) (table : List ℕ) (r : FirstOrder) → Promised n table r → length (r .order) ≡ orderPlaces
+pub promised-places : (n bound : ℕ) (table : List ℕ) (r : FirstOrder) → Promised n bound table r → length (r .order) ≡ orderPlaces
 unfolding firstAnswer respond padded
-promised-places n table r e = go (tableCause n table 0) refl e
+promised-places n bound table r e = go (boundCause n bound table) refl e
   where
-    go : (k : ℕ) → tableCause n table 0 ≡ k → r ≡ respond n table k → length (r .order) ≡ orderPlaces
+    go : (k : ℕ) → boundCause n bound table ≡ k → r ≡ respond n bound table k → length (r .order) ≡ orderPlaces
     go zero none e =
-        let few : n ≤ mostStops = table-passed n table 0 none .0 .priced .few in
+        let few : n ≤ mostStops = bound-passed n bound table none .priced .few in
         rw e
-        (simp (length-append, length-replicate) (omega (arith, order-length n (firstOf n table) (firstOf-order n table))))
+        (simp (length-append, length-replicate) (omega (arith, order-length n (firstOf n bound table) (firstOf-order n bound table))))
     go (suc k) some e = rw e refl
 
 pub passes-as-start : PassesAsStart
 unfolding cause₅ jobCause
-passes-as-start job table r g =
+passes-as-start job bound table r g =
     let order : isOrder (job .n) (shown (job .n) r) ≡ true =
-    to-true (isOrder (job .n) (shown (job .n) r)) (order-isOrder (job .n) (shown (job .n) r) (gives-order (job .n) table r g .0)) in
+    to-true (isOrder (job .n) (shown (job .n) r)) (order-isOrder (job .n) (shown (job .n) r) (gives-order (job .n) bound table r g .0)) in
     let passes : cause₅ (job .n) (shown (job .n) r) ≡ false = rw (order, or-true) in
     (passes, λ later. rw passes)
 
 -- whatever planner answers as the written run does
 pub plan-no-dearer : (P : Planner) → RunIsWritten P → PlanNoDearer P
 unfolding dayOf dayOn day legsOf
-plan-no-dearer P run c a r p h g =
+plan-no-dearer P run c a bound r p h ends g =
     let n : ℕ = c .job .n in
-    rw (own-cost n (c .table) r g)
-    (cheapest-of-all c a (run c a p) h .least (shown n r) (orders-in n (shown n r) (gives-order n (c .table) r g .0)))
+    rw (own-cost n bound (c .table) r g, ends)
+    (cheapest-of-all c a (run c a p) h .least (shown n r) (orders-in n (shown n r) (gives-order n bound (c .table) r g .0)))
 
 -- ---- request A.4
 
 pub first-flies : FirstFlies
 unfolding legsOf legs
-first-flies n table few i j h k = leg-flying n table few i j h k
+first-flies n bound table few i j h stop k = leg-flying n table few (endsAway bound) i j h k stop
 
 pub first-pays : FirstPays
 unfolding legsOf dayOn day
-first-pays n table r (e, z) =
-    let none : tableCause n table 0 ≡ 0 = sym (refused-by-table n table r e .0) ∙ z in
-    let passed = table-passed n table 0 none .0 in
-    own-cost n table r (e, z)
-    ∙ day-cost-pays n (passed .some) (passed .priced .few) table (shown n r) (gives-order n table r (e, z) .0)
+first-pays n bound table r (e, z) =
+    let none : boundCause n bound table ≡ 0 = sym (refused-by-cause n bound table r e .0) ∙ z in
+    let passed = bound-passed n bound table none in
+    own-cost n bound table r (e, z)
+    ∙ day-cost-pays n (passed .some) (passed .priced .few) (endsAway bound) table (shown n r) (gives-order n bound table r (e, z) .0)
 
-pub first-uncharged : FirstUncharged
+-- the answer by some legs and some number, and which they are
+first-on : (n bound : ℕ) (table : List ℕ) → firstAnswer n bound table ≡ firstOn (legs (rows n (endsAway bound) table)) n (boundCause n bound table)
 unfolding firstAnswer respond firstOf nearestOf legsOf
-first-uncharged n table r e none =
-    e ∙ at (tableCause n table 0)
-    ∙ ap₂ (λ (L : Legs) (k : ℕ). firstOn L n k) (ap legs (uncharged-rows n table none)) (table-causes-as-before n table none 0)
+first-on n bound table = at (boundCause n bound table)
   where
-    at : (k : ℕ) → respond n table k ≡ firstOn (legs (rows n table)) n k
+    at : (k : ℕ) → respond n bound table k ≡ firstOn (legs (rows n (endsAway bound) table)) n k
     at zero = refl
     at (suc k) = refl
+
+-- bounds 0 and 1 are for a day that ends at home
+home-bound : (bound : ℕ) → bound ≤ 1 → endsAway bound ≡ false
+unfolding endsAway
+home-bound bound h = lt-leb 2 bound (omega arith)
+
+pub first-ends-home : FirstEndsHome
+first-ends-home n bound table r e h =
+    e ∙ first-on n bound table
+    ∙ ap₂ (λ (away : Bool) (k : ℕ). firstOn (legs (rows n away table)) n k) (home-bound bound h) (known-bound n bound table (omega arith))
+
+pub first-uncharged : FirstUncharged
+first-uncharged n bound table r e h none =
+    first-ends-home n bound table r e h
+    ∙ ap₂ (λ (L : Legs) (k : ℕ). firstOn L n k) (ap legs (uncharged-rows n false table none)) (table-causes-as-before n table none 0)
+
+-- ---- request A.5
+
+pub first-ends-away : FirstEndsAway
+unfolding legsOf dayOn day dayAwayOn dayAway
+first-ends-away n bound table r (e, z) away =
+    let none : boundCause n bound table ≡ 0 = sym (refused-by-cause n bound table r e .0) ∙ z in
+    let passed = bound-passed n bound table none in
+    let order : Order n (shown n r) = gives-order n bound table r (e, z) .0 in
+    let L : Legs = legs (rows n false table) in
+    let long : length (shown n r) ≡ n = order-length n (shown n r) order in
+    let costs : (x : Node) → Order n x → cost (legs (rows n (endsAway bound) table)) x ≡ path L x =
+    λ x o. rw away (away-cost n (passed .some) (passed .priced .few) table x o) in (
+      own-cost n bound table r (e, z) ∙ costs (shown n r) order,
+      λ p q h k.
+          subst (λ (v : ℕ). r .cost ≤ v) (costs (exchanged (shown n r) p q) (exchanged-order (shown n r) p q (omega (arith, long)) (omega (arith, long)) n order))
+          (no-exchange-cheaper n bound table r (e, z) p q h k),
+    )
+
+pub first-by-end : FirstByEnd
+first-by-end n a b table h k ends =
+    first-on n a table
+    ∙ ap₂ (λ (away : Bool) (k : ℕ). firstOn (legs (rows n away table)) n k) ends (known-bound n a table h ∙ sym (known-bound n b table k))
+    ∙ sym (first-on n b table)

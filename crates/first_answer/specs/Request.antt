@@ -1,8 +1,8 @@
--- What request A.1 and, at the end, request A.4 say of a first order beside how it is made, which the definitions say (Nearest, Exchanges) and
+-- What request A.1 and, at the end, requests A.4 and A.5 say of a first order beside how it is made, which the definitions say (Nearest, Exchanges) and
 -- Examples shows: a type for each sentence, proved in proofs/. The first is over any elements, the next three over any legs and any test of what is allowed. The others
 -- are over whatever a call returns that keeps its promise (`Promised`), so that they are of the definition and of the code at once.
 use mathlib.Core.Path.{_≡_}
-use mathlib.Core.Bool.{Bool, false}
+use mathlib.Core.Bool.{Bool, true, false}
 use mathlib.Core.List.{List, [], _∷_, _++_}
 use mathlib.Core.Logic.{_≢_}
 use Prim.Native.Nat.{ℕ, zero, suc, _+_, _≤_, _<_}
@@ -11,17 +11,18 @@ use lib.ListN.{length, take, replicate}
 use Rattle.sizes.specs.Sizes.{mostStops, orderPlaces}
 use Rattle.lists.specs.Lists.{In, sum, from, padded}
 use Rattle.orders.specs.Orders.{Node, Order}
-use Rattle.stops.specs.Tables.{entry, charge, legRows}
-use Rattle.stops.specs.Legs.{Legs, legs, cost}
+use Rattle.stops.specs.Tables.{entry, charge, rows, legRows, landing}
+use Rattle.stops.specs.Legs.{Legs, legs, path, cost}
+use Rattle.stops.specs.Bounds.{endsAway}
 use Rattle.answer.specs.Call.{Call, Answer}
 use Rattle.answer.specs.declared.Job.{Job}
-use Rattle.answer.specs.Checks.{cause₅, tableCause, jobCause}
+use Rattle.answer.specs.Checks.{cause₅, tableCause, boundCause, jobCause}
 use Rattle.answer.specs.Ends.{Finishes}
 use Rattle.answer.specs.Demands.{Planner}
-use Rattle.answer.specs.Charges.{NoCharges, legTableCause}
+use Rattle.answer.specs.AsBefore.{NoCharges, legTableCause}
 use Rattle.first_answer.specs.Nearest.{anyNode, cheapest, nearest}
 use Rattle.first_answer.specs.Exchanges.{exchanged, Settles, settled, lowered, improved}
-use Rattle.first_answer.specs.First.{legsOf, nearestOf, Promised}
+use Rattle.first_answer.specs.First.{legsOf, nearestOf, firstAnswer, Promised}
 use Rattle.first_answer.specs.declared.FirstOrder.{FirstOrder}
 
 -- of some elements, a has the least f and is the first that has: each in front of it has a greater one
@@ -61,62 +62,63 @@ ExchangesImprove =
 abbrev pub shown : ℕ → FirstOrder → Node
 shown n r = take n (r .order)
 
--- of n and a table, what is returned with number 0
-abbrev pub Given : ℕ → List ℕ → FirstOrder → Type 0
-Given n table r = Promised n table r × (r .number ≡ 0)
+-- of n, a bound and a table, what is returned with number 0
+abbrev pub Given : ℕ → ℕ → List ℕ → FirstOrder → Type 0
+Given n bound table r = Promised n bound table r × (r .number ≡ 0)
 
 -- an order of 1 to n, and zeros behind it
 abbrev pub GivesOrder : Type 0
-GivesOrder = (n : ℕ) (table : List ℕ) (r : FirstOrder) → Given n table r → Order n (shown n r) × (r .order ≡ padded orderPlaces (shown n r))
+GivesOrder = (n bound : ℕ) (table : List ℕ) (r : FirstOrder) → Given n bound table r → Order n (shown n r) × (r .order ≡ padded orderPlaces (shown n r))
 
 -- the cost is that order's own
 abbrev pub OwnCost : Type 0
-OwnCost = (n : ℕ) (table : List ℕ) (r : FirstOrder) → Given n table r → r .cost ≡ cost (legsOf n table) (shown n r)
+OwnCost = (n bound : ℕ) (table : List ℕ) (r : FirstOrder) → Given n bound table r → r .cost ≡ cost (legsOf n bound table) (shown n r)
 
 -- no exchange of two of its stops is cheaper
 abbrev pub NoExchangeCheaper : Type 0
 NoExchangeCheaper =
-    (n : ℕ) (table : List ℕ) (r : FirstOrder) → Given n table r
-    → (p q : ℕ) → p < q → q < n → r .cost ≤ cost (legsOf n table) (exchanged (shown n r) p q)
+    (n bound : ℕ) (table : List ℕ) (r : FirstOrder) → Given n bound table r
+    → (p q : ℕ) → p < q → q < n → r .cost ≤ cost (legsOf n bound table) (exchanged (shown n r) p q)
 
 -- it costs no more than the nearest-stop order, which is an order too
 abbrev pub NoDearerThanNearest : Type 0
 NoDearerThanNearest =
-    (n : ℕ) (table : List ℕ) (r : FirstOrder) → Given n table r
-    → Order n (nearestOf n table) × (r .cost ≤ cost (legsOf n table) (nearestOf n table))
+    (n bound : ℕ) (table : List ℕ) (r : FirstOrder) → Given n bound table r
+    → Order n (nearestOf n bound table) × (r .cost ≤ cost (legsOf n bound table) (nearestOf n bound table))
 
--- a refusal has the number of the first of causes 1 to 3 that applies, and zeros
-abbrev pub RefusedByTable : Type 0
-RefusedByTable =
-    (n : ℕ) (table : List ℕ) (r : FirstOrder) → Promised n table r
-    → (r .number ≡ tableCause n table 0) × (r .number ≤ 3)
+-- a refusal has the number of the first of causes 1 to 4 that applies, and zeros
+abbrev pub RefusedByCause : Type 0
+RefusedByCause =
+    (n bound : ℕ) (table : List ℕ) (r : FirstOrder) → Promised n bound table r
+    → (r .number ≡ boundCause n bound table) × (r .number ≤ 4)
     × (r .number ≢ 0 → r ≡ record { number = r .number; cost = 0; order = replicate orderPlaces 0 })
 
 -- Handed in as a starting order, check 5 lets it pass: whatever the job's choices, its causes are those that it has with no starting order.
 abbrev pub PassesAsStart : Type 0
 PassesAsStart =
-    (job : Job) (table : List ℕ) (r : FirstOrder) → Given (job .n) table r
+    (job : Job) (bound : ℕ) (table : List ℕ) (r : FirstOrder) → Given (job .n) bound table r
     → (cause₅ (job .n) (shown (job .n) r) ≡ false)
     × ((later : ℕ) → jobCause job table (shown (job .n) r) later ≡ jobCause job table [] later)
 
--- a run over its table that finishes, however it was started, costs no more
+-- a run over its table that finishes, however it was started, costs no more; both end at home, or both away
 abbrev pub PlanNoDearer : Planner → Type 0
 PlanNoDearer P =
-    (c : Call) (a : Answer) (r : FirstOrder) → P c a → Finishes (a .report) → Given (c .job .n) (c .table) r → a .report .cost ≤ r .cost
+    (c : Call) (a : Answer) (bound : ℕ) (r : FirstOrder) → P c a → Finishes (a .report) → endsAway bound ≡ endsAway (c .job .bound)
+    → Given (c .job .n) bound (c .table) r → a .report .cost ≤ r .cost
 
 -- REQUEST A.4
 
--- the nearest stop, and every order, is reckoned by legs that have the landing: from i to j the table's leg and the charge of j
+-- the nearest stop, and every order, is reckoned by legs that have the landing: from i to a stop j the table's leg and the charge of j
 abbrev pub FirstFlies : Type 0
 FirstFlies =
-    (n : ℕ) (table : List ℕ) → n ≤ mostStops → (i j : ℕ) → i ≤ n → j ≤ n
-    → legsOf n table .leg i j ≡ entry n table i j + charge n table j
+    (n bound : ℕ) (table : List ℕ) → n ≤ mostStops → (i j : ℕ) → i ≤ n → 1 ≤ j → j ≤ n
+    → legsOf n bound table .leg i j ≡ entry n table i j + charge n table j
 
--- the cost is that of the order's legs as the table has them, and of every landing, home's included
+-- the cost is that of the order's legs as the table has them, and of every landing, home's included where the day ends there
 abbrev pub FirstPays : Type 0
 FirstPays =
-    (n : ℕ) (table : List ℕ) (r : FirstOrder) → Given n table r
-    → r .cost ≡ cost (legs (legRows n table)) (shown n r) + sum (charge n table) (from 0 (suc n))
+    (n bound : ℕ) (table : List ℕ) (r : FirstOrder) → Given n bound table r
+    → r .cost ≡ cost (legs (legRows n (endsAway bound) table)) (shown n r) + sum (landing n (endsAway bound) table) (from 0 (suc n))
 
 -- what the call answers by some legs, where the checks say `number`
 abbrev pub firstOn : Legs → ℕ → ℕ → FirstOrder
@@ -125,8 +127,28 @@ firstOn L n zero =
     record { number = 0; cost = cost L x; order = padded orderPlaces x }
 firstOn L n (suc k) = record { number = suc k; cost = 0; order = replicate orderPlaces 0 }
 
--- with all charges 0, what is returned is what was returned before the request: by the legs alone, and by document 01's causes
+-- with all charges 0 and a day that ends at home, what is returned is what was returned before the requests: by the legs alone, and by
+-- document 01's causes
 abbrev pub FirstUncharged : Type 0
 FirstUncharged =
-    (n : ℕ) (table : List ℕ) (r : FirstOrder) → Promised n table r → NoCharges n table
-    → r ≡ firstOn (legs (legRows n table)) n (legTableCause n table 0)
+    (n bound : ℕ) (table : List ℕ) (r : FirstOrder) → Promised n bound table r → bound ≤ 1 → NoCharges n table
+    → r ≡ firstOn (legs (legRows n false table)) n (legTableCause n table 0)
+
+-- REQUEST A.5
+
+-- on a day that ends at home what is returned is what was returned without a bound, charges included
+abbrev pub FirstEndsHome : Type 0
+FirstEndsHome =
+    (n bound : ℕ) (table : List ℕ) (r : FirstOrder) → Promised n bound table r → bound ≤ 1
+    → r ≡ firstOn (legs (rows n false table)) n (tableCause n table 0)
+
+-- where the day ends away no leg home counts: the cost is the path cost of the order, and no exchange has a lower one
+abbrev pub FirstEndsAway : Type 0
+FirstEndsAway =
+    (n bound : ℕ) (table : List ℕ) (r : FirstOrder) → Given n bound table r → endsAway bound ≡ true →
+    let L : Legs = legs (rows n false table) in
+    (r .cost ≡ path L (shown n r)) × ((p q : ℕ) → p < q → q < n → r .cost ≤ path L (exchanged (shown n r) p q))
+
+-- of the bound, only where the day ends plays a part: plain and close have one first order
+abbrev pub FirstByEnd : Type 0
+FirstByEnd = (n a b : ℕ) (table : List ℕ) → a ≤ 3 → b ≤ 3 → endsAway a ≡ endsAway b → firstAnswer n a table ≡ firstAnswer n b table

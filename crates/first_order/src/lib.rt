@@ -15,7 +15,7 @@ mod nearest;
 
 use crate::exchange::improve;
 use crate::nearest::nearest_order;
-use checks::table_cause;
+use checks::bound_cause;
 use first_answer::FirstOrder;
 use sizes::ORDER_PLACES;
 use stops::table::Rows;
@@ -30,12 +30,13 @@ fn make(t: &Rows, x: &mut [u8]) -> u32
     improve(t, x)
 }
 
-// The order that the unit makes of the stops 1 to n by itself, and its cost; or the number of the first of causes 1 to 3 that applies.
-pub fn first_order(n: u32, table: &[u32]) -> FirstOrder
-    ensures { λ r. ⌜ Promised n (now (table .entry)) r ⌝ }
+// The order that the unit makes of the stops 1 to n by itself, for the day that the bound is for (request A.5), and its cost; or the number of
+// the first of causes 1 to 4 that applies.
+pub fn first_order(n: u32, bound: u32, table: &[u32]) -> FirstOrder
+    ensures { λ r. ⌜ Promised n bound (now (table .entry)) r ⌝ }
 {
     let mut order = [0u8; ORDER_PLACES];
-    let number = table_cause(n, table);
+    let number = bound_cause(n, bound, table);
     if number != 0 {
         return FirstOrder {
             number,
@@ -44,7 +45,7 @@ pub fn first_order(n: u32, table: &[u32]) -> FirstOrder
         };
     }
     let stops = n as usize;
-    let t = rows(stops, table);
+    let t = rows(stops, bound, table);
     let cost = make(&t, &mut order[..stops]);
     FirstOrder {
         number: 0,

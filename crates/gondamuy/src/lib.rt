@@ -50,8 +50,8 @@ pub extern "C" fn gondamuy_write(
 
 // `first_order::first_order` for C.
 #[no_mangle]
-pub extern "C" fn gondamuy_first_order(n: u32, table: &[u32]) -> FirstOrder
-    ensures { λ r. ⌜ PromisedFirst n (now (table .entry)) r ⌝ }
+pub extern "C" fn gondamuy_first_order(n: u32, bound: u32, table: &[u32]) -> FirstOrder
+    ensures { λ r. ⌜ PromisedFirst n bound (now (table .entry)) r ⌝ }
 {
-    first_order::first_order(n, table)
+    first_order::first_order(n, bound, table)
 }

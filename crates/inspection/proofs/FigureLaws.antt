@@ -12,6 +12,7 @@ use Rattle.lists.proofs.Tests.{to-true}
 use Rattle.orders.specs.Orders.{size}
 use Rattle.orders.proofs.Sets.{size-left}
 use Rattle.stops.specs.Tables.{rows}
+use Rattle.stops.specs.Bounds.{endsAway}
 use Rattle.stops.specs.Stops.{dayOn}
 use Rattle.stops.specs.Code.{stopsIn, reckonOn, Priced, Cheap}
 use Rattle.stops.specs.declared.node_record.Record.{Record}
@@ -39,10 +40,10 @@ module _ (job : Job) (table : List ℕ) (none : jobCause job table [] 0 ≡ 0) w
   pub job-few : job .n ≤ mostStops
   job-few = job-priced .few
 
-  pub job-cheap : Cheap (rows (job .n) table)
-  job-cheap = rows-cheap (job .n) table job-priced
+  pub job-cheap : Cheap (rows (job .n) (endsAway (job .bound)) table)
+  job-cheap = rows-cheap (job .n) table job-priced (endsAway (job .bound))
 
-  pub job-bound : job .bound ≤ 1
+  pub job-bound : job .bound ≤ 3
   job-bound = passed .bound
 
 -- all stops of n, and one more, as a shift gives it
@@ -62,7 +63,7 @@ module _ (n : ℕ) (x : Record) (node : T (isNode n x)) where
   set-within = omega (arith, q .set-is, mask-stops n (flownStops x))
 
   pub bound-sum :
-      (t : List (List ℕ)) (bound : ℕ) → bound ≤ 1
+      (t : List (List ℕ)) (bound : ℕ) → bound ≤ 3
       → dayOn n t .path (flownStops x) + reckonOn t .ahead bound (reckonOn t .place (flownStops x)) (stopsIn (2 ^ n - 1 - x .set))
       ≡ dayOn n t .bound bound (flownStops x)
   bound-sum t bound h =
@@ -72,7 +73,7 @@ module _ (n : ℕ) (x : Record) (node : T (isNode n x)) where
 module _ (x : Record) (job : Job) (table : List ℕ) where
   pub figures-node :
       T (isNode (job .n) x) → jobCause job table [] 0 ≡ 0
-      → (t : List (List ℕ)) (cost place rest more : ℕ) → t ≡ rows (job .n) table
+      → (t : List (List ℕ)) (cost place rest more : ℕ) → t ≡ rows (job .n) (endsAway (job .bound)) table
       → cost ≡ dayOn (job .n) t .path (flownStops x) → place ≡ reckonOn t .place (flownStops x)
       → rest ≡ 2 ^ job .n - 1 - x .set → more ≡ reckonOn t .ahead (job .bound) place (stopsIn rest)
       → record { inside = true; number = 0; node = true; path = cost; bound = cost + more } ≡ figures true x job table
@@ -84,7 +85,7 @@ module _ (x : Record) (job : Job) (table : List ℕ) where
         ep,
         er,
         et,
-        bound-sum (job .n) x node (rows (job .n) table) (job .bound) (job-bound job table none),
+        bound-sum (job .n) x node (rows (job .n) (endsAway (job .bound)) table) (job .bound) (job-bound job table none),
         to-true (isNode (job .n) x) node,
         none,
       ) refl
@@ -97,7 +98,7 @@ module _ (x : Record) (job : Job) (table : List ℕ) where
   unfolding figures figuresBy
   figures-refused number e h = rw (← e) (go (isNode (job .n) x) number h)
     where
-      go : (b : Bool) (k : ℕ) → k ≢ 0 → noFigures true k ≡ figuresBy b k x job (dayOn (job .n) (rows (job .n) table))
+      go : (b : Bool) (k : ℕ) → k ≢ 0 → noFigures true k ≡ figuresBy b k x job (dayOn (job .n) (rows (job .n) (endsAway (job .bound)) table))
       go true zero h = absurd (h refl)
       go true (suc k) h = refl
       go false k h = refl
@@ -116,8 +117,8 @@ figures-words true x job table = go (isNode (job .n) x) (jobCause job table [] 0
   where
     go :
         (b : Bool) (k : ℕ)
-        → figuresBy b k (ofFour (x .size) (x .set) (x .first) (x .second)) job (dayOn (job .n) (rows (job .n) table))
-        ≡ figuresBy b k x job (dayOn (job .n) (rows (job .n) table))
+        → figuresBy b k (ofFour (x .size) (x .set) (x .first) (x .second)) job (dayOn (job .n) (rows (job .n) (endsAway (job .bound)) table))
+        ≡ figuresBy b k x job (dayOn (job .n) (rows (job .n) (endsAway (job .bound)) table))
     go true zero = refl
     go true (suc k) = refl
     go false k = refl

@@ -61,7 +61,7 @@ fn reckoned(size: u32, set: u32, first: u32, second: u32, job: Job, table: &[u32
     requires { ⌜ T (isNode (job .n) (ofFour size set first second)) × (jobCause job (now table) [] 0 ≡ 0) ⌝ }
     ensures { λ r. ⌜ r ≡ figures true (ofFour size set first second) job (now (table .entry)) ⌝ }
 {
-    let t = rows(job.n as usize, table);
+    let t = rows(job.n as usize, job.bound, table);
     let w = along(&t, size, first, second);
     let rest = (1u32 << job.n) - 1 - set;
     let to_come = ahead(&t, job.bound, w.place, rest);

@@ -25,7 +25,7 @@ pub record Passed (c : Contents) : Type 0 where
   pub cheap : (w : ℕ) → In w (c .table) → w ≤ dearestLeg
   pub selection : c .job .selection ≤ 3
   pub rules : c .job .rules ≤ 15
-  pub bound : c .job .bound ≤ 1
+  pub bound : c .job .bound ≤ 3
   pub short : length (c .start) ≤ orderPlaces
   pub bytes : AllBytes (c .start)
 

@@ -9,7 +9,7 @@ use Rattle.lists.specs.Lists.{each}
 use Rattle.orders.specs.Orders.{flown, count, isOrder}
 use Rattle.stops.specs.Tables.{entry, charge}
 use Rattle.answer.specs.declared.Job.{Job}
-use Rattle.answer.specs.Checks.{cause₁, cause₂, cause₃, cause₄, cause₅, tableCause, jobCause}
+use Rattle.answer.specs.Checks.{cause₁, cause₂, cause₃, noSuchBound, cause₄, cause₅, tableCause, jobCause}
 use Rattle.answer.specs.Cases.{tableT}
 use Rattle.job_format.specs.Bytes.{word, wordAt, overwrite}
 use Rattle.job_format.specs.Contents.{Contents, Trailer, trailerOf, trailerBytes, bytesOf, fileLength}
@@ -25,7 +25,7 @@ contents n table selection rules bound start = record { job = job n selection ru
 
 -- what case a's file holds, with every definition that the cases rest on open
 a : Contents
-unfolding flown count isOrder entry charge tableT cause₁ cause₂ cause₃ cause₄ cause₅ tableCause jobCause word wordAt overwrite trailerOf trailerBytes bytesOf trailerFrom trailerIn wordsIn contentsBy contentsIn misplaced fileCause refusal readingBy read writeCause writingBy write
+unfolding flown count isOrder entry charge tableT cause₁ cause₂ cause₃ noSuchBound cause₄ cause₅ tableCause jobCause word wordAt overwrite trailerOf trailerBytes bytesOf trailerFrom trailerIn wordsIn contentsBy contentsIn misplaced fileCause refusal readingBy read writeCause writingBy write
 a = contents 3 tableT 0 1 1 []
 
 -- l. Its length and its trailer.
@@ -89,8 +89,10 @@ files-accepted :
     map fileCause
     (file [] (trailer 0 16 1 0 0 0 0)
     ∷ file (1 ∷ []) (trailer 0 16 1 1 3 15 1)
+    ∷ file (1 ∷ []) (trailer 0 16 1 1 3 15 2)
+    ∷ file [] (trailer 0 16 1 0 0 0 3)
     ∷ [])
-    ≡ 0 ∷ 0 ∷ []
+    ≡ 0 ∷ 0 ∷ 0 ∷ 0 ∷ []
 unfolding a
 files-accepted = refl
 
@@ -115,7 +117,7 @@ misplaced-files :
     ∷ (0 ∷ file [] (trailer 0 16 1 0 0 0 0))
     ∷ drop 1 (file [] (trailer 0 16 1 0 0 0 0))
     ∷ file [] (trailer 0 16 2 0 0 0 0)
-    ∷ file [] (trailer 0 17 1 0 4 16 2)
+    ∷ file [] (trailer 0 17 1 0 4 16 4)
     ∷ [])
     ≡ 9 ∷ 9 ∷ 9 ∷ 9 ∷ 9 ∷ 9 ∷ 9 ∷ 9 ∷ []
 unfolding a
@@ -133,7 +135,7 @@ later-causes :
     ∷ bytesOf (contents 1 (0 ∷ 3 ∷ 5 ∷ 100_001 ∷ []) 4 0 0 (2 ∷ []))
     ∷ file (2 ∷ []) (trailer 0 16 1 1 4 0 0)
     ∷ file [] (trailer 0 16 1 0 0 16 0)
-    ∷ file [] (trailer 0 16 1 0 0 0 2)
+    ∷ file [] (trailer 0 16 1 0 0 0 4)
     ∷ file (2 ∷ []) (trailer 0 16 1 1 0 0 0)
     ∷ file (1 ∷ 1 ∷ []) (trailer 0 16 1 2 0 0 0)
     ∷ [])

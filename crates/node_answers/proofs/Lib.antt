@@ -3,3 +3,4 @@ pub mod NodeLaws
 pub mod NodesRead
 pub mod LongerLaws
 pub mod Charges
+pub mod Away

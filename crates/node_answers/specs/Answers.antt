@@ -17,6 +17,7 @@ use Rattle.lists.specs.Lists.{padded}
 use Rattle.orders.specs.Orders.{Node, flown, setOf, left, size, extend, mask}
 use Rattle.days.specs.Days.{Day}
 use Rattle.stops.specs.Tables.{rows}
+use Rattle.stops.specs.Bounds.{endsAway}
 use Rattle.stops.specs.Stops.{dayOn}
 use Rattle.stops.specs.declared.node_record.Record.{Record}
 use Rattle.records.specs.Records.{orderWord}
@@ -64,7 +65,7 @@ figuresBy true (suc number) x job D = noFigures true (suc number)
 figuresBy false number x job D = noFigures true number
 
 unfoldable pub figures : Bool → Record → Job → List ℕ → Figures
-figures true x job table = figuresBy (isNode (job .n) x) (jobCause job table [] 0) x job (dayOn (job .n) (rows (job .n) table))
+figures true x job table = figuresBy (isNode (job .n) x) (jobCause job table [] 0) x job (dayOn (job .n) (rows (job .n) (endsAway (job .bound)) table))
 figures false x job table = noFigures false 0
 
 -- A stop and its leg, which is what the caller says that flying there costs, fit on a record: it is a node's, for as many stops as a day may

@@ -7,11 +7,12 @@ use Prim.Native.Nat.{ℕ}
 use lib.ListN.{replicate}
 use Rattle.lists.specs.Lists.{padded}
 use Rattle.orders.specs.Orders.{mask}
+use Rattle.stops.specs.Bounds.{endsAway}
 use Rattle.stops.specs.Examples.{computedDay}
 use Rattle.stops.specs.Code.{emptyRecord}
 use Rattle.stops.specs.declared.node_record.Record.{Record}
 use Rattle.records.specs.Records.{stopAt}
-use Rattle.answer.specs.Checks.{cause₁, cause₂, cause₃, cause₄, cause₅, tableCause, jobCause}
+use Rattle.answer.specs.Checks.{cause₁, cause₂, cause₃, noSuchBound, cause₄, cause₅, tableCause, jobCause}
 use Rattle.answer.specs.ChargeCases.{chargedT}
 use Rattle.answer.specs.declared.Job.{Job}
 use Rattle.node_answers.specs.Nodes.{flownStops, isRecordOf, isNode}
@@ -21,7 +22,7 @@ use Rattle.node_answers.specs.Answers.{fits, longer, extension, extendAt
 -- the record of 21: two stops, bits 0 and 1, path cost 7 + 8; stop 2 stands in the lowest four bits, stop 1 in the next
 twoOne : Record
 unfolding computedDay emptyRecord mask padded
-    cause₁ cause₂ cause₃ cause₄ cause₅ tableCause jobCause stopAt flownStops isRecordOf isNode isInside recordAt found verdict flownAt noFigures
+    cause₁ cause₂ cause₃ noSuchBound cause₄ cause₅ endsAway tableCause jobCause stopAt flownStops isRecordOf isNode isInside recordAt found verdict flownAt noFigures
     figuresBy figures fits longer extension extendAt
 twoOne = record { size = 2; set = 3; path = 15; bound = 15; first = 1; second = 0 }
 
@@ -116,6 +117,20 @@ figures-charged : figures true twoOne (jobT 1) chargedT ≡ record { inside = tr
 unfolding twoOne jobT chargedT
 figures-charged = refl
 
+-- on a day that ends away (request A.5) the bound of 213 is its path cost, plain and close: 45, and 46 to stop 3; close of 21, 46 more than its path cost
+twoOneThree : Record
+twoOneThree = record { size = 3; set = 7; path = 91; bound = 91; first = 0x201; second = 0 }
+
+figures-away :
+    map (λ bound. figures true twoOneThree (jobT bound) chargedT .bound) (0 ∷ 1 ∷ 2 ∷ 3 ∷ [])
+    ≡ 99 ∷ 99 ∷ 91 ∷ 91 ∷ []
+unfolding twoOne twoOneThree jobT chargedT
+figures-away = refl
+
+figures-close-away : figures true twoOne (jobT 3) chargedT ≡ record { inside = true; number = 0; node = true; path = 45; bound = 91 }
+unfolding twoOne jobT chargedT
+figures-close-away = refl
+
 charge-refused :
     figures true twoOne (record { n = 1; selection = 0; rules = 0; bound = 1 }) (0 ∷ 3 ∷ 5 ∷ 100_001 ∷ []) .number ≡ 3
 unfolding twoOne
@@ -134,13 +149,13 @@ unfolding twoOne
 dear-leg = refl
 
 no-choice :
-    figures true twoOne (jobT 2) tableT .number
+    figures true twoOne (jobT 4) tableT .number
     ∷ figures true twoOne (record { n = 3; selection = 4; rules = 0; bound = 1 }) tableT .number
     ∷ figures true twoOne (record { n = 3; selection = 0; rules = 16; bound = 1 }) tableT .number ∷ [] ≡ 4 ∷ 4 ∷ 4 ∷ []
 unfolding twoOne tableT jobT
 no-choice = refl
 
-refused-zeros : figures true twoOne (jobT 2) tableT ≡ record { inside = true; number = 4; node = false; path = 0; bound = 0 }
+refused-zeros : figures true twoOne (jobT 4) tableT ≡ record { inside = true; number = 4; node = false; path = 0; bound = 0 }
 unfolding twoOne tableT jobT
 refused-zeros = refl
 

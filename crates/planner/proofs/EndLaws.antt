@@ -23,6 +23,7 @@ use Rattle.search.specs.Run.{withBranched, held, finish, next, finished, Halts,
 use Rattle.search.proofs.Outcome.{next-halts, next-overflows}
 use Rattle.orders.specs.Orders.{Node, Order}
 use Rattle.stops.specs.Tables.{rows}
+use Rattle.stops.specs.Bounds.{endsAway}
 use Rattle.stops.specs.Code.{emptyRecord}
 use Rattle.stops.specs.declared.node_record.Record.{Record}
 use Rattle.records.specs.Records.{recordsIn}
@@ -50,7 +51,7 @@ use Rattle.planner.proofs.TurnLaws.{turn-chooses}
 
 pub record Stands (c : Call) (t : Table) (w : List ℕ) (r : Run) : Type 0 where
   pub passed : cause c ≡ 0
-  pub table : t ≡ rows (c .job .n) (c .table)
+  pub table : t ≡ rows (c .job .n) (endsAway (c .job .bound)) (c .table)
   pub long : length w ≡ length (c .pool)
   pub state : State Node
   pub running : Running (settingOf c) t (c .start) w r state

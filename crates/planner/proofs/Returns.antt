@@ -1,8 +1,10 @@
--- The letter's demands and requests A.3 and A.4 of what `plan` returns and leaves in the pool, from its promise alone: that is an equation with
+-- The letter's demands and requests A.3, A.4 and A.5 of what `plan` returns and leaves in the pool, from its promise alone: that is an equation with
 -- `answer`, of which crate `answer` proves them.
 use Rattle.answer.specs.Demands.{EveryCallIsAnswered, EveryCallEnds, OneAnswer, RefusalsFixed, RunIsWritten, CountsBalance, FullIff, OneCost, CheapestOfAll, FavouredFinishes}
 use Rattle.answer.specs.Budget.{MarkedIff, StoppedAsWritten, OtherwiseZero, ExactBudget, WithinBudget, OrderOrZeros, NoDearerThanStart, FloorHolds, Between, LargerBudget, UnstoppedAsWithout, NoRunReaches}
-use Rattle.answer.specs.Charges.{OrderShownPays, CheapestByLegs, AsDocument01, AcceptedBefore}
+use Rattle.answer.specs.Charges.{OrderShownPays, CheapestByLegs}
+use Rattle.answer.specs.Away.{AnswersAway, CheapestWithoutLegHome, NoDearerAway, LegsHomeUnread}
+use Rattle.answer.specs.AsBefore.{EndsHomeAsBefore, AsDocument01, AcceptedBefore}
 use Rattle.answer.specs.Document01.{FinishedIff, BranchedAreSteps, ContentsPlayNoPart}
 use Rattle.answer.proofs.Demand1.{call-answered, call-ends, one-answer, refusals-fixed}
 use Rattle.answer.proofs.Demand2.{run-is-written, counts-balance, full-iff, finished-iff, branched-are-steps}
@@ -11,7 +13,9 @@ use Rattle.answer.proofs.Demand3Pairs.{favoured-finishes}
 use Rattle.answer.proofs.Contents.{contents-play-no-part}
 use Rattle.answer.proofs.Budget.{marked-iff, stopped-as-written, otherwise-zero, exact-budget, within-budget, order-or-zeros, floor-holds, best-between, no-run-reaches}
 use Rattle.answer.proofs.BudgetPairs.{no-dearer-than-start, larger-budget, unstopped-as-without}
-use Rattle.answer.proofs.Charges.{order-shown-pays, cheapest-by-legs, as-document-01, accepted-before}
+use Rattle.answer.proofs.Charges.{order-shown-pays, cheapest-by-legs}
+use Rattle.answer.proofs.Away.{answers-away, cheapest-without-leg-home, no-dearer-away, legs-home-unread}
+use Rattle.answer.proofs.AsBefore.{ends-home-as-before, as-document-01, accepted-before}
 use Rattle.planner.specs.Demands.{returned}
 
 -- demand 1 (that the code's call returns at all is what every proved contract says)
@@ -100,6 +104,23 @@ returned-order-pays = order-shown-pays
 
 pub returned-cheapest-by-legs : CheapestByLegs returned
 returned-cheapest-by-legs = cheapest-by-legs
+
+-- request A.5
+pub returned-away : AnswersAway returned
+returned-away = answers-away
+
+pub returned-cheapest-away : CheapestWithoutLegHome returned
+returned-cheapest-away = cheapest-without-leg-home
+
+pub returned-no-dearer-away : NoDearerAway returned
+returned-no-dearer-away = no-dearer-away
+
+pub returned-unread : LegsHomeUnread returned
+returned-unread = legs-home-unread
+
+-- without them
+pub returned-ends-home : EndsHomeAsBefore returned
+returned-ends-home = ends-home-as-before
 
 pub returned-as-document-01 : AsDocument01 returned
 returned-as-document-01 = as-document-01

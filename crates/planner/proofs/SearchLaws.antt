@@ -13,6 +13,7 @@ use Rattle.search.proofs.Outcome.{next-stepped}
 use Rattle.search.proofs.Budget.{stepped-adds}
 use Rattle.orders.specs.Orders.{Node, nodes}
 use Rattle.stops.specs.Tables.{rows}
+use Rattle.stops.specs.Bounds.{endsAway}
 use Rattle.records.specs.Code.{records}
 use Rattle.answer.specs.Call.{Call}
 use Rattle.answer.specs.Answer.{given}
@@ -27,7 +28,7 @@ use Rattle.planner.specs.Code.{Running, Turned, recordsOf}
 use Rattle.planner.specs.declared.run.Turn.the-variants.{Go}
 
 pub run-begins :
-    (c : Call) → Passes c → {t : Table} → t ≡ rows (c .job .n) (c .table) → {w : List ℕ} {r : Run}
+    (c : Call) → Passes c → {t : Table} → t ≡ rows (c .job .n) (endsAway (c .job .bound)) (c .table) → {w : List ℕ} {r : Run}
     → (let d = settingOf c in
     Shown d w r (recordsOf d t (start (problemOf d t) (given (c .start))))
     → Running d t (c .start) w r (start (problemOf d t) (given (c .start))))

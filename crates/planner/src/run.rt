@@ -137,7 +137,7 @@ pub fn search(setting: Setting, table: &[u32], start: &[u8], w: &mut [u32]) -> R
     requires { ⌜ cause (callOf (jobOf setting) (now table) (now start) (setting .budget) (now w)) ≡ 0 ⌝ }
     ensures { λ q. ⌜ Ended (callOf (jobOf setting) (now (table .entry)) (now (start .entry)) (setting .budget) (now (w .entry))) q (now (w .exit)) ⌝ }
 {
-    let t = rows(setting.n as usize, table);
+    let t = rows(setting.n as usize, setting.bound, table);
     let capacity = w.len() / RECORD_WORDS;
     let mut r = begun(setting, t, start, w);
     let mut kids = [0u32; FAMILY_WORDS];

@@ -1,5 +1,6 @@
 -- Worked examples of records and of the pool's words.
 use mathlib.Core.Path.{_≡_, refl}
+use mathlib.Core.Bool.{false}
 use mathlib.Core.List.{[], _∷_, map}
 use mathlib.Core.Option.{none}
 use Rattle.lists.specs.Lists.{from, padded}
@@ -14,7 +15,7 @@ use Rattle.records.specs.Records.{stopAt, record-of, poolWords, recordsI
 -- the day of document 01's table T, with every definition that the examples rest on open
 dayT : Day
 unfolding held mask computedDay stopAt record-of padded poolWords recordsIn
-dayT = computedDay 3 (0 ∷ 4 ∷ 7 ∷ 9 ∷ 5 ∷ 0 ∷ 2 ∷ 6 ∷ 3 ∷ 8 ∷ 0 ∷ 1 ∷ 6 ∷ 5 ∷ 4 ∷ 0 ∷ [])
+dayT = computedDay 3 false (0 ∷ 4 ∷ 7 ∷ 9 ∷ 5 ∷ 0 ∷ 2 ∷ 6 ∷ 3 ∷ 8 ∷ 0 ∷ 1 ∷ 6 ∷ 5 ∷ 4 ∷ 0 ∷ [])
 
 -- 21: two stops, bits 0 and 1, path cost 7 + 8; stop 2 stands in the lowest four bits, stop 1 in the next
 record-of-21 : record-of 3 dayT 0 (2 ∷ 1 ∷ []) ≡ 2 ∷ 3 ∷ 15 ∷ 15 ∷ 1 ∷ 0 ∷ []

@@ -24,3 +24,4 @@ pub mod MappedRun
 pub mod Bounded
 pub mod Within
 pub mod Budget
+pub mod SameRun

@@ -3,10 +3,10 @@
 --   ahead-closer    close adds at least what plain adds
 -- Nothing here knows of nodes or of sets; the stops left are any distinct numbers.
 use mathlib.Core.Path.{_≡_, refl, sym, subst}
-use mathlib.Core.Bool.{not}
+use mathlib.Core.Bool.{Bool, true, false, not}
 use mathlib.Core.List.{List, [], _∷_, List·Memᴰ·tail, List·Memᴰ·cases-cons, List·Memᴰ·not-nil}
 use mathlib.Core.Logic.{_⊎_, inl, inr}
-use Prim.Native.Nat.{ℕ, zero, suc, _+_, _≤_}
+use Prim.Native.Nat.{ℕ, _+_, _≤_}
 use native.Mathlib.Omega.{arith}
 use lib.Dec.{eqb}
 use Rattle.lists.specs.Lists.{In, sum, without, Distinct}
@@ -14,9 +14,10 @@ use Rattle.lists.proofs.Tests.{neq, ne-neqb}
 use Rattle.lists.proofs.Members.{in-head, in-keep, keep-in}
 use Rattle.lists.proofs.Distinct.{sum-without}
 use Rattle.lists.proofs.Numbers.{sum-mono, least-le, least-of-some}
+use Rattle.days.specs.Days.{Closer}
 use Rattle.stops.specs.Legs.{Legs}
-use Rattle.stops.specs.Bounds.{cheapestInto, remainder}
-use Rattle.stops.specs.Code.{ahead}
+use Rattle.stops.specs.Bounds.{isClose, cheapestInto, remainder}
+use Rattle.stops.specs.Code.{aheadBy, ahead}
 use Rattle.stops.specs.Examples
 
 -- The stop s, one of the distinct stops `rest`, is flown to from a place. The remainder falls by at most that leg:
@@ -53,12 +54,12 @@ module _ (L : Legs) (place s : ℕ) (rest : List ℕ) (d : Distinct rest) (m : I
       )
 
   remainder-grows :
-      (k : ℕ) (after : List ℕ) → without s rest ≡ after → remainder L place rest ≤ L .leg place s + ahead (suc k) L s after
-  unfolding remainder ahead
-  remainder-grows k [] e =
+      (after : List ℕ) → without s rest ≡ after → remainder L place rest ≤ L .leg place s + aheadBy true L s after
+  unfolding remainder
+  remainder-grows [] e =
       let h : sum (cheapestInto L place rest) rest ≤ L .leg place s + 0 = rw e at legs-grow in
       omega (arith, least-le (L .home) rest s m)
-  remainder-grows k (q ∷ qs) e =
+  remainder-grows (q ∷ qs) e =
       let h : sum (cheapestInto L place rest) rest ≤ L .leg place s + sum (cheapestInto L s (q ∷ qs)) (q ∷ qs) = rw e at legs-grow in
       omega
       (arith, least-of-some (L .home) rest q qs (λ z i. in-keep (λ r. not (eqb s r)) rest z (subst (λ (l : List ℕ). In z l) (sym e) i) .0))
@@ -67,13 +68,17 @@ pub ahead-grows :
     (k : ℕ) (L : Legs) (place s : ℕ) (rest : List ℕ) → Distinct rest → In s rest
     → ahead k L place rest ≤ L .leg place s + ahead k L s (without s rest)
 unfolding ahead
-ahead-grows k L place s [] d m = absurd (List·Memᴰ·not-nil m)
-ahead-grows zero L place s (r ∷ rs) d m = omega arith
-ahead-grows (suc k) L place s (r ∷ rs) d m = remainder-grows L place s (r ∷ rs) d m k (without s (r ∷ rs)) refl
+ahead-grows k L place s rest d m = go (isClose k) rest d m
+  where
+    go :
+        (b : Bool) (rest : List ℕ) → Distinct rest → In s rest
+        → aheadBy b L place rest ≤ L .leg place s + aheadBy b L s (without s rest)
+    go b [] d m = absurd (List·Memᴰ·not-nil m)
+    go true (r ∷ rs) d m = remainder-grows L place s (r ∷ rs) d m (without s (r ∷ rs)) refl
+    go false (r ∷ rs) d m = omega arith
 
-pub ahead-closer : (j k : ℕ) → j ≤ k → (L : Legs) (place : ℕ) (rest : List ℕ) → ahead j L place rest ≤ ahead k L place rest
-unfolding ahead
+pub ahead-closer : (j k : ℕ) → Closer j k → (L : Legs) (place : ℕ) (rest : List ℕ) → ahead k L place rest ≤ ahead j L place rest
+unfolding ahead isClose
 ahead-closer j k h L place [] = omega arith
-ahead-closer zero k h L place (r ∷ rs) = omega arith
-ahead-closer (suc j) zero h L place (r ∷ rs) = absurd (omega arith)
-ahead-closer (suc j) (suc k) h L place (r ∷ rs) = omega arith
+ahead-closer j k (inl h) L place (r ∷ rs) = rw (h .0, h .1) (omega arith)
+ahead-closer j k (inr h) L place (r ∷ rs) = rw (h .0, h .1) (omega arith)

@@ -12,7 +12,7 @@ use mathlib.Core.Path.{_≡_, refl, sym, subst, ap₂}
 use mathlib.Core.Bool.{Bool, true, false, not, _&&_, cond}
 use mathlib.Core.List.{List, [], _∷_, List·Memᴰ·tail, List·Memᴰ·cases-cons}
 use mathlib.Core.Logic.{_⊎_, inl, inr, _≢_}
-use Prim.Native.Nat.{ℕ, zero, suc, _+_, _≤_}
+use Prim.Native.Nat.{ℕ, suc, _+_, _≤_}
 use native.Mathlib.Omega.{arith}
 use lib.Dec.{T, T-not, eqb, leb, leb→le}
 use Rattle.sizes.specs.Sizes.{mostStops, places}
@@ -26,25 +26,26 @@ use Rattle.orders.proofs.Sets.{in-flown, in-left, last-in}
 use Rattle.orders.proofs.Tree.{complete-left, left-complete, last-flown}
 use Rattle.orders.proofs.Partial.{partial-sum}
 use Rattle.orders.proofs.Order.{order-partial, order-complete, order-sum}
-use Rattle.stops.specs.Tables.{entry, charge, flying, inRows, rows, legRows}
+use Rattle.stops.specs.Tables.{entry, charge, flying, counted, inRows, rows, legRows, landing}
 use Rattle.stops.specs.Legs.{Legs, rowLeg, legs, pathFrom, path, cost}
-use Rattle.stops.specs.Bounds.{plain, cheapestInto, remainder, close, boundBy, dominates}
+use Rattle.stops.specs.Bounds.{isClose, plain, cheapestInto, remainder, close, boundBy, dominates}
 use Rattle.stops.specs.Stops.{day, dayOn}
 use Rattle.stops.proofs.LegTable.{leg-in-rows}
 
 module _
     (n : ℕ) (some : 1 ≤ n) (L M : Legs) (f : ℕ → ℕ)
-    (legs-pay : (i j : ℕ) → i ≤ n → j ≤ n → i ≢ j → L .leg i j ≡ M .leg i j + f j)
+    (legs-pay : (i j : ℕ) → i ≤ n → 1 ≤ j → j ≤ n → i ≢ j → L .leg i j ≡ M .leg i j + f j)
     (home-pays : (s : ℕ) → 1 ≤ s → s ≤ n → L .home s ≡ M .home s + f 0) where
   path-from-pays :
-      (place : ℕ) (x : Node) → ((s : ℕ) → In s (place ∷ x) → s ≤ n) → Distinct (place ∷ x)
+      (place : ℕ) (x : Node) → place ≤ n → ((s : ℕ) → In s x → (1 ≤ s) × (s ≤ n)) → Distinct (place ∷ x)
       → pathFrom L place x ≡ pathFrom M place x + sum f x
-  path-from-pays place [] near d = refl
-  path-from-pays place (s ∷ x) near (more new d) =
+  path-from-pays place [] near stops d = refl
+  path-from-pays place (s ∷ x) near stops (more new d) =
+      let (h, k) = stops s in-head in
       omega (
         arith,
-        legs-pay place s (near place in-head) (near s (List·Memᴰ·tail in-head)) (λ e. new (rw e in-head)),
-        path-from-pays s x (λ r m. near r (List·Memᴰ·tail m)) d,
+        legs-pay place s near h k (λ e. new (rw e in-head)),
+        path-from-pays s x k (λ r m. stops r (List·Memᴰ·tail m)) d,
       )
 
   module _ (x : Node) (p : Partial n x) where
@@ -59,9 +60,9 @@ module _
         go (inl e) = omega arith
         go (inr k) = p .only s k .1
 
-    path-pays : path L x ≡ path M x + sum f x
+    pub path-pays : path L x ≡ path M x + sum f x
     unfolding path
-    path-pays = path-from-pays 0 x near home-first
+    path-pays = path-from-pays 0 x (omega arith) (p .only) home-first
 
     -- a stop that is left is not where the node ends
     elsewhere : (s : ℕ) → In s (left n x) → last x ≢ s
@@ -75,7 +76,7 @@ module _
     unfolding cheapestInto
     into-pays s m =
         least-adds (λ r. L .leg r s) (λ r. M .leg r s) (f s) (last x) (without s (left n x))
-        (λ r k. let h = among r (List·Memᴰ·cases-cons k) in legs-pay r s (h .0) (in-left n x s m .1) (h .1))
+        (λ r k. let h = among r (List·Memᴰ·cases-cons k) in legs-pay r s (h .0) (in-left n x s m .0) (in-left n x s m .1) (h .1))
       where
         among : (r : ℕ) → (r ≡ last x) ⊎ In r (without s (left n x)) → (r ≤ n) × (r ≢ s)
         among r (inl e) = rw e (near (last x) (last-in x), elsewhere s m)
@@ -96,13 +97,13 @@ module _
           subst (λ (l : List ℕ). least (L .home) l ≡ least (M .home) l + f 0) (sym e) homes,
         )
 
-    cost-pays : T (complete n x) → cost L x ≡ cost M x + (sum f x + f 0)
+    pub cost-pays : T (complete n x) → cost L x ≡ cost M x + (sum f x + f 0)
     unfolding cost
     cost-pays whole =
         let h = p .only (last x) (last-flown n some x whole) in
         omega (arith, path-pays, home-pays (last x) (h .0) (h .1))
 
-    plain-pays : plain n L x ≡ plain n M x + (sum f x + cond (complete n x) (f 0) 0)
+    pub plain-pays : plain n L x ≡ plain n M x + (sum f x + cond (complete n x) (f 0) 0)
     unfolding plain
     plain-pays = go (complete n x) (λ t. t)
       where
@@ -112,7 +113,7 @@ module _
         go true whole = cost-pays (whole tt)
         go false whole = omega (arith, path-pays)
 
-    close-pays : close n L x ≡ close n M x + sum f (from 0 (suc n))
+    pub close-pays : close n L x ≡ close n M x + sum f (from 0 (suc n))
     unfolding close
     close-pays = go (complete n x) refl (left n x) refl
       where
@@ -133,11 +134,14 @@ module _
 module _
     (n : ℕ) (some : 1 ≤ n) (few : n ≤ mostStops) (costs g : ℕ → ℕ → ℕ) (f : ℕ → ℕ)
     (pays : (i j : ℕ) → i ≤ n → j ≤ n → i ≢ j → costs i j ≡ g i j + f j) where
-  row-pays : (i j : ℕ) → i ≤ n → j ≤ n → i ≢ j → rowLeg (inRows n costs) i j ≡ rowLeg (inRows n g) i j + f j
-  row-pays i j h k apart = rw (leg-in-rows n costs few i j h k, leg-in-rows n g few i j h k) (pays i j h k apart)
+  at-place : (i j : ℕ) → i ≤ n → j ≤ n → i ≢ j → rowLeg (inRows n costs) i j ≡ rowLeg (inRows n g) i j + f j
+  at-place i j h k apart = rw (leg-in-rows n costs few i j h k, leg-in-rows n g few i j h k) (pays i j h k apart)
+
+  row-pays : (i j : ℕ) → i ≤ n → 1 ≤ j → j ≤ n → i ≢ j → rowLeg (inRows n costs) i j ≡ rowLeg (inRows n g) i j + f j
+  row-pays i j h stop k apart = at-place i j h k apart
 
   home-row-pays : (s : ℕ) → 1 ≤ s → s ≤ n → rowLeg (inRows n costs) s 0 ≡ rowLeg (inRows n g) s 0 + f 0
-  home-row-pays s h k = row-pays s 0 k (omega arith) (λ e. omega arith)
+  home-row-pays s h k = at-place s 0 k (omega arith) (λ e. omega arith)
 
   module _ (x : Node) (p : Partial n x) where
     rows-path : dayOn n (inRows n costs) .path x ≡ dayOn n (inRows n g) .path x + sum f x
@@ -145,13 +149,16 @@ module _
     rows-path = path-pays n some (legs (inRows n costs)) (legs (inRows n g)) f row-pays home-row-pays x p
 
     rows-plain :
-        dayOn n (inRows n costs) .bound 0 x ≡ dayOn n (inRows n g) .bound 0 x + (sum f x + cond (complete n x) (f 0) 0)
+        (k : ℕ) → isClose k ≡ false
+        → dayOn n (inRows n costs) .bound k x ≡ dayOn n (inRows n g) .bound k x + (sum f x + cond (complete n x) (f 0) 0)
     unfolding dayOn day legs boundBy
-    rows-plain = plain-pays n some (legs (inRows n costs)) (legs (inRows n g)) f row-pays home-row-pays x p
+    rows-plain k e = rw e (plain-pays n some (legs (inRows n costs)) (legs (inRows n g)) f row-pays home-row-pays x p)
 
-    rows-close : dayOn n (inRows n costs) .bound 1 x ≡ dayOn n (inRows n g) .bound 1 x + sum f (from 0 (suc n))
+    rows-close :
+        (k : ℕ) → isClose k ≡ true
+        → dayOn n (inRows n costs) .bound k x ≡ dayOn n (inRows n g) .bound k x + sum f (from 0 (suc n))
     unfolding dayOn day legs boundBy
-    rows-close = close-pays n some (legs (inRows n costs)) (legs (inRows n g)) f row-pays home-row-pays x p
+    rows-close k e = rw e (close-pays n some (legs (inRows n costs)) (legs (inRows n g)) f row-pays home-row-pays x p)
 
   rows-cost :
       (x : Node) → Order n x → dayOn n (inRows n costs) .cost x ≡ dayOn n (inRows n g) .cost x + sum f (from 0 (suc n))
@@ -164,79 +171,92 @@ module _
       )
 
 -- the planner's day, against that of the legs alone
-module _ (n : ℕ) (some : 1 ≤ n) (few : n ≤ mostStops) (table : List ℕ) where
-  charges-paid : (i j : ℕ) → i ≤ n → j ≤ n → i ≢ j → flying n table i j ≡ entry n table i j + charge n table j
-  unfolding flying
-  charges-paid i j h k apart = refl
+module _ (n : ℕ) (some : 1 ≤ n) (few : n ≤ mostStops) (away : Bool) (table : List ℕ) where
+  charges-paid :
+      (i j : ℕ) → i ≤ n → j ≤ n → i ≢ j
+      → counted away (flying n table) i j ≡ counted away (entry n table) i j + landing n away table j
+  unfolding counted flying landing
+  charges-paid i j h k apart = go (away && eqb j 0)
+    where
+      go : (b : Bool) → cond b 0 (entry n table i j + charge n table j) ≡ cond b 0 (entry n table i j) + cond b 0 (charge n table j)
+      go true = refl
+      go false = refl
+
+  abbrev own : ℕ → ℕ → ℕ
+  own = counted away (flying n table)
+
+  abbrev leg : ℕ → ℕ → ℕ
+  leg = counted away (entry n table)
 
   module _ (x : Node) (p : Partial n x) where
-    pub day-path-pays : dayOn n (rows n table) .path x ≡ dayOn n (legRows n table) .path x + sum (charge n table) x
+    pub day-path-pays : dayOn n (rows n away table) .path x ≡ dayOn n (legRows n away table) .path x + sum (landing n away table) x
     unfolding rows legRows
-    day-path-pays = rows-path n some few (flying n table) (entry n table) (charge n table) charges-paid x p
+    day-path-pays = rows-path n some few own leg (landing n away table) charges-paid x p
 
     pub day-plain-pays :
-        dayOn n (rows n table) .bound 0 x
-        ≡ dayOn n (legRows n table) .bound 0 x + (sum (charge n table) x + cond (complete n x) (charge n table 0) 0)
+        (k : ℕ) → isClose k ≡ false
+        → dayOn n (rows n away table) .bound k x
+        ≡ dayOn n (legRows n away table) .bound k x + (sum (landing n away table) x + cond (complete n x) (landing n away table 0) 0)
     unfolding rows legRows
-    day-plain-pays = rows-plain n some few (flying n table) (entry n table) (charge n table) charges-paid x p
+    day-plain-pays = rows-plain n some few own leg (landing n away table) charges-paid x p
 
-    pub day-close-pays : dayOn n (rows n table) .bound 1 x ≡ dayOn n (legRows n table) .bound 1 x + sum (charge n table) (from 0 (suc n))
+    pub day-close-pays :
+        (k : ℕ) → isClose k ≡ true
+        → dayOn n (rows n away table) .bound k x ≡ dayOn n (legRows n away table) .bound k x + sum (landing n away table) (from 0 (suc n))
     unfolding rows legRows
-    day-close-pays = rows-close n some few (flying n table) (entry n table) (charge n table) charges-paid x p
+    day-close-pays = rows-close n some few own leg (landing n away table) charges-paid x p
 
   pub day-cost-pays :
-      (x : Node) → Order n x → dayOn n (rows n table) .cost x ≡ dayOn n (legRows n table) .cost x + sum (charge n table) (from 0 (suc n))
+      (x : Node) → Order n x
+      → dayOn n (rows n away table) .cost x ≡ dayOn n (legRows n away table) .cost x + sum (landing n away table) (from 0 (suc n))
   unfolding rows legRows
-  day-cost-pays = rows-cost n some few (flying n table) (entry n table) (charge n table) charges-paid
+  day-cost-pays = rows-cost n some few own leg (landing n away table) charges-paid
 
 -- the planner's rows, but for what stands on their diagonal
 module _
-    (n : ℕ) (some : 1 ≤ n) (few : n ≤ mostStops) (table : List ℕ) (costs : ℕ → ℕ → ℕ)
-    (apart : (i j : ℕ) → i ≤ n → j ≤ n → i ≢ j → costs i j ≡ flying n table i j) where
+    (n : ℕ) (some : 1 ≤ n) (few : n ≤ mostStops) (costs g : ℕ → ℕ → ℕ)
+    (apart : (i j : ℕ) → i ≤ n → j ≤ n → i ≢ j → costs i j ≡ g i j) where
   nothing : (b : Bool) → _≡_ {A = ℕ} (cond b 0 0) 0
   nothing true = refl
   nothing false = refl
 
-  nothing-added : (i j : ℕ) → i ≤ n → j ≤ n → i ≢ j → costs i j ≡ flying n table i j + 0
+  nothing-added : (i j : ℕ) → i ≤ n → j ≤ n → i ≢ j → costs i j ≡ g i j + 0
   nothing-added i j h k e = omega (arith, apart i j h k e)
 
   module _ (x : Node) (p : Partial n x) where
-    pub diagonal-path : dayOn n (inRows n costs) .path x ≡ dayOn n (rows n table) .path x
-    unfolding rows
-    diagonal-path = omega (arith, rows-path n some few costs (flying n table) (λ j. 0) nothing-added x p, sum-const 0 x)
+    pub diagonal-path : dayOn n (inRows n costs) .path x ≡ dayOn n (inRows n g) .path x
+    diagonal-path = omega (arith, rows-path n some few costs g (λ j. 0) nothing-added x p, sum-const 0 x)
 
-    diagonal-plain : dayOn n (inRows n costs) .bound 0 x ≡ dayOn n (rows n table) .bound 0 x
-    unfolding rows
-    diagonal-plain =
-        omega (arith, rows-plain n some few costs (flying n table) (λ j. 0) nothing-added x p, sum-const 0 x, nothing (complete n x))
-
-    diagonal-close : dayOn n (inRows n costs) .bound 1 x ≡ dayOn n (rows n table) .bound 1 x
-    unfolding rows
-    diagonal-close = omega (arith, rows-close n some few costs (flying n table) (λ j. 0) nothing-added x p, sum-const 0 (from 0 (suc n)))
-
-    pub diagonal-bound : (k : ℕ) → dayOn n (inRows n costs) .bound k x ≡ dayOn n (rows n table) .bound k x
-    unfolding dayOn day boundBy
-    diagonal-bound zero = diagonal-plain
-    diagonal-bound (suc zero) = diagonal-close
-    diagonal-bound (suc (suc k)) = refl
+    pub diagonal-bound : (k : ℕ) → dayOn n (inRows n costs) .bound k x ≡ dayOn n (inRows n g) .bound k x
+    diagonal-bound k = go (isClose k) refl
+      where
+        go : (b : Bool) → isClose k ≡ b → dayOn n (inRows n costs) .bound k x ≡ dayOn n (inRows n g) .bound k x
+        go true e = omega (arith, rows-close n some few costs g (λ j. 0) nothing-added x p k e, sum-const 0 (from 0 (suc n)))
+        go false e =
+            omega (arith, rows-plain n some few costs g (λ j. 0) nothing-added x p k e, sum-const 0 x, nothing (complete n x))
 
   pub diagonal-dominates :
-      (y z : Node) → Partial n y → Partial n z → dayOn n (inRows n costs) .dominates y z ≡ dayOn n (rows n table) .dominates y z
+      (y z : Node) → Partial n y → Partial n z → dayOn n (inRows n costs) .dominates y z ≡ dayOn n (inRows n g) .dominates y z
   unfolding dayOn day dominates
   diagonal-dominates y z p q =
       ap₂ (λ (a b : ℕ). not (same y z) && same (setOf n y) (setOf n z) && eqb (last y) (last z) && leb a b) (diagonal-path y p) (diagonal-path z q)
 
-  pub diagonal-cost : (x : Node) → Order n x → dayOn n (inRows n costs) .cost x ≡ dayOn n (rows n table) .cost x
-  unfolding rows
-  diagonal-cost x o = omega (arith, rows-cost n some few costs (flying n table) (λ j. 0) nothing-added x o, sum-const 0 (from 0 (suc n)))
+  pub diagonal-cost : (x : Node) → Order n x → dayOn n (inRows n costs) .cost x ≡ dayOn n (inRows n g) .cost x
+  diagonal-cost x o = omega (arith, rows-cost n some few costs g (λ j. 0) nothing-added x o, sum-const 0 (from 0 (suc n)))
 
 -- where no place has a charge, the rows are those of the legs alone
-pub uncharged-rows : (n : ℕ) (table : List ℕ) → ((j : ℕ) → j ≤ n → charge n table j ≡ 0) → rows n table ≡ legRows n table
-unfolding rows legRows inRows flying
-uncharged-rows n table none =
+pub uncharged-rows :
+    (n : ℕ) (away : Bool) (table : List ℕ) → ((j : ℕ) → j ≤ n → charge n table j ≡ 0) → rows n away table ≡ legRows n away table
+unfolding rows legRows inRows counted flying
+uncharged-rows n away table none =
     map-same _ _ (from 0 places)
-    (λ i h. map-same _ _ (from 0 places) (λ j k. at i j (leb i n && leb j n) (λ t. leb→le j n (and-right (leb i n) (leb j n) t))))
+    (λ i h.
+    map-same _ _ (from 0 places)
+    (λ j k. at i j (leb i n && leb j n) (away && eqb j 0) (λ t. leb→le j n (and-right (leb i n) (leb j n) t))))
   where
-    at : (i j : ℕ) (b : Bool) → (T b → j ≤ n) → cond b (entry n table i j + charge n table j) 0 ≡ cond b (entry n table i j) 0
-    at i j true k = omega (arith, none j (k tt))
-    at i j false k = refl
+    at :
+        (i j : ℕ) (b home : Bool) → (T b → j ≤ n)
+        → cond b (cond home 0 (entry n table i j + charge n table j)) 0 ≡ cond b (cond home 0 (entry n table i j)) 0
+    at i j true true k = refl
+    at i j true false k = omega (arith, none j (k tt))
+    at i j false home k = refl

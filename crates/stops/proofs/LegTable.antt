@@ -1,27 +1,43 @@
 -- Rows, and the legs that they give.
 --   leg-in-rows      from i to j rows have the cost that they were made of, for places up to n; leg-outside: other legs are 0
---   leg-flying       the planner's have the table's leg and the charge of j; leg-itself: so from a place to itself its charge twice
+--   counted-all, counted-stop, counted-home    which legs count
+--   leg-flying       the planner's have the table's leg and the charge of j, for a stop j
 --   in-table         every number of a table is one of its entries
 --   entry-small      no number of the table is above the dearest leg, where it is priced
 --   rows-cheap       no leg of the planner's rows is above the dearest, if so
-use mathlib.Core.Path.{_≡_, sym, ap, _∙_}
+use mathlib.Core.Path.{_≡_, refl, sym, ap, _∙_}
 use mathlib.Core.Bool.{Bool, true, false, _&&_, cond}
 use mathlib.Core.List.{List, [], map}
 use mathlib.Core.Logic.{_⊎_, inl, inr}
 use Prim.Native.Nat.{ℕ, zero, suc, _+_, _*_, _≤_, _<_}
 use native.Mathlib.Nat.{mul-le-mul, suc-mul}
 use native.Mathlib.Omega.{arith}
-use lib.Dec.{T, leb, leb→le, le→leb, not-T}
+use lib.Dec.{T, leb, eqb, leb→le, le→leb, eqb→eq, not-T}
 use lib.ListN.{length, getD}
 use Rattle.sizes.specs.Sizes.{mostStops, places, dearestLeg, dearest}
 use Rattle.lists.specs.Lists.{In, from}
 use Rattle.lists.proofs.Tests.{to-true, to-false, and-left, and-right, and-both, ordered}
 use Rattle.lists.proofs.Parts.{in-place}
 use Rattle.lists.proofs.Elements.{getD-from, getD-past, getD-small}
-use Rattle.stops.specs.Tables.{entry, charge, flying, inRows, rows}
+use Rattle.stops.specs.Tables.{entry, charge, flying, counted, inRows, rows}
 use Rattle.stops.specs.Legs.{rowLeg, legs}
 use Rattle.stops.specs.Code.{Priced, Cheap}
 use Rattle.stops.specs.Examples
+
+-- on a day that ends at home every leg counts, on one that ends away those to the stops
+pub counted-all : (costs : ℕ → ℕ → ℕ) (i j : ℕ) → counted false costs i j ≡ costs i j
+unfolding counted
+counted-all costs i j = refl
+
+pub counted-stop : (away : Bool) (costs : ℕ → ℕ → ℕ) (i j : ℕ) → 1 ≤ j → counted away costs i j ≡ costs i j
+unfolding counted
+counted-stop false costs i j h = refl
+counted-stop true costs i j h = rw (to-false (eqb j 0) (not-T (eqb j 0) (λ t. omega (arith, eqb→eq j 0 t))))
+
+-- and no leg home
+pub counted-home : (costs : ℕ → ℕ → ℕ) (i : ℕ) → counted true costs i 0 ≡ 0
+unfolding counted
+counted-home costs i = refl
 
 module _ (n : ℕ) (costs : ℕ → ℕ → ℕ) where
   -- row i, column j of the rows
@@ -102,23 +118,27 @@ in-table n table square w m =
     inside i j k e short (inr l) = omega arith
 
 module _ (n : ℕ) (table : List ℕ) where
-  pub leg-flying : n ≤ mostStops → (i j : ℕ) → i ≤ n → j ≤ n → rowLeg (rows n table) i j ≡ entry n table i j + charge n table j
+  pub leg-flying :
+      n ≤ mostStops → (away : Bool) (i j : ℕ) → i ≤ n → j ≤ n → 1 ≤ j → rowLeg (rows n away table) i j ≡ entry n table i j + charge n table j
   unfolding rows flying
-  leg-flying few i j h k = leg-in-rows n (flying n table) few i j h k
-
-  pub leg-itself : n ≤ mostStops → (i : ℕ) → i ≤ n → rowLeg (rows n table) i i ≡ charge n table i + charge n table i
-  unfolding charge
-  leg-itself few i h = leg-flying few i i h h
+  leg-flying few away i j h k stop = leg-in-rows n (counted away (flying n table)) few i j h k ∙ counted-stop away (flying n table) i j stop
 
   module _ (priced : Priced n table) where
     pub entry-small : (i j : ℕ) → entry n table i j ≤ dearestLeg
     unfolding entry
     entry-small i j = getD-small dearestLeg table (priced .legs) (i * suc n + j)
 
-    flying-small : (i j : ℕ) → j ≤ n → flying n table i j ≤ dearest
-    unfolding flying
-    flying-small i j k = omega (arith, entry-small i j, priced .charges j k)
+    module _ (away : Bool) where
+      flying-small : (i j : ℕ) → j ≤ n → counted away (flying n table) i j ≤ dearest
+      unfolding counted flying
+      flying-small i j k = go (away && eqb j 0)
+        where
+          go : (b : Bool) → cond b 0 (entry n table i j + charge n table j) ≤ dearest
+          go true = omega arith
+          go false = omega (arith, entry-small i j, priced .charges j k)
 
-    pub rows-cheap : Cheap (rows n table)
-    unfolding legs rows
-    rows-cheap = record { leg = leg-small n (flying n table) dearest flying-small; home = λ s. leg-small n (flying n table) dearest flying-small s 0 }
+      pub rows-cheap : Cheap (rows n away table)
+      unfolding legs rows
+      rows-cheap =
+          let small = leg-small n (counted away (flying n table)) dearest flying-small in
+          record { leg = small; home = λ s. small s 0 }

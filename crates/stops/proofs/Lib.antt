@@ -8,5 +8,6 @@ pub mod SetJoin
 pub mod SetLoops
 pub mod LegTable
 pub mod Charges
+pub mod Away
 pub mod RowLaws
 pub mod StopsWalk

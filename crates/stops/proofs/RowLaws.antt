@@ -3,6 +3,7 @@
 --   Clear, charge-finds, charge-skips, charges-end    a loop that looks for a charge that is too dear
 --   Inside, place-inside    a place of the table is within it, and the table is small
 --   filled, filled-none, filled-more    a loop that fills an array, as long as a row, from the front
+--   filled-first            a row before its first leg that counts
 --   filled-row, filled-rows    a row and the rows, once the places up to n are filled
 use mathlib.Core.Path.{_≡_, refl, ap, sym, _∙_}
 use mathlib.Core.Bool.{Bool, true, false, not, _&&_, cond}
@@ -22,7 +23,7 @@ use Rattle.lists.proofs.Tests.{compared, same-tests, tests}
 use Rattle.lists.proofs.Elements.{getD-numbers, getD-from, Rest, any-finds, any-skips, any-ends}
 use Rattle.lists.proofs.Map.{map-same}
 use Rattle.lists.proofs.Members.{length-from}
-use Rattle.stops.specs.Tables.{entry, charge, flying, inRows, rows}
+use Rattle.stops.specs.Tables.{entry, charge, flying, counted, inRows, rows}
 use Rattle.stops.specs.Code.{rowOf}
 
 pub entry-at : (n : ℕ) (table : List ℕ) (i j : ℕ) → getD table (i * (n + 1) + j) 0 ≡ entry n table i j
@@ -113,17 +114,24 @@ module _ {A : Type 0} where
       ap (λ (m : ℕ). filled m f d) (let e : k ≡ suc n = omega arith in e)
       ∙ map-same _ _ (from 0 places) (λ i m. ap (λ (b : Bool). cond b (f i) d) (leb·suc-suc i n))
 
-module _ (n k : ℕ) (h : k ≤ suc n) (l : n < k) (table : List ℕ) where
-  pub filled-row : (i : ℕ) → filled k (λ j. flying n table i j) 0 ≡ rowOf n table i
-  unfolding rowOf
-  filled-row i = filled-all n k (λ j. flying n table i j) 0 h l
+-- no leg home counts on a day that ends away, and the loop begins behind it
+pub filled-first : (away : Bool) (costs : ℕ → ℕ → ℕ) (i : ℕ) → replicate places 0 ≡ filled (cond away 1 0) (counted away costs i) 0
+unfolding filled counted
+filled-first true costs i = refl
+filled-first false costs i = refl
 
-  pub filled-rows : filled k (rowOf n table) (replicate places 0) ≡ rows n table
+module _ (n k : ℕ) (h : k ≤ suc n) (l : n < k) (away : Bool) (table : List ℕ) where
+  pub filled-row : (i : ℕ) → filled k (counted away (flying n table) i) 0 ≡ rowOf n away table i
+  unfolding rowOf
+  filled-row i = filled-all n k (counted away (flying n table) i) 0 h l
+
+  pub filled-rows : filled k (rowOf n away table) (replicate places 0) ≡ rows n away table
   unfolding rows inRows rowOf
-  filled-rows = filled-all n k (rowOf n table) (replicate places 0) h l ∙ map-same _ _ (from 0 places) (λ i m. at i (leb i n))
+  filled-rows = filled-all n k (rowOf n away table) (replicate places 0) h l ∙ map-same _ _ (from 0 places) (λ i m. at i (leb i n))
     where
       at :
           (i : ℕ) (b : Bool)
-          → cond b (rowOf n table i) (replicate places 0) ≡ map (λ j. cond (b && leb j n) (flying n table i j) 0) (from 0 places)
+          → cond b (rowOf n away table i) (replicate places 0)
+          ≡ map (λ j. cond (b && leb j n) (counted away (flying n table) i j) 0) (from 0 places)
       at i true = refl
       at i false = refl

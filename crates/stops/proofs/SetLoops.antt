@@ -6,7 +6,7 @@
 --   ahead-none, ahead-plain, ahead-close    and what a bound adds
 --   remainder-small, ahead-small    what a bound adds is small where the legs are
 use mathlib.Core.Path.{_≡_, refl, ap, sym, _∙_}
-use mathlib.Core.Bool.{not}
+use mathlib.Core.Bool.{Bool, true, false, not}
 use mathlib.Core.List.{List, [], _∷_, List·Memᴰ·tail}
 use Prim.Native.Nat.{ℕ, zero, suc, _+_, _-_, _*_, _^_, _≤_, _<_, min}
 use native.Mathlib.Nat.{mul-le-mul-right, suc-mul}
@@ -22,8 +22,8 @@ use Rattle.lists.proofs.Members.{in-head, in-keep, keep-in}
 use Rattle.lists.proofs.Numbers.{sum-mono, sum-const, least-small}
 use Rattle.lists.proofs.Distinct.{least-taken}
 use Rattle.stops.specs.Legs.{Legs, rowLeg, legs}
-use Rattle.stops.specs.Bounds.{cheapestInto, remainder}
-use Rattle.stops.specs.Code.{stopsIn, First, ahead, Within}
+use Rattle.stops.specs.Bounds.{isClose, cheapestInto, remainder}
+use Rattle.stops.specs.Code.{stopsIn, First, aheadBy, ahead, Within}
 use Rattle.stops.specs.Examples
 use Rattle.stops.proofs.SetBits.{stopsIn-zero, stopsIn-next, stopsIn-without}
 use Rattle.stops.proofs.SetJoin.{stopsIn-ascends}
@@ -172,10 +172,12 @@ module _ (m : ℕ) (L : Legs) (w : Within m L) (place : ℕ) where
 
   pub ahead-small : (k bound : ℕ) (rest : List ℕ) → length rest ≤ k → ahead bound L place rest ≤ suc k * m
   unfolding ahead
-  ahead-small k bound [] h = omega (arith, suc-mul k m, w .home place)
-  ahead-small k zero (r ∷ rest) h = omega arith
-  ahead-small k (suc bound) (r ∷ rest) h =
-      omega (arith, suc-mul k m, mul-le-mul-right m h, remainder-small (r ∷ rest))
+  ahead-small k bound rest h = go (isClose bound) rest h
+    where
+      go : (b : Bool) (rest : List ℕ) → length rest ≤ k → aheadBy b L place rest ≤ suc k * m
+      go b [] h = omega (arith, suc-mul k m, w .home place)
+      go false (r ∷ rest) h = omega arith
+      go true (r ∷ rest) h = omega (arith, suc-mul k m, mul-le-mul-right m h, remainder-small (r ∷ rest))
 
 -- what a bound adds, by whether a stop is left and by which bound it is
 pub ahead-none : (bound : ℕ) (L : Legs) (place rest : ℕ) → rest ≡ 0 → L .home place ≡ ahead bound L place (stopsIn rest)
@@ -183,11 +185,10 @@ unfolding ahead
 ahead-none bound L place rest e = rw (e, stopsIn-zero)
 
 module _ (L : Legs) (place rest : ℕ) (some : 0 < rest) (small : rest < 2 ^ mostStops) where
-  pub ahead-plain : (bound : ℕ) → bound ≡ 0 → 0 ≡ ahead bound L place (stopsIn rest)
+  pub ahead-plain : (bound : ℕ) → isClose bound ≡ false → 0 ≡ ahead bound L place (stopsIn rest)
   unfolding ahead
   ahead-plain bound e = rw (e, stopsIn-next rest small some .2)
 
-  pub ahead-close : (bound : ℕ) → 0 < bound → remainder L place (stopsIn rest) ≡ ahead bound L place (stopsIn rest)
+  pub ahead-close : (bound : ℕ) → isClose bound ≡ true → remainder L place (stopsIn rest) ≡ ahead bound L place (stopsIn rest)
   unfolding ahead
-  ahead-close zero h = absurd (omega arith)
-  ahead-close (suc k) h = rw (stopsIn-next rest small some .2)
+  ahead-close bound e = rw (e, stopsIn-next rest small some .2)

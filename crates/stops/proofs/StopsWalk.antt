@@ -7,10 +7,10 @@
 --   further-small, path-small, ahead-small    what a stop adds, a path cost, and what a bound adds
 --   order-below                               every order is cheaper than "above every cost"
 use mathlib.Core.Path.{_≡_, refl}
-use mathlib.Core.Bool.{not, cond}
+use mathlib.Core.Bool.{Bool, true, false, not, cond}
 use mathlib.Core.List.{List, [], _∷_}
 use mathlib.Core.Logic.{_⊎_, inl, inr}
-use Prim.Native.Nat.{ℕ, zero, suc, _+_, _*_, _≤_, _<_}
+use Prim.Native.Nat.{ℕ, suc, _+_, _*_, _≤_, _<_}
 use native.Mathlib.Omega.{arith}
 use lib.Dec.{T, T-not, leb, eqb, leb→le, le→leb, eqb→eq, eqb-refl}
 use lib.ListN.{length}
@@ -25,27 +25,26 @@ use Rattle.orders.proofs.Tree.{complete-empty}
 use Rattle.orders.proofs.Order.{order-length}
 use Rattle.days.proofs.Walk.{Alike, Walk, walk-closer}
 use Rattle.stops.specs.Legs.{Legs, path, cost, legs}
-use Rattle.stops.specs.Bounds.{plain, remainder, close, boundBy, dominates}
+use Rattle.stops.specs.Bounds.{isClose, plain, remainder, close, boundBy, dominates}
 use Rattle.stops.specs.Stops.{day, dayOn}
-use Rattle.stops.specs.Code.{ahead, reckoning, reckonOn, Cheap}
+use Rattle.stops.specs.Code.{aheadBy, ahead, reckoning, reckonOn, Cheap}
 use Rattle.stops.proofs.Paths as paths
 use Rattle.stops.proofs.Ahead.{ahead-grows, ahead-closer}
 use Rattle.stops.proofs.SetLoops as loops
 
 module _ (n : ℕ) (L : Legs) where
-  bound-ahead : (k : ℕ) → k ≤ 1 → (x : Node) → boundBy k n L x ≡ path L x + ahead k L (last x) (left n x)
+  bound-ahead : (k : ℕ) (x : Node) → boundBy k n L x ≡ path L x + ahead k L (last x) (left n x)
   unfolding boundBy plain close cost ahead
-  bound-ahead zero h x = rw (complete-empty n x) (go (left n x))
+  bound-ahead k x = rw (complete-empty n x) (go (isClose k) (left n x))
     where
-      go : (rest : List ℕ) → cond (empty rest) (cost L x) (path L x) ≡ path L x + ahead 0 L (last x) rest
-      go [] = refl
-      go (r ∷ rs) = omega arith
-  bound-ahead (suc zero) h x = rw (complete-empty n x) (go (left n x))
-    where
-      go : (rest : List ℕ) → cond (empty rest) (cost L x) (path L x + remainder L (last x) rest) ≡ path L x + ahead 1 L (last x) rest
-      go [] = refl
-      go (r ∷ rs) = refl
-  bound-ahead (suc (suc k)) h x = absurd (omega arith)
+      go :
+          (b : Bool) (rest : List ℕ)
+          → cond b (cond (empty rest) (cost L x) (path L x + remainder L (last x) rest)) (cond (empty rest) (cost L x) (path L x))
+          ≡ path L x + aheadBy b L (last x) rest
+      go true [] = refl
+      go true (r ∷ rs) = refl
+      go false [] = refl
+      go false (r ∷ rs) = omega arith
 
   dominator-alike : (w x : Node) → T (dominates n L w x) → Alike n (day n L) (reckoning L) w x
   unfolding dominates day reckoning
@@ -72,27 +71,27 @@ module _ (n : ℕ) (L : Legs) where
       let (d, s, l, p) = and-parts (not (same x x)) (same (setOf n x) (setOf n x)) (eqb (last x) (last x)) (leb (path L x) (path L x)) h in
       T-not (same x x) d (same-refl x)
 
-  pub stops-walk : Walk n 1 (day n L) (reckoning L)
+  pub stops-walk : Walk n 3 (day n L) (reckoning L)
   unfolding day reckoning path last cost ahead
   stops-walk = record {
     path-root = refl;
     place-root = refl;
     path-extend = λ x s m. paths.path-extend L x s;
     place-extend = λ x s m. last-extend x s;
-    bound-ahead = bound-ahead;
+    bound-ahead = λ k h x. bound-ahead k x;
     cost-ahead = λ k h x. refl;
     ahead-grows = λ k h place s rest d m. ahead-grows k L place s rest d m;
-    ahead-closer = λ j k h i place rest. ahead-closer j k h L place rest;
+    ahead-closer = λ j k h place rest. ahead-closer j k h L place rest;
     dominator-alike = dominator-alike;
     alike-dominates = alike-dominates;
     irreflexive = never-itself;
   }
 
   pub close-ge-plain : (x : Node) → plain n L x ≤ close n L x
-  unfolding day boundBy
-  close-ge-plain x = walk-closer stops-walk 0 1 (omega arith) (omega arith) x
+  unfolding day boundBy isClose
+  close-ge-plain x = walk-closer stops-walk 1 0 (inl (refl, refl)) (omega arith) x
 
-pub rows-walk : (n : ℕ) (rows : List (List ℕ)) → Walk n 1 (dayOn n rows) (reckonOn rows)
+pub rows-walk : (n : ℕ) (rows : List (List ℕ)) → Walk n 3 (dayOn n rows) (reckonOn rows)
 unfolding dayOn reckonOn
 rows-walk n rows = stops-walk n (legs rows)
 

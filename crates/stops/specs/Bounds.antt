@@ -1,13 +1,13 @@
--- The two lower bounds and dominance: document 01, "Nodes".
-use mathlib.Core.Bool.{Bool, not, _&&_, cond}
+-- The two lower bounds and dominance: document 01, "Nodes"; document 02, A.5.
+use mathlib.Core.Bool.{Bool, not, _&&_, _||_, cond}
 use mathlib.Core.List.{List, _∷_}
-use Prim.Native.Nat.{ℕ, zero, suc, _+_}
+use Prim.Native.Nat.{ℕ, _+_}
 use lib.Dec.{leb, eqb}
 use Rattle.lists.specs.Lists.{sum, least, without, same}
 use Rattle.orders.specs.Orders.{Node, setOf, left, last, complete}
 use Rattle.stops.specs.Legs.{Legs, path, cost}
 
--- plain, bound 0: the path cost, and the leg home where no stop is left
+-- plain: the path cost, and the leg home where no stop is left
 unfoldable pub plain : ℕ → Legs → Node → ℕ
 plain n L x = cond (complete n x) (cost L x) (path L x)
 
@@ -19,15 +19,20 @@ cheapestInto L place rest s = least (λ r. L .leg r s) (place ∷ without s rest
 unfoldable pub remainder : Legs → ℕ → List ℕ → ℕ
 remainder L place rest = sum (cheapestInto L place rest) rest + least (L .home) rest
 
--- close, bound 1: the path cost and the remainder; of a complete node, as plain
+-- close: the path cost and the remainder; of a complete node, as plain
 unfoldable pub close : ℕ → Legs → Node → ℕ
 close n L x = cond (complete n x) (cost L x) (path L x + remainder L (last x) (left n x))
 
--- which of the two a caller chose; any other is refused before the run
+-- Bounds 0 and 1 are plain and close for a day that ends at home; 2 and 3 are plain and close for one that ends away (request A.5), whose legs
+-- home count nothing (`rows`). Any other number is refused before the run.
+unfoldable pub endsAway : ℕ → Bool
+endsAway bound = leb 2 bound
+
+unfoldable pub isClose : ℕ → Bool
+isClose bound = eqb bound 1 || eqb bound 3
+
 unfoldable pub boundBy : ℕ → ℕ → Legs → Node → ℕ
-boundBy zero n L x = plain n L x
-boundBy (suc zero) n L x = close n L x
-boundBy (suc (suc k)) n L x = 0
+boundBy bound n L x = cond (isClose bound) (close n L x) (plain n L x)
 
 -- y dominates z: two nodes, one set, one last stop, and y's path is not dearer
 unfoldable pub dominates : ℕ → Legs → Node → Node → Bool

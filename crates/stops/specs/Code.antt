@@ -10,7 +10,7 @@
 --   Priced n table        what `rows` asks of a table, so that each number is in it and no sum of two overflows; check 3 sees to it
 --   Cheap rows            no leg of theirs is above the dearest (Within m L: none is above m)
 --   Reckonable rows x        what `order_cost` asks, so that each leg of x is in the rows and their sum does not overflow
---   rowOf n table i       a row of the planner's
+--   rowOf n away table i  a row of the planner's
 --   Wide x s leg          what `extended` asks, so that no word overflows
 --   emptyRecord           six zeros, e's record before it has a bound
 use mathlib.Core.Path.{_≡_}
@@ -24,9 +24,9 @@ use Rattle.sizes.specs.Sizes.{mostStops, places, dearestLeg, dearestCharge, dea
 use Rattle.lists.specs.Lists.{In, put, from}
 use Rattle.orders.specs.Orders.{Node, last}
 use Rattle.days.specs.Code.{Reckoning}
-use Rattle.stops.specs.Tables.{charge, flying}
+use Rattle.stops.specs.Tables.{charge, flying, counted}
 use Rattle.stops.specs.Legs.{Legs, legs}
-use Rattle.stops.specs.Bounds.{remainder}
+use Rattle.stops.specs.Bounds.{isClose, remainder}
 use Rattle.stops.specs.declared.node_record.Record.{Record}
 
 -- the stops of the lowest k digits of m, whose first stands for stop s
@@ -82,10 +82,12 @@ recDominates y z =
     && not (eqb (y .first) (z .first) && eqb (y .second) (z .second))
 
 -- the leg home where no stop is to come; else nothing (plain) or the remainder (close)
+abbrev pub aheadBy : Bool → Legs → ℕ → List ℕ → ℕ
+aheadBy close L place [] = L .home place
+aheadBy close L place (r ∷ rest) = cond close (remainder L place (r ∷ rest)) 0
+
 unfoldable pub ahead : ℕ → Legs → ℕ → List ℕ → ℕ
-ahead k L place [] = L .home place
-ahead zero L place (r ∷ rest) = 0
-ahead (suc k) L place (r ∷ rest) = remainder L place (r ∷ rest)
+ahead k = aheadBy (isClose k)
 
 unfoldable pub reckoning : Legs → Reckoning
 reckoning L = record { place = last; further = L .leg; after = λ place s. s; ahead = λ k. ahead k L }
@@ -93,9 +95,9 @@ reckoning L = record { place = last; further = L .leg; after = λ place s. s; ah
 unfoldable pub reckonOn : List (List ℕ) → Reckoning
 reckonOn rows = reckoning (legs rows)
 
--- a row: what flying from place i costs, and zeros
-unfoldable pub rowOf : ℕ → List ℕ → ℕ → List ℕ
-rowOf n table i = map (λ j. cond (leb j n) (flying n table i j) 0) (from 0 places)
+-- a row: what flying from place i counts, and zeros
+unfoldable pub rowOf : ℕ → Bool → List ℕ → ℕ → List ℕ
+rowOf n away table i = map (λ j. cond (leb j n) (counted away (flying n table) i j) 0) (from 0 places)
 
 -- a table for n stops whose legs and charges are not too dear
 pub record Priced (n : ℕ) (table : List ℕ) : Type 0 where

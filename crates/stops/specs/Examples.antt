@@ -1,20 +1,20 @@
 -- Worked examples on document 01's table T: the costs of its six orders, case k on the bounds, and dominance. They stand beside
 -- the definitions, and the laws name this module so that it is checked before them: a wrong definition is met here first.
 use mathlib.Core.Path.{_≡_, refl}
-use mathlib.Core.Bool.{true, false}
+use mathlib.Core.Bool.{Bool, true, false}
 use mathlib.Core.List.{List, [], _∷_, map}
 use Prim.Native.Nat.{ℕ}
 use Rattle.orders.specs.Orders.{flown, setOf, left, last, size, complete, children, level, orders}
 use Rattle.days.specs.Days.{Day}
-use Rattle.stops.specs.Tables.{entry, charge, flying, inRows, rows}
+use Rattle.stops.specs.Tables.{entry, charge, flying, counted, inRows, rows}
 use Rattle.stops.specs.Legs.{Legs, rowLeg, legs, path, cost}
-use Rattle.stops.specs.Bounds.{plain, cheapestInto, remainder, close, boundBy, dominates}
+use Rattle.stops.specs.Bounds.{plain, cheapestInto, remainder, close, endsAway, isClose, boundBy, dominates}
 use Rattle.stops.specs.Stops.{day, dayOn}
 
 -- the day of a table, with every definition that it rests on open: a proof that says `unfolding computedDay` computes it
-unfoldable pub computedDay : ℕ → List ℕ → Day
-unfolding flown setOf left last size complete children entry charge flying inRows rows rowLeg legs path cost plain cheapestInto remainder close boundBy dominates day dayOn
-computedDay n table = dayOn n (rows n table)
+unfoldable pub computedDay : ℕ → Bool → List ℕ → Day
+unfolding flown setOf left last size complete children entry charge flying counted inRows rows rowLeg legs path cost plain cheapestInto remainder close isClose boundBy dominates day dayOn
+computedDay n away table = dayOn n (rows n away table)
 
 -- One stop, with charges of 7 at home and 11 at the stop (request A.4): 3 out and 11 to land; 5 back and 7 to land. Row by row; home is not
 -- flown to from home, nor the stop from itself.
@@ -25,7 +25,7 @@ flying-costs = refl
 -- the legs of T
 legsT : Legs
 unfolding level orders computedDay
-legsT = legs (rows 3 (0 ∷ 4 ∷ 7 ∷ 9 ∷ 5 ∷ 0 ∷ 2 ∷ 6 ∷ 3 ∷ 8 ∷ 0 ∷ 1 ∷ 6 ∷ 5 ∷ 4 ∷ 0 ∷ []))
+legsT = legs (rows 3 false (0 ∷ 4 ∷ 7 ∷ 9 ∷ 5 ∷ 0 ∷ 2 ∷ 6 ∷ 3 ∷ 8 ∷ 0 ∷ 1 ∷ 6 ∷ 5 ∷ 4 ∷ 0 ∷ []))
 
 -- the six orders of T and what each costs
 six-orders :
@@ -73,7 +73,7 @@ never-itself = refl
 -- T with charges, of 2 at home and of 10, 20 and 40 at the stops (request A.4): what it costs to fly 1, 12 and 123
 chargedT : Legs
 unfolding level orders computedDay
-chargedT = legs (rows 3 (2 ∷ 4 ∷ 7 ∷ 9 ∷ 5 ∷ 10 ∷ 2 ∷ 6 ∷ 3 ∷ 8 ∷ 20 ∷ 1 ∷ 6 ∷ 5 ∷ 4 ∷ 40 ∷ []))
+chargedT = legs (rows 3 false (2 ∷ 4 ∷ 7 ∷ 9 ∷ 5 ∷ 10 ∷ 2 ∷ 6 ∷ 3 ∷ 8 ∷ 20 ∷ 1 ∷ 6 ∷ 5 ∷ 4 ∷ 40 ∷ []))
 
 charged-paths : map (path chargedT) ([] ∷ (1 ∷ []) ∷ (1 ∷ 2 ∷ []) ∷ (1 ∷ 2 ∷ 3 ∷ []) ∷ []) ≡ 0 ∷ 14 ∷ 36 ∷ 77 ∷ []
 unfolding chargedT
@@ -92,3 +92,27 @@ charged-close = refl
 charged-plain : map (plain 3 chargedT) ([] ∷ (1 ∷ []) ∷ (2 ∷ []) ∷ (3 ∷ []) ∷ (1 ∷ 2 ∷ 3 ∷ []) ∷ []) ≡ 0 ∷ 14 ∷ 27 ∷ 49 ∷ 85 ∷ []
 unfolding chargedT
 charged-plain = refl
+
+-- The same table on a day that ends away (request A.5), and what its orders cost then: each 2 and its last leg less.
+awayT : Legs
+unfolding level orders computedDay
+awayT = legs (rows 3 true (2 ∷ 4 ∷ 7 ∷ 9 ∷ 5 ∷ 10 ∷ 2 ∷ 6 ∷ 3 ∷ 8 ∷ 20 ∷ 1 ∷ 6 ∷ 5 ∷ 4 ∷ 40 ∷ []))
+
+away-costs : map (cost awayT) (orders 3) ≡ 77 ∷ 84 ∷ 91 ∷ 83 ∷ 86 ∷ 91 ∷ []
+unfolding awayT
+away-costs = refl
+
+-- what is flown costs what it did; the leg home counts at no node
+away-plain : map (plain 3 awayT) ([] ∷ (1 ∷ []) ∷ (2 ∷ []) ∷ (3 ∷ []) ∷ (1 ∷ 2 ∷ 3 ∷ []) ∷ []) ≡ 0 ∷ 14 ∷ 27 ∷ 49 ∷ 77 ∷ []
+unfolding awayT
+away-plain = refl
+
+-- of e: into 1 from home (4), into 2 from 1 (2), into 3 from 2 (1), and 70 to land at the three
+away-close : map (close 3 awayT) ([] ∷ (1 ∷ []) ∷ (2 ∷ []) ∷ (3 ∷ []) ∷ (1 ∷ 2 ∷ 3 ∷ []) ∷ []) ≡ 77 ∷ 77 ∷ 83 ∷ 86 ∷ 77 ∷ []
+unfolding awayT
+away-close = refl
+
+-- which bound a number names, 0 to 3: whether it is close, and whether for a day that ends away
+bounds-named : (map isClose (0 ∷ 1 ∷ 2 ∷ 3 ∷ []) ≡ false ∷ true ∷ false ∷ true ∷ []) × (map endsAway (0 ∷ 1 ∷ 2 ∷ 3 ∷ []) ≡ false ∷ false ∷ true ∷ true ∷ [])
+unfolding isClose endsAway
+bounds-named = (refl, refl)

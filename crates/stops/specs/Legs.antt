@@ -1,5 +1,5 @@
--- Legs, path costs and the cost of an order: document 01, "Legs and orders" and "Nodes". A leg here is what flying it costs, its landing
--- included (request A.4, `flying` in Tables).
+-- Legs, path costs and the cost of an order: document 01, "Legs and orders" and "Nodes". A leg here is what flying it counts, its landing
+-- included (requests A.4 and A.5, `flying` and `counted` in Tables).
 use mathlib.Core.List.{List, [], _∷_}
 use Prim.Native.Nat.{ℕ, _+_}
 use lib.ListN.{getD}

@@ -1,17 +1,34 @@
-// What a bound adds to the path cost.
+// Which bound a number names, and what it adds to the path cost.
 ghost use mathlib.Core.Path.{_≡_};
 ghost use mathlib.Core.List.{_∷_};
 ghost use Prim.Native.Nat.{_+_, _^_, _≤_, _<_, min};
 ghost use Rattle.sizes.specs.Sizes.{mostStops};
 ghost use Rattle.lists.specs.Lists.{least};
 ghost use Rattle.stops.specs.Legs.{rowLeg, legs};
-ghost use Rattle.stops.specs.Bounds.{remainder};
+ghost use Rattle.stops.specs.Bounds.{endsAway, isClose, remainder};
 ghost use Rattle.stops.specs.Code.{stopsIn, reckonOn, Cheap};
 use crate::legs::leg;
 use crate::sets::later;
 use crate::sets::next;
 use crate::sets::without;
 use crate::table::Rows;
+
+// Whether a bound is for a day that ends away (request A.5).
+pub fn ends_away(bound: u32) -> bool
+    ensures { λ r. ⌜ r ≡ endsAway bound ⌝ }
+{
+    2 <= bound
+}
+
+// Whether a bound is close, for a day that ends at home or away.
+fn is_close(bound: u32) -> bool
+    ensures { λ r. ⌜ r ≡ isClose bound ⌝ }
+{
+    if bound == 1 {
+        return true;
+    }
+    bound == 3
+}
 
 fn lesser(a: u32, b: u32) -> u32
     ensures { λ r. ⌜ r ≡ min a b ⌝ }
@@ -89,7 +106,7 @@ fn remainder(t: &Rows, place: u32, rest: u32) -> u32
     sum
 }
 
-// What a bound, plain (0) or close, adds to the path cost of a node at a place that has the stops of rest to come.
+// What a bound, plain or close, adds to the path cost of a node at a place that has the stops of rest to come.
 pub fn ahead(t: &Rows, bound: u32, place: u32, rest: u32) -> u32
     requires { ⌜ (place ≤ mostStops) × ((rest < 2 ^ mostStops) × Cheap (now t)) ⌝ }
     ensures { λ r. ⌜ r ≡ reckonOn (now (t .entry)) .ahead bound place (stopsIn rest) ⌝ }
@@ -97,8 +114,8 @@ pub fn ahead(t: &Rows, bound: u32, place: u32, rest: u32) -> u32
     if rest == 0 {
         return leg(t, place, 0);
     }
-    if bound == 0 {
-        return 0;
+    if is_close(bound) {
+        return remainder(t, place, rest);
     }
-    remainder(t, place, rest)
+    0
 }

@@ -1,19 +1,21 @@
 // The table: the checks on its numbers, and the rows that the planner reckons with.
 ghost use mathlib.Core.Path.{_≡_};
-ghost use mathlib.Core.Bool.{not};
+ghost use mathlib.Core.Bool.{not, cond};
 ghost use Prim.Native.Nat.{suc, _*_, _≤_};
 ghost use lib.Dec.{ltb};
 ghost use lib.ListN.{length};
 ghost use Rattle.sizes.specs.Sizes.{mostStops, dearestLeg, dearestCharge};
 ghost use Rattle.lists.specs.Lists.{any, from};
 ghost use Rattle.stops.specs.Tables.{entry, charge, flying, rows};
+ghost use Rattle.stops.specs.Bounds.{endsAway};
 ghost use Rattle.stops.specs.Code.{Priced, rowOf, reckonOn};
+use crate::bound::ends_away;
 use crate::legs::leg;
 use sizes::DEAREST_CHARGE;
 use sizes::DEAREST_LEG;
 use sizes::PLACES;
 
-// What flying costs from each place to each other, in rows of one length; unused numbers are 0.
+// What flying counts from each place to each other, in rows of one length; unused numbers are 0.
 pub type Rows = [[u32; PLACES]; PLACES];
 
 // Whether no number is above the dearest leg.
@@ -69,13 +71,20 @@ fn flying(n: usize, table: &[u32], i: usize, j: usize) -> u32
     entry(n, table, i, j) + charge(n, table, j)
 }
 
-// One row: what flying from a place costs, and zeros.
-fn row(n: usize, table: &[u32], i: usize) -> [u32; PLACES]
+// The first place whose leg counts: home, or stop 1 on a day that ends away (request A.5).
+fn first_counted(away: bool) -> usize
+    ensures { λ r. ⌜ r ≡ cond away 1 0 ⌝ }
+{
+    if away { 1 } else { 0 }
+}
+
+// One row: what flying from a place counts, and zeros.
+fn row(n: usize, away: bool, table: &[u32], i: usize) -> [u32; PLACES]
     requires { ⌜ Priced n (now table) × (i ≤ n) ⌝ }
-    ensures { λ r. ⌜ r ≡ rowOf n (now (table .entry)) i ⌝ }
+    ensures { λ r. ⌜ r ≡ rowOf n away (now (table .entry)) i ⌝ }
 {
     let mut r = [0u32; PLACES];
-    let mut j = 0;
+    let mut j = first_counted(away);
     while j <= n {
         r[j] = flying(n, table, i, j);
         j += 1;
@@ -83,15 +92,16 @@ fn row(n: usize, table: &[u32], i: usize) -> [u32; PLACES]
     r
 }
 
-// The rows of the table.
-pub fn rows(n: usize, table: &[u32]) -> Rows
+// The rows of the table, for the day that a bound is for.
+pub fn rows(n: usize, bound: u32, table: &[u32]) -> Rows
     requires { ⌜ Priced n (now table) ⌝ }
-    ensures { λ r. ⌜ r ≡ rows n (now (table .entry)) ⌝ }
+    ensures { λ r. ⌜ r ≡ rows n (endsAway bound) (now (table .entry)) ⌝ }
 {
+    let away = ends_away(bound);
     let mut t = [[0u32; PLACES]; PLACES];
     let mut i = 0;
     while i <= n {
-        t[i] = row(n, table, i);
+        t[i] = row(n, away, table, i);
         i += 1;
     }
     t

@@ -78,19 +78,28 @@ fn flying(table: &[u32], side: usize, i: u8, j: u8) -> u64
     wide(leg(table, side, i, j)) + wide(leg(table, side, j, j))
 }
 
-// The cost of an order of n stops, from home to home.
-pub fn cost_of(table: &[u32], x: &[u8; ORDER_PLACES], n: usize) -> u64
-    requires { ⌜ n ≤ mostStops ⌝ }
+// A day of n stops, which ends at home, or away: at its last stop.
+pub struct Day {
+    pub n: usize,
+    pub away: bool,
+}
+
+// The cost of a day's order, from home to where the day ends.
+pub fn cost_of(table: &[u32], x: &[u8; ORDER_PLACES], day: Day) -> u64
+    requires { ⌜ day .n ≤ mostStops ⌝ }
 {
-    let side = n + 1;
+    let side = day.n + 1;
     let mut sum = 0u64;
     let mut place = 0u8;
     let mut i = 0;
-    while i < n {
+    while i < day.n {
         let s = x[i];
         sum += flying(table, side, place, s);
         place = s;
         i += 1;
+    }
+    if day.away {
+        return sum;
     }
     sum + flying(table, side, place, 0)
 }
@@ -144,25 +153,25 @@ fn lesser(a: u64, b: u64) -> u64 {
 }
 
 // The cost of sequence k if it is an order, and else a number above every cost.
-fn price(table: &[u32], n: usize, k: u64) -> u64
-    requires { ⌜ (1 ≤ n) × (n ≤ 6) ⌝ }
+fn price(table: &[u32], day: Day, k: u64) -> u64
+    requires { ⌜ (1 ≤ day .n) × (day .n ≤ 6) ⌝ }
 {
-    let x = sequence(n, k);
-    if is_order(&x, n) {
-        return cost_of(table, &x, n);
+    let x = sequence(day.n, k);
+    if is_order(&x, day.n) {
+        return cost_of(table, &x, day);
     }
     NO_COST
 }
 
 // The least cost over all orders.
-pub fn least(table: &[u32], n: usize) -> u64
-    requires { ⌜ (1 ≤ n) × (n ≤ 6) ⌝ }
+pub fn least(table: &[u32], day: Day) -> u64
+    requires { ⌜ (1 ≤ day .n) × (day .n ≤ 6) ⌝ }
 {
-    let end = sequences(n);
+    let end = sequences(day.n);
     let mut known = NO_COST;
     let mut k = 0u64;
     while k < end {
-        known = lesser(known, price(table, n, k));
+        known = lesser(known, price(table, day, k));
         k += 1;
     }
     known

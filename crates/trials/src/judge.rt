@@ -1,6 +1,7 @@
 // What a report is held against: the least cost, the table, and its own counts.
 ghost use Prim.Native.Nat.{_≤_};
 ghost use Rattle.sizes.specs.Sizes.{mostStops};
+use crate::enumerate::Day;
 use crate::enumerate::cost_of;
 use crate::enumerate::is_order;
 use answer::Report;
@@ -40,22 +41,22 @@ pub fn zeros(x: &[u8; ORDER_PLACES], n: usize) -> bool {
     true
 }
 
-// Whether x is an order of n stops and zeros, whose cost is the one given.
-pub fn priced(table: &[u32], n: usize, cost: u64, x: &[u8; ORDER_PLACES]) -> bool
-    requires { ⌜ n ≤ mostStops ⌝ }
+// Whether x is an order of the day's stops and zeros, whose cost is the one given.
+pub fn priced(table: &[u32], day: Day, cost: u64, x: &[u8; ORDER_PLACES]) -> bool
+    requires { ⌜ day .n ≤ mostStops ⌝ }
 {
-    if !zeros(x, n) {
+    if !zeros(x, day.n) {
         return false;
     }
-    if !is_order(x, n) {
+    if !is_order(x, day.n) {
         return false;
     }
-    cost_of(table, x, n) == cost
+    cost_of(table, x, day) == cost
 }
 
 // A first order is right if it is an order, its cost is the one given, and that is not below the least.
-pub fn first_right(table: &[u32], n: usize, least: u64, r: FirstOrder) -> bool
-    requires { ⌜ n ≤ mostStops ⌝ }
+pub fn first_right(table: &[u32], day: Day, least: u64, r: FirstOrder) -> bool
+    requires { ⌜ day .n ≤ mostStops ⌝ }
 {
     if r.number != 0 {
         return false;
@@ -65,13 +66,13 @@ pub fn first_right(table: &[u32], n: usize, least: u64, r: FirstOrder) -> bool
         return false;
     }
     let order = r.order;
-    priced(table, n, cost, &order)
+    priced(table, day, cost, &order)
 }
 
 // A finished report is right if its cost is the least and that of its order; a full one if it has no cost and no order. Neither has a mark
 // or a floor.
-pub fn judged(table: &[u32], n: usize, least: u64, r: Report) -> Verdict
-    requires { ⌜ n ≤ mostStops ⌝ }
+pub fn judged(table: &[u32], day: Day, least: u64, r: Report) -> Verdict
+    requires { ⌜ day .n ≤ mostStops ⌝ }
 {
     if !adds_up(r.generated, r.branched, r.eliminated, r.active) {
         return Verdict::Differs;
@@ -89,7 +90,7 @@ pub fn judged(table: &[u32], n: usize, least: u64, r: Report) -> Verdict
         if cost != least {
             return Verdict::Differs;
         }
-        if priced(table, n, cost, &order) {
+        if priced(table, day, cost, &order) {
             return Verdict::Best;
         }
         return Verdict::Differs;

@@ -10,6 +10,7 @@ mod stopped;
 mod tables;
 mod tally;
 
+use crate::enumerate::Day;
 use crate::enumerate::least;
 use crate::judge::Verdict;
 use crate::judge::first_right;
@@ -17,10 +18,10 @@ use crate::judge::judged;
 use crate::stopped::half_of;
 use crate::stopped::halved;
 use crate::tables::TABLES;
+use crate::tables::day_of;
 use crate::tables::next;
 use crate::tables::order_of;
 use crate::tables::size_of;
-use crate::tables::stops_in;
 use crate::tables::table_of;
 use crate::tally::Halves;
 use crate::tally::Tally;
@@ -62,51 +63,58 @@ struct Tallies {
     first: Tally,
 }
 
-// The job of n stops under a choice: the selection, four times the rules, and 64 times the bound.
-fn job_of(n: usize, choice: u32) -> Job
-    requires { ⌜ n ≤ mostStops ⌝ }
+// The bound that is plain for a day; the one behind it is close.
+fn plain_for(day: Day) -> u32
+    ensures { λ r. ⌜ r ≤ 2 ⌝ }
+{
+    if day.away { 2 } else { 0 }
+}
+
+// A day's job under a choice: the selection, four times the rules, and 64 times the bound, plain or close.
+fn job_of(day: Day, choice: u32) -> Job
+    requires { ⌜ day .n ≤ mostStops ⌝ }
 {
     Job {
-        n: n as u32,
+        n: day.n as u32,
         selection: choice % SELECTIONS,
         rules: choice / SELECTIONS % RULES,
-        bound: choice / SELECTIONS / RULES,
+        bound: plain_for(day) + choice / SELECTIONS / RULES,
     }
 }
 
 // One job, planned and judged.
 fn one(
     table: &[u32],
-    n: usize,
+    day: Day,
     least: u64,
     choice: u32,
     start: &[u8],
     pool: &mut [u32],
     t: Tally,
 ) -> Tally
-    requires { ⌜ n ≤ mostStops ⌝ }
+    requires { ⌜ day .n ≤ mostStops ⌝ }
 {
-    let r = plan(job_of(n, choice), table, start, NO_BUDGET, pool);
-    counted(t, judged(table, n, least, r), summed(t.sum, r))
+    let r = plan(job_of(day, choice), table, start, NO_BUDGET, pool);
+    counted(t, judged(table, day, least, r), summed(t.sum, r))
 }
 
 // One job, planned and judged twice: whole, and within half of its branchings.
 fn one_twice(
     table: &[u32],
-    n: usize,
+    day: Day,
     least: u64,
     choice: u32,
     start: &[u8],
     pool: &mut [u32],
     t: Typed,
 ) -> Typed
-    requires { ⌜ n ≤ mostStops ⌝ }
+    requires { ⌜ day .n ≤ mostStops ⌝ }
 {
-    let job = job_of(n, choice);
+    let job = job_of(day, choice);
     let r = plan(job, table, start, NO_BUDGET, pool);
     let q = plan(job, table, start, half_of(r), pool);
-    let verdict = judged(table, n, least, r);
-    let ending = halved(table, n, least, r, q);
+    let verdict = judged(table, day, least, r);
+    let ending = halved(table, day, least, r, q);
     let whole = t.whole;
     let half = t.half;
     Typed {
@@ -116,13 +124,13 @@ fn one_twice(
 }
 
 // All choices over one table, from one starting order or none.
-fn jobs(table: &[u32], n: usize, least: u64, start: &[u8], pool: &mut [u32], t: Tally) -> Tally
-    requires { ⌜ n ≤ mostStops ⌝ }
+fn jobs(table: &[u32], day: Day, least: u64, start: &[u8], pool: &mut [u32], t: Tally) -> Tally
+    requires { ⌜ day .n ≤ mostStops ⌝ }
 {
     let mut tally = t;
     let mut choice = 0u32;
     while choice < CHOICES {
-        tally = one(table, n, least, choice, start, pool, tally);
+        tally = one(table, day, least, choice, start, pool, tally);
         choice += 1;
     }
     tally
@@ -131,52 +139,53 @@ fn jobs(table: &[u32], n: usize, least: u64, start: &[u8], pool: &mut [u32], t: 
 // The same, each job planned twice.
 fn jobs_twice(
     table: &[u32],
-    n: usize,
+    day: Day,
     least: u64,
     start: &[u8],
     pool: &mut [u32],
     t: Typed,
 ) -> Typed
-    requires { ⌜ n ≤ mostStops ⌝ }
+    requires { ⌜ day .n ≤ mostStops ⌝ }
 {
     let mut typed = t;
     let mut choice = 0u32;
     while choice < CHOICES {
-        typed = one_twice(table, n, least, choice, start, pool, typed);
+        typed = one_twice(table, day, least, choice, start, pool, typed);
         choice += 1;
     }
     typed
 }
 
 // The jobs over one table, without a starting order and with one.
-fn both(table: &[u32], n: usize, least: u64, start: &[u8], pool: &mut [u32], t: Typed) -> Typed
-    requires { ⌜ n ≤ mostStops ⌝ }
+fn both(table: &[u32], day: Day, least: u64, start: &[u8], pool: &mut [u32], t: Typed) -> Typed
+    requires { ⌜ day .n ≤ mostStops ⌝ }
 {
-    let without = jobs_twice(table, n, least, &start[..0], pool, t);
-    jobs_twice(table, n, least, start, pool, without)
+    let without = jobs_twice(table, day, least, &start[..0], pool, t);
+    jobs_twice(table, day, least, start, pool, without)
 }
 
 // The jobs over one table from the unit's first order, if that is right.
-fn from_first(table: &[u32], n: usize, least: u64, pool: &mut [u32], t: Tally) -> Tally
-    requires { ⌜ n ≤ mostStops ⌝ }
+fn from_first(table: &[u32], day: Day, least: u64, pool: &mut [u32], t: Tally) -> Tally
+    requires { ⌜ day .n ≤ mostStops ⌝ }
 {
-    let first = first_order(n as u32, table);
-    if !first_right(table, n, least, first) {
+    let first = first_order(day.n as u32, plain_for(day), table);
+    if !first_right(table, day, least, first) {
         return counted(t, Verdict::Differs, t.sum);
     }
     let start = first.order;
-    jobs(table, n, least, &start[..n], pool, t)
+    jobs(table, day, least, &start[..day.n], pool, t)
 }
 
 // The jobs over table k, each kind behind those over the tables before it.
 fn trial(k: u64, pool: &mut [u32], t: Tallies) -> Tallies {
-    let n = stops_in(k);
+    let day = day_of(k);
+    let n = day.n;
     let size = size_of(n);
     let table = table_of(k, n);
     let start = order_of(n, next(k));
-    let cost = least(&table[..size], n);
-    let typed = both(&table[..size], n, cost, &start[..n], pool, t.typed);
-    let first = from_first(&table[..size], n, cost, pool, t.first);
+    let cost = least(&table[..size], day);
+    let typed = both(&table[..size], day, cost, &start[..n], pool, t.typed);
+    let first = from_first(&table[..size], day, cost, pool, t.first);
     Tallies { typed, first }
 }
 

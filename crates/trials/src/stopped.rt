@@ -1,6 +1,7 @@
 // What a report of a run within half of its branchings is held against: the least cost, the table, and the report of the whole run.
 ghost use Prim.Native.Nat.{_≤_};
 ghost use Rattle.sizes.specs.Sizes.{mostStops};
+use crate::enumerate::Day;
 use crate::judge::Verdict;
 use crate::judge::adds_up;
 use crate::judge::judged;
@@ -25,8 +26,8 @@ pub fn half_of(whole: Report) -> u64 {
 }
 
 // What a stopped report shows is right if it is an order with its cost, which is not below the least, or zeros alone.
-fn shown(table: &[u32], n: usize, least: u64, r: Report) -> Ending
-    requires { ⌜ n ≤ mostStops ⌝ }
+fn shown(table: &[u32], day: Day, least: u64, r: Report) -> Ending
+    requires { ⌜ day .n ≤ mostStops ⌝ }
 {
     let cost = r.cost as u64;
     let order = r.order;
@@ -34,7 +35,7 @@ fn shown(table: &[u32], n: usize, least: u64, r: Report) -> Ending
         if cost < least {
             return Ending::Differs;
         }
-        if priced(table, n, cost, &order) {
+        if priced(table, day, cost, &order) {
             return Ending::WithOrder;
         }
         return Ending::Differs;
@@ -50,8 +51,8 @@ fn shown(table: &[u32], n: usize, least: u64, r: Report) -> Ending
 
 // A stopped report is right if it has the mark, its branchings are the budget's, its counts add up, no order costs less than its floor, and
 // what it shows is right.
-fn stopped(table: &[u32], n: usize, least: u64, budget: u64, r: Report) -> Ending
-    requires { ⌜ n ≤ mostStops ⌝ }
+fn stopped(table: &[u32], day: Day, least: u64, budget: u64, r: Report) -> Ending
+    requires { ⌜ day .n ≤ mostStops ⌝ }
 {
     if r.number != 0 {
         return Ending::Differs;
@@ -68,7 +69,7 @@ fn stopped(table: &[u32], n: usize, least: u64, budget: u64, r: Report) -> Endin
     if least < r.floor as u64 {
         return Ending::Differs;
     }
-    shown(table, n, least, r)
+    shown(table, day, least, r)
 }
 
 // Whether two reports have the same counts.
@@ -111,13 +112,13 @@ fn same_report(a: Report, b: Report) -> bool {
 }
 
 // The budget stops every run that branches. One that does not is finished, with the same report.
-pub fn halved(table: &[u32], n: usize, least: u64, whole: Report, r: Report) -> Ending
-    requires { ⌜ n ≤ mostStops ⌝ }
+pub fn halved(table: &[u32], day: Day, least: u64, whole: Report, r: Report) -> Ending
+    requires { ⌜ day .n ≤ mostStops ⌝ }
 {
     if whole.branched != 0 {
-        return stopped(table, n, least, half_of(whole), r);
+        return stopped(table, day, least, half_of(whole), r);
     }
-    let verdict = judged(table, n, least, r);
+    let verdict = judged(table, day, least, r);
     let Verdict::Best = verdict else {
         return Ending::Differs;
     };

@@ -1,8 +1,9 @@
-// Table k: how many stops, of which kind, and legs and landing charges by a generator that k starts.
+// Table k: how many stops, where its day ends, of which kind, and legs and landing charges by a generator that k starts.
 ghost use mathlib.Core.Path.{_≡_};
 ghost use Prim.Native.Nat.{_+_, _≤_, _<_};
 ghost use lib.ListN.{length};
 ghost use Rattle.sizes.specs.Sizes.{dearestLeg, dearestCharge, orderPlaces};
+use crate::enumerate::Day;
 use crate::enumerate::below;
 use crate::enumerate::is_order;
 use crate::enumerate::sequence;
@@ -24,13 +25,23 @@ pub const SMALL: u64 = 1_500;
 pub const TABLES: u64 = 1_530;
 
 // How many stops table k has: 1 to 5 in turn, and 6 behind these.
-pub fn stops_in(k: u64) -> usize
+fn stops_in(k: u64) -> usize
     ensures { λ r. ⌜ (1 ≤ r) × (r ≤ 6) ⌝ }
 {
     if k < SMALL {
         return (k % 5 + 1) as usize;
     }
     6
+}
+
+// The day of table k: every other ends away.
+pub fn day_of(k: u64) -> Day
+    ensures { λ r. ⌜ (1 ≤ r .n) × (r .n ≤ 6) ⌝ }
+{
+    Day {
+        n: stops_in(k),
+        away: k / TABLE_KINDS % 2 == 1,
+    }
 }
 
 // How many numbers a table of n stops has.
@@ -46,6 +57,9 @@ pub fn size_of(n: usize) -> usize
         _ => 49,
     }
 }
+
+// The kinds of legs and charges together.
+const TABLE_KINDS: u64 = 24;
 
 // The numbers of a kind: from `least` on, so many different ones.
 struct Kind {

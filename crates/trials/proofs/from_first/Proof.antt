@@ -9,13 +9,14 @@ use Rattle.trials.proofs.from_first.Statement.{statement}
 use Rattle.trials.proofs.from_first.Tie as tie
 
 places : (c : tie.After-first-order) → length (c .first-order .result .order) ≡ orderPlaces
-places c = promised-places _ _ _ (c .first-order .ensures)
+places c = promised-places _ _ _ _ (c .first-order .ensures)
 
 pub from-first-spec : {M : Type 1} → statement M
 from-first-spec =
     tie.close
     (tie.spec
     (λ c. search needs)
+    (λ c κs. search needs)
     (λ c κs. search needs)
     (λ c κs. search needs)
     (λ c κs. search needs)

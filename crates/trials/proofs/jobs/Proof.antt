@@ -7,10 +7,10 @@ use Rattle.trials.proofs.jobs.Statement.{statement}
 use Rattle.trials.proofs.jobs.Tie as tie
 
 abbrev Inv-loop : tie.InvT-loop
-Inv-loop table n least start pool₀ tally₀ choice₀ pool tally choice = length pool ≡ length pool₀
+Inv-loop table day least start pool₀ tally₀ choice₀ pool tally choice = length pool ≡ length pool₀
 
 abbrev μ-loop : tie.MeasureT-loop
-μ-loop table n least start pool₀ tally₀ choice₀ pool tally choice = 128 - choice
+μ-loop table day least start pool₀ tally₀ choice₀ pool tally choice = 128 - choice
 
 pub jobs-spec : {M : Type 1} → statement M
 jobs-spec =

@@ -7,10 +7,10 @@ use Rattle.trials.proofs.jobs_twice.Statement.{statement}
 use Rattle.trials.proofs.jobs_twice.Tie as tie
 
 abbrev Inv-loop : tie.InvT-loop
-Inv-loop table n least start pool₀ typed₀ choice₀ pool typed choice = length pool ≡ length pool₀
+Inv-loop table day least start pool₀ typed₀ choice₀ pool typed choice = length pool ≡ length pool₀
 
 abbrev μ-loop : tie.MeasureT-loop
-μ-loop table n least start pool₀ typed₀ choice₀ pool typed choice = 128 - choice
+μ-loop table day least start pool₀ typed₀ choice₀ pool typed choice = 128 - choice
 
 pub jobs-twice-spec : {M : Type 1} → statement M
 jobs-twice-spec =

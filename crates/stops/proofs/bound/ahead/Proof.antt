@@ -1,5 +1,5 @@
--- `stops::bound::ahead` meets its contract: with no stop left it is the leg home, else nothing for plain and the remainder for close.
-use mathlib.Core.Path.{_∙_}
+-- `stops::bound::ahead` meets its contract: with no stop left it is the leg home, else the remainder for close and nothing for plain.
+use mathlib.Core.Path.{sym, _∙_}
 use native.Mathlib.Omega.{arith}
 use borrow.Author.Needs.{needs}
 use Rattle.stops.specs.Legs.{legs}
@@ -14,18 +14,26 @@ returns c =
     let a = c .before .before .args in
     c .leg .ensures ∙ ahead-none (a .bound) (legs (a .t .now)) (a .place) (a .rest) (omega arith)
 
+-- the entry, seen from where it is known which bound it is
+abbrev start : tie.After-is-close → tie.Start
+start c = c .before .before
+
 returns-2 : tie.Need-returns-2
 unfolding reckonOn reckoning
 returns-2 c =
-    let a = c .before .before .args in
-    ahead-plain (legs (a .t .now)) (a .place) (a .rest) (omega arith) (c .before .before .pre .1 .0) (a .bound) (omega arith)
+    let d = c .before .before in
+    let a = start d .args in
+    c .remainder .ensures
+    ∙ ahead-close (legs (a .t .now)) (a .place) (a .rest) (omega arith) (start d .pre .1 .0) (a .bound)
+    (sym (d .is-close .ensures) ∙ c .before .if2 .taken)
 
 returns-3 : tie.Need-returns-3
 unfolding reckonOn reckoning
 returns-3 c =
-    let a = c .before .before .before .args in
-    c .remainder .ensures
-    ∙ ahead-close (legs (a .t .now)) (a .place) (a .rest) (omega arith) (c .before .before .before .pre .1 .0) (a .bound) (omega arith)
+    let d = c .before in
+    let a = start d .args in
+    ahead-plain (legs (a .t .now)) (a .place) (a .rest) (omega arith) (start d .pre .1 .0) (a .bound)
+    (sym (d .is-close .ensures) ∙ c .if2 .left)
 
 pub ahead-spec : {M : Type 1} → statement M
 ahead-spec =
@@ -33,6 +41,7 @@ ahead-spec =
     (tie.spec
     (λ c κs. search needs)
     returns
-    returns-2
     (λ c κs. search needs)
+    (λ c κs. search needs)
+    returns-2
     returns-3)

@@ -5,10 +5,10 @@ use Rattle.trials.proofs.enumerate.least.Statement.{statement}
 use Rattle.trials.proofs.enumerate.least.Tie as tie
 
 abbrev Inv-loop : tie.InvT-loop
-Inv-loop table n end known₀ k₀ known k = Unit {0}
+Inv-loop table day end known₀ k₀ known k = Unit {0}
 
 abbrev μ-loop : tie.MeasureT-loop
-μ-loop table n end known₀ k₀ known k = end - k
+μ-loop table day end known₀ k₀ known k = end - k
 
 pub least-spec : {M : Type 1} → statement M
 least-spec =

@@ -1,0 +1,78 @@
+-- A call that uses no request's feature is answered as before the request: a type for each, over any planner; proofs/ has a theorem for each.
+--   homeCause, EndsHomeAsBefore      without request A.5: no day that ends away
+--   NoCharges, Uncharged             without request A.4: no landing charge
+--   legCause₃, legTableCause, TableCausesAsBefore    the causes that look at a table, by document 01
+--   legCause, AsDocument01, AcceptedBefore           without either, an answer is document 01's, within whatever budget
+use mathlib.Core.Path.{_≡_}
+use mathlib.Core.Bool.{Bool, false, not, _||_}
+use mathlib.Core.List.{List}
+use mathlib.Core.Logic.{_≢_}
+use Prim.Native.Nat.{ℕ, suc, _≤_}
+use lib.Dec.{ltb, eqb}
+use Rattle.sizes.specs.Sizes.{dearestLeg}
+use Rattle.lists.specs.Lists.{any, from}
+use Rattle.days.specs.Days.{Day}
+use Rattle.stops.specs.Tables.{entry, charge, legRows}
+use Rattle.stops.specs.Stops.{dayOn}
+use Rattle.answer.specs.Call.{Call, Answer}
+use Rattle.answer.specs.declared.Job.{Job}
+use Rattle.answer.specs.Checks.{cause₁, cause₂, cause₅, cause₆, orLater, tableCause}
+use Rattle.answer.specs.Demands.{Planner}
+use Rattle.answer.specs.OnDay.{answerOn}
+use Rattle.answer.specs.Away.{homeDayOf}
+
+-- THE DAY ENDS AT HOME (request A.5)
+
+-- cause 4 as it was: a bound above 1 is none
+unfoldable pub homeCause₄ : Job → Bool
+homeCause₄ job = ltb 3 (job .selection) || ltb 15 (job .rules) || ltb 1 (job .bound)
+
+-- causes 4 to 6 with it; and all six
+unfoldable pub homeCauseBehind : Call → ℕ
+homeCauseBehind c = orLater (homeCause₄ (c .job)) 4 (orLater (cause₅ (c .job .n) (c .start)) 5 (orLater (cause₆ (c .pool)) 6 0))
+
+unfoldable pub homeCause : Call → ℕ
+homeCause c = tableCause (c .job .n) (c .table) (homeCauseBehind c)
+
+-- neither of the request's two bounds
+abbrev pub EndsHome : Call → Type 0
+EndsHome c = (c .job .bound ≢ 2) × (c .job .bound ≢ 3)
+
+abbrev pub EndsHomeAsBefore : Planner → Type 0
+EndsHomeAsBefore P = (c : Call) (a : Answer) → P c a → EndsHome c → a ≡ answerOn (homeDayOf c) c (homeCause c)
+
+-- NO CHARGES (request A.4)
+
+abbrev pub NoCharges : ℕ → List ℕ → Type 0
+NoCharges n table = (j : ℕ) → j ≤ n → charge n table j ≡ 0
+
+abbrev pub Uncharged : Call → Type 0
+Uncharged c = NoCharges (c .job .n) (c .table)
+
+-- Document 01's cause 3: a leg is too dear, or an entry on the diagonal is not 0. And the number of the first of causes 1 to 3 with it.
+unfoldable pub legCause₃ : ℕ → List ℕ → Bool
+legCause₃ n table = any (ltb dearestLeg) table || any (λ i. not (eqb (entry n table i i) 0)) (from 0 (suc n))
+
+unfoldable pub legTableCause : ℕ → List ℕ → ℕ → ℕ
+legTableCause n table later = orLater (cause₁ n) 1 (orLater (cause₂ n table) 2 (orLater (legCause₃ n table) 3 later))
+
+-- Every call that looks at a table looks at it by `tableCause`: without charges, causes 1 to 3 are document 01's.
+abbrev pub TableCausesAsBefore : Type 0
+TableCausesAsBefore = (n : ℕ) (table : List ℕ) → NoCharges n table → (later : ℕ) → tableCause n table later ≡ legTableCause n table later
+
+-- DOCUMENT 01
+
+-- its causes 1 to 6, and its day: by the legs alone, from home and back
+unfoldable pub legCause : Call → ℕ
+legCause c = legTableCause (c .job .n) (c .table) (homeCauseBehind c)
+
+unfoldable pub document01Day : Call → Day
+document01Day c = dayOn (c .job .n) (legRows (c .job .n) false (c .table))
+
+-- With all charges 0 and a day that ends at home, every answer is document 01's.
+abbrev pub AsDocument01 : Planner → Type 0
+AsDocument01 P = (c : Call) (a : Answer) → P c a → Uncharged c → EndsHome c → a ≡ answerOn (document01Day c) c (legCause c)
+
+-- So a call that document 01's checks let pass is answered as before.
+abbrev pub AcceptedBefore : Planner → Type 0
+AcceptedBefore P = (c : Call) (a : Answer) → P c a → legCause c ≡ 0 → a ≡ answerOn (document01Day c) c 0
