@@ -34,7 +34,7 @@ fn printed(text: &str) -> Result<String, String> {
     }
 }
 
-/// The 60 files of A04-files.txt.
+/// The 60 files of A05-files.txt.
 pub fn files() -> Vec<JobFile> {
-    lines("A04-files.txt", include_str!("../A04-files.txt"), 60, JobFile::parse)
+    lines("A05-files.txt", include_str!("../A05-files.txt"), 60, JobFile::parse)
 }

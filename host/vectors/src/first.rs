@@ -1,4 +1,4 @@
-//! The first order (request A.1, with the landing charges of request A.4).
+//! The first order (request A.1, with the landing charges of request A.4 and the bound number of request A.5).
 
 use crate::words::Words;
 use crate::{lines, ORDER_PLACES};
@@ -9,6 +9,7 @@ pub struct First {
     pub n: u32,
     /// Row by row, of any length.
     pub table: Vec<u32>,
+    pub bound: u32,
     pub number: u32,
     pub cost: u32,
     /// Zeros past n.
@@ -21,16 +22,17 @@ impl First {
         let words = &mut Words::of(line);
         let n = words.number_of("n")?;
         let table = words.numbers_of("table")?;
+        let bound = words.number_of("bound")?;
         words.word("=>")?;
         let number = words.number()?;
         let cost = words.number_of("cost")?;
         let order = words.array_of("order")?;
         words.end()?;
-        Ok(First { n, table, number, cost, order })
+        Ok(First { n, table, bound, number, cost, order })
     }
 }
 
-/// The 150 calls of A04-first.txt.
+/// The 150 calls of A05-first.txt.
 pub fn first() -> Vec<First> {
-    lines("A04-first.txt", include_str!("../A04-first.txt"), 150, First::parse)
+    lines("A05-first.txt", include_str!("../A05-first.txt"), 150, First::parse)
 }

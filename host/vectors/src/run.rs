@@ -1,4 +1,4 @@
-//! Runs (document 01 with requests A.1 to A.4).
+//! Runs (document 01 with requests A.1 to A.5).
 
 use crate::words::Words;
 use crate::{lines, ORDER_PLACES};
@@ -101,7 +101,7 @@ fn extra(words: &mut Words) -> Result<usize, String> {
     }
 }
 
-/// The 300 calls of A04-run.txt.
+/// The 300 calls of A05-run.txt.
 pub fn runs() -> Vec<Run> {
-    lines("A04-run.txt", include_str!("../A04-run.txt"), 300, Run::parse)
+    lines("A05-run.txt", include_str!("../A05-run.txt"), 300, Run::parse)
 }

@@ -1,4 +1,4 @@
-//! A04-files.txt is parsed as a whole, and nothing else passes for a line of it.
+//! A05-files.txt is parsed as a whole, and nothing else passes for a line of it.
 
 use vectors::{files, JobFile};
 
@@ -22,15 +22,28 @@ fn a_line_of_files() {
     assert_eq!(changed("cost 3/order 1 2/most 1/", "refused 8/"), Ok(refused));
 }
 
-/// The fourth line: one stop, 2 out and nothing back, with charges.
+/// The 32nd line: one stop, 1 out and nothing back, landings of 3 and 3. The 25th: 3 out and 2 back on a day that ends
+/// away.
 #[test]
 fn lines_of_the_file() {
-    let fourth = &files()[3];
-    let table = [0xaf, 0x2b, 0, 0, 2, 0, 0, 0, 0, 0, 0, 0, 0xb9, 0x7c, 1, 0];
-    let trailer = [0, 0, 0, 0, 16, 0, 0, 0, 1, 0, 3, 12, 0];
-    assert_eq!(fourth.bytes, [&table[..], &trailer[..]].concat());
-    let lines = ["cost 108650", "order 1", "branched 1", "generated 2", "eliminated 0", "active 1", "most 1"];
-    assert_eq!(fourth.printed, lines.map(|line| format!("{line}\n")).concat());
+    let job = &files()[31];
+    let table = [3, 0, 0, 0, 1, 0, 0, 0, 0, 0, 0, 0, 3, 0, 0, 0];
+    let trailer = [0, 0, 0, 0, 16, 0, 0, 0, 1, 0, 1, 3, 1];
+    assert_eq!(job.bytes, [&table[..], &trailer[..]].concat());
+    let lines = ["cost 7", "order 1", "branched 1", "generated 2", "eliminated 0", "active 1", "most 1"];
+    assert_eq!(job.printed, lines.map(|line| format!("{line}\n")).concat());
+    let away = &files()[24];
+    assert_eq!((away.bytes[4], away.bytes[8], away.bytes.last()), (3, 2, Some(&3)));
+    assert!(away.printed.starts_with("cost 3\norder 1\nbranched 0\n"));
+}
+
+/// Orders with every bound that passes; a file's last byte is the bound.
+#[test]
+fn bounds_of_files() {
+    for bound in 0..=3 {
+        let some = |file: &JobFile| file.bytes.last() == Some(&bound) && file.printed.starts_with("cost");
+        assert!(files().iter().any(some), "{bound}");
+    }
 }
 
 /// Seven lines or a refusal, and the numbers of the refusals.
@@ -45,7 +58,7 @@ fn the_lines_printed() {
     }
     refusals.sort();
     refusals.dedup();
-    assert_eq!(refusals, [1, 3, 4, 8, 9]);
+    assert_eq!(refusals, [1, 3, 4, 9]);
 }
 
 #[test]

@@ -1,4 +1,4 @@
-//! A04-run.txt is parsed as a whole, and nothing else passes for a line of it.
+//! A05-run.txt is parsed as a whole, and nothing else passes for a line of it.
 
 use vectors::{fnv1a, runs, Run};
 
@@ -47,18 +47,20 @@ fn a_line_of_run() {
     assert_eq!(changed("fill 7", "fill 4294967295"), Ok(Run { fill: u32::MAX, ..one_stop() }));
 }
 
-/// The second line of the file, and one that a budget stopped.
+/// The fourth line of the file, the third, and the first, which a budget stopped.
 #[test]
 fn lines_of_the_file() {
-    let second = &runs()[1];
-    assert_eq!((second.n, second.budget, second.records, second.extra, second.fill), (6, u64::MAX, 94, 0, u32::MAX));
-    assert_eq!((second.selection, second.rules, second.bound), (0, 11, 0));
-    assert_eq!(second.start, [5, 1, 3, 2, 6, 4]);
-    assert_eq!((second.number, second.cost, &second.order[..7]), (0, 7, &[1, 5, 4, 6, 3, 2, 0][..]));
-    assert_eq!((second.counts, second.mark, second.floor), ([171, 466, 247, 48, 94], 0, 0));
-    assert_eq!(second.words, 0x2020_eeb4_6896_45c6);
-    let stopped = &runs()[2];
-    assert_eq!((stopped.budget, stopped.counts[0], stopped.mark, stopped.floor), (19, 19, 1, 12));
+    let fourth = &runs()[3];
+    assert_eq!((fourth.n, fourth.budget, fourth.records, fourth.extra, fourth.fill), (2, 4, 2, 0, u32::MAX));
+    assert_eq!((fourth.selection, fourth.rules, fourth.bound), (1, 9, 2));
+    assert_eq!(fourth.start, [1, 2]);
+    assert_eq!((fourth.number, fourth.cost, &fourth.order[..3]), (0, 85_942, &[1, 2, 0][..]));
+    assert_eq!((fourth.counts, fourth.mark, fourth.floor), ([3, 5, 0, 2, 2], 0, 0));
+    assert_eq!(fourth.words, 0xa49f_8850_0f22_9bdc);
+    let third = &runs()[2];
+    assert_eq!((third.bound, third.budget, third.cost, third.start.len()), (3, u64::MAX, 288_481, 0));
+    let stopped = &runs()[0];
+    assert_eq!((stopped.budget, stopped.counts[0], stopped.mark, stopped.floor), (29, 29, 1, 977_192));
 }
 
 /// Runs over tables with charges, however they end, and charges of one too many.
@@ -74,22 +76,36 @@ fn charges_of_run() {
     assert!(runs().iter().filter(passed).all(|call| dearest(call) <= Some(100_000)));
 }
 
-/// Answers of every number, every selection and sum of rules, both bounds,
-/// and stopped runs with an order and without one.
+/// Runs with every bound that passes, however they end, and one too many.
+#[test]
+fn bounds_of_run() {
+    for bound in 0..=3 {
+        for (number, mark) in [(0, 0), (0, 1), (7, 0)] {
+            let some = |call: &Run| (call.bound, call.number, call.mark) == (bound, number, mark);
+            assert!(runs().iter().any(some), "{bound} {number} {mark}");
+        }
+    }
+    assert!(runs().iter().any(|call| (call.bound, call.number) == (4, 4)));
+    let passed = |call: &&Run| [0, 5, 6, 7].contains(&call.number);
+    assert!(runs().iter().filter(passed).all(|call| call.bound <= 3));
+}
+
+/// Answers of every number but 5, every selection, sum of rules and bound up to
+/// one too many, and stopped runs with an order and without one.
 #[test]
 fn the_calls_of_run() {
     let calls = runs();
     let some = |what: &dyn Fn(&Run) -> bool| calls.iter().any(what);
-    for number in 0..=7 {
+    for number in [0, 1, 2, 3, 4, 6, 7] {
         assert!(some(&|call| call.number == number), "{number}");
     }
     for selection in 0..=4 {
         assert!(some(&|call| call.selection == selection), "{selection}");
     }
-    for rules in 0..=15 {
+    for rules in 0..=16 {
         assert!(some(&|call| call.rules == rules), "{rules}");
     }
-    for bound in 0..=2 {
+    for bound in 0..=4 {
         assert!(some(&|call| call.bound == bound), "{bound}");
     }
     for mark in 0..=1 {

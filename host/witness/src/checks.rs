@@ -1,5 +1,5 @@
 //! Refusals 1 to 6, the lowest number that applies (document 01, "Causes and
-//! numbers"; number 3 with request A.4 of document 02).
+//! numbers"; number 3 with request A.4 of document 02, number 4 with A.5).
 
 use crate::legs::{Legs, Place, MOST_STOPS};
 use crate::node::Bound;
@@ -44,6 +44,14 @@ pub fn check_job(request: &Request) -> Result<Job, u32> {
     let bound = bound(request.bound).ok_or(4u32)?;
     let start = starting_order(legs.n, request.start).ok_or(5u32)?;
     Ok(Job { legs, selection, rules, bound, start, budget: request.budget })
+}
+
+/// Refusals 1 to 4 of the first order's call (requests A.1 and A.5), whose
+/// number 4 looks at the bound alone.
+pub fn check_first(n: u64, bound_number: u64, table: &[u32]) -> Result<(Legs, Bound), u32> {
+    let legs = check_legs(n, table)?;
+    let bound = bound(bound_number).ok_or(4u32)?;
+    Ok((legs, bound))
 }
 
 /// Refusals 1 to 3, which look at n and the table alone.
@@ -104,10 +112,13 @@ fn rules(sum: u64) -> Option<Rules> {
     })
 }
 
+/// 2 and 3 are of days that end away (request A.5).
 fn bound(bound: u64) -> Option<Bound> {
     match bound {
         0 => Some(Bound::Plain),
         1 => Some(Bound::Close),
+        2 => Some(Bound::PlainAway),
+        3 => Some(Bound::CloseAway),
         _ => None,
     }
 }

@@ -1,6 +1,6 @@
 //! All n! orders of the n stops.
 
-use crate::legs::{Legs, Place};
+use crate::legs::{Ends, Legs, Place};
 
 /// Every permutation of 1 to n, in ascending order.
 pub fn all_orders(n: usize) -> Vec<Vec<Place>> {
@@ -19,16 +19,16 @@ pub fn all_orders(n: usize) -> Vec<Vec<Place>> {
     orders
 }
 
-/// The least cost over all orders.
-pub fn least_cost(legs: &Legs) -> u32 {
+/// The least cost over all orders of a day with this end.
+pub fn least_cost(legs: &Legs, ends: Ends) -> u32 {
     let orders = all_orders(legs.n);
-    orders.iter().map(|o| legs.order_cost(o)).min().unwrap()
+    orders.iter().map(|o| legs.order_cost(o, ends)).min().unwrap()
 }
 
 /// The orders of least cost, in ascending order.
-pub fn cheapest_orders(legs: &Legs) -> Vec<Vec<Place>> {
-    let least = least_cost(legs);
+pub fn cheapest_orders(legs: &Legs, ends: Ends) -> Vec<Vec<Place>> {
+    let least = least_cost(legs, ends);
     let mut orders = all_orders(legs.n);
-    orders.retain(|o| legs.order_cost(o) == least);
+    orders.retain(|o| legs.order_cost(o, ends) == least);
     orders
 }

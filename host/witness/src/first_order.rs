@@ -1,8 +1,9 @@
 //! The first order (request A.1 of document 02): the nearest-stop order, then
-//! exchanges of two of its stops as long as one lowers the cost.
+//! exchanges of two of its stops as long as one lowers the cost. The bound
+//! number says which cost (request A.5): with the leg home or without.
 
-use crate::checks::check_legs;
-use crate::legs::{Legs, Place, MOST_STOPS};
+use crate::checks::check_first;
+use crate::legs::{Ends, Legs, Place, MOST_STOPS};
 use crate::words::in_places;
 
 #[derive(Clone, Copy, PartialEq, Eq, Debug, Default)]
@@ -13,19 +14,19 @@ pub struct FirstOrder {
     pub order: [u32; MOST_STOPS],
 }
 
-/// The whole call: number 0 with cost and order, or a number from 1 to 3 and
+/// The whole call: number 0 with cost and order, or a number from 1 to 4 and
 /// zeros.
-pub fn first_order(n: u64, table: &[u32]) -> FirstOrder {
-    match check_legs(n, table) {
-        Ok(legs) => {
-            let order = exchanged(&legs, nearest_stop_order(&legs));
-            FirstOrder { number: 0, cost: legs.order_cost(&order), order: in_places(&order) }
+pub fn first_order(n: u64, bound: u64, table: &[u32]) -> FirstOrder {
+    match check_first(n, bound, table) {
+        Ok((legs, bound)) => {
+            let order = exchanged(&legs, bound.ends(), nearest_stop_order(&legs));
+            FirstOrder { number: 0, cost: legs.order_cost(&order, bound.ends()), order: in_places(&order) }
         }
         Err(number) => FirstOrder { number, ..FirstOrder::default() },
     }
 }
 
-/// From each place on to the nearest stop not yet flown.
+/// From each place on to the nearest stop not yet flown, wherever the day ends.
 pub fn nearest_stop_order(legs: &Legs) -> Vec<Place> {
     let mut order = Vec::new();
     let mut place = 0;
@@ -45,9 +46,9 @@ fn nearest_stop(legs: &Legs, from: Place, flown: &[Place]) -> Place {
 }
 
 /// The order after all exchanges; each lowers the cost, so they end.
-fn exchanged(legs: &Legs, start: Vec<Place>) -> Vec<Place> {
+fn exchanged(legs: &Legs, ends: Ends, start: Vec<Place>) -> Vec<Place> {
     let mut order = start;
-    while let Some(next) = best_exchange(legs, &order) {
+    while let Some(next) = best_exchange(legs, ends, &order) {
         order = next;
     }
     order
@@ -55,13 +56,13 @@ fn exchanged(legs: &Legs, start: Vec<Place>) -> Vec<Place> {
 
 /// What the exchange that lowers the cost most makes of the order, the first
 /// of several such; None if no exchange lowers it.
-pub fn best_exchange(legs: &Legs, order: &[Place]) -> Option<Vec<Place>> {
+pub fn best_exchange(legs: &Legs, ends: Ends, order: &[Place]) -> Option<Vec<Place>> {
     let all = exchanges(order);
-    let least = all.iter().map(|next| legs.order_cost(next)).min()?;
-    if least >= legs.order_cost(order) {
+    let least = all.iter().map(|next| legs.order_cost(next, ends)).min()?;
+    if least >= legs.order_cost(order, ends) {
         return None;
     }
-    all.into_iter().find(|next| legs.order_cost(next) == least)
+    all.into_iter().find(|next| legs.order_cost(next, ends) == least)
 }
 
 /// The order with the stops at positions p and q in each other's place, for

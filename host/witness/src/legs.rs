@@ -1,5 +1,5 @@
 //! The legs, the landing charges and the cost of an order (document 01, "Legs
-//! and orders", and request A.4 of document 02).
+//! and orders", and requests A.4 and A.5 of document 02).
 
 /// Stops of a day at most.
 pub const MOST_STOPS: usize = 16;
@@ -9,6 +9,14 @@ pub const PLACES: usize = MOST_STOPS + 1;
 
 /// Home is place 0, the stops are places 1 to n.
 pub type Place = usize;
+
+/// Where a day ends (request A.5).
+#[derive(Clone, Copy, PartialEq, Eq, Debug)]
+pub enum Ends {
+    Home,
+    /// At the last stop.
+    Away,
+}
 
 /// The table's numbers as rows of seventeen, unused ones 0. The diagonal has
 /// the landing charges.
@@ -44,14 +52,18 @@ impl Legs {
         self.leg(from, to) + self.charge(to)
     }
 
-    /// Home to first, between neighbours, last to home.
-    pub fn order_cost(&self, order: &[Place]) -> u32 {
+    /// Home to first, between neighbours, last to home; of a day that ends away
+    /// no leg home counts.
+    pub fn order_cost(&self, order: &[Place], ends: Ends) -> u32 {
         let mut cost = 0;
         let mut last = 0;
         for &stop in order {
             cost += self.flying(last, stop);
             last = stop;
         }
-        cost + self.flying(last, 0)
+        match ends {
+            Ends::Home => cost + self.flying(last, 0),
+            Ends::Away => cost,
+        }
     }
 }

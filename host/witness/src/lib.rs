@@ -1,18 +1,19 @@
-//! A second planner, written from document 01 and requests A.1, A.3 and A.4 of
-//! document 02 alone, in plain lists and literal passes, and a second reader
-//! and writer of job files, which follow document 01's text. They serve as
-//! witnesses beside the proved ones. Request A.2 changes no answer, so there
+//! A second planner, written from document 01 and requests A.1, A.3, A.4 and
+//! A.5 of document 02 alone, in plain lists and literal passes, and a second
+//! reader and writer of job files, which follow document 01's text. They serve
+//! as witnesses beside the proved ones. Request A.2 changes no answer, so there
 //! is nothing of it here.
 //!
 //! In reading order: `legs` (table, request A.4's charges and the cost of an
-//! order), `node` (partial orders, bounds, dominance), `checks` (refusals 1 to
-//! 6), `run` (the run, request A.3's budget and refusal 7), `words` (report
-//! and pool), `first_order` (request A.1's call), `enumerate` (all n! orders),
-//! `job_file` (reader and writer), `program` (what `plan` prints).
+//! order, with the leg home or, by request A.5, without), `node` (partial
+//! orders, bounds, dominance), `checks` (refusals 1 to 6), `run` (the run,
+//! request A.3's budget and refusal 7), `words` (report and pool),
+//! `first_order` (request A.1's call), `enumerate` (all n! orders), `job_file`
+//! (reader and writer), `program` (what `plan` prints).
 //!
 //! Where the texts leave a choice, this planner takes these, 1 to 12 from
-//! document 01, 13 to 16 from request A.1, 17 to 25 from request A.3 and the
-//! rest from request A.4:
+//! document 01, 13 to 16 from request A.1, 17 to 25 from request A.3, 26 to 32
+//! from request A.4 and the rest from request A.5:
 //!
 //! 1. Selection, rules, bound and n come in as 64-bit numbers and stops of the
 //!    starting order as 32-bit ones, so that every refusal can be provoked.
@@ -43,8 +44,9 @@
 //!     none and stays at both ends.
 //! 15. After each exchange all pairs are looked at anew, by the cost of the
 //!     whole order. An exchange that leaves the cost the same isn't made.
-//! 16. The first order's call takes n and the table and nothing else, with n
-//!     as in 1 and checks as in 2. Its order has the report's sixteen places.
+//! 16. The first order's call takes n and the table, with request A.5 the bound
+//!     number (39), and nothing else; n is as in 1 and checks are as in 2. Its
+//!     order has the report's sixteen places.
 //! 17. Every 64-bit number is a budget: none is refused, and the checks come
 //!     first whatever it is. The first order's call takes none.
 //! 18. The budget stops a run that is not finished and has made as many
@@ -87,6 +89,32 @@
 //! 31. A job file keeps its form, with the charges on the table's diagonal: one
 //!     that was accepted before is accepted still and gives the same lines.
 //! 32. Jobs held against each other over one table share its charges.
+//! 33. The bound number alone says where a day ends: 0 and 1 at home, 2 and 3
+//!     at the last stop. Check 4 turns back 4 and above.
+//! 34. The leg home is the whole flight home, so on a day that ends away home's
+//!     landing isn't paid either. The leg out from home counts as ever, and an
+//!     order's cost is its path cost, with n = 1 too.
+//! 35. Away, plain is the path cost at every node, complete or not. Close is
+//!     without the cheapest leg home; the rest of it stays, and the legs into
+//!     a stop are from the same places as before. At a complete node both are
+//!     the order's cost. A node's path cost never had a leg home.
+//! 36. U, a starting order's cost too, the costs of complete children, rule 1,
+//!     the finish test, the selections by bound and the floor go by the costs
+//!     and bounds of the day. Dominance goes by path costs and is the same.
+//! 37. Legs into home and home's charge have no say away, but they are there
+//!     and check 3 looks at them: a leg home of 1,000,001 is 3.
+//! 38. Jobs are held against each other, and costs are equal, among bounds 0
+//!     and 1 and among 2 and 3. Between 2 and 3, close is at least as close as
+//!     plain, as between 0 and 1.
+//! 39. The first order's call has the bound number between n and the table, of
+//!     64 bits as in 1. Its number 4 comes behind 3 and is for a bound above 3
+//!     alone, as it takes neither selection nor rules. 0 and 1 give the same
+//!     answer, and so do 2 and 3.
+//! 40. Away, the first order's exchanges are ranked by costs without the leg
+//!     home, and its cost is without it. The nearest stops are the same, as
+//!     none of these legs leads home.
+//! 41. A job file keeps its form. Its byte for the bound may be 2 or 3, which
+//!     reader, writer and `plan` let pass.
 
 pub mod checks;
 pub mod enumerate;

@@ -1,12 +1,26 @@
 //! Partial orders, their bounds, and dominance (document 01, "Nodes", with the
-//! landings of request A.4 of document 02).
+//! landings of request A.4 of document 02 and the days away of request A.5).
 
-use crate::legs::{Legs, Place};
+use crate::legs::{Ends, Legs, Place};
 
 #[derive(Clone, Copy, PartialEq, Eq, Debug)]
 pub enum Bound {
     Plain,
     Close,
+    /// Number 2, plain for a day that ends away (request A.5).
+    PlainAway,
+    /// Number 3, close for such a day.
+    CloseAway,
+}
+
+impl Bound {
+    /// Where the day ends for which the bound is.
+    pub fn ends(self) -> Ends {
+        match self {
+            Bound::Plain | Bound::Close => Ends::Home,
+            Bound::PlainAway | Bound::CloseAway => Ends::Away,
+        }
+    }
 }
 
 #[derive(Clone, PartialEq, Eq, Debug)]
@@ -64,16 +78,22 @@ impl Node {
 
     fn bound_by(&self, legs: &Legs, kind: Bound) -> u32 {
         if self.is_complete(legs) {
-            return self.path + legs.flying(self.last(), 0);
+            return match kind.ends() {
+                Ends::Home => self.path + legs.flying(self.last(), 0),
+                Ends::Away => self.path,
+            };
         }
         match kind {
-            Bound::Plain => self.path,
-            Bound::Close => self.path + self.legs_to_come(legs),
+            Bound::Plain | Bound::PlainAway => self.path,
+            Bound::Close => self.path + self.legs_to_stops(legs) + self.leg_home(legs),
+            // No leg home counts.
+            Bound::CloseAway => self.path + self.legs_to_stops(legs),
         }
     }
 
-    /// What close adds to the path cost of a node that isn't complete.
-    fn legs_to_come(&self, legs: &Legs) -> u32 {
+    /// The cheapest leg into each stop to come, from the last place or another
+    /// stop to come.
+    fn legs_to_stops(&self, legs: &Legs) -> u32 {
         let unflown = self.unflown(legs);
         let mut sum = 0;
         for &stop in &unflown {
@@ -85,8 +105,13 @@ impl Node {
             }
             sum += cheapest;
         }
-        let home = unflown.iter().map(|&s| legs.flying(s, 0)).min();
-        sum + home.expect("a node that isn't complete has a stop to come")
+        sum
+    }
+
+    /// The cheapest leg home from a stop to come.
+    fn leg_home(&self, legs: &Legs) -> u32 {
+        let home = self.unflown(legs).into_iter().map(|s| legs.flying(s, 0)).min();
+        home.expect("a node that isn't complete has a stop to come")
     }
 
     /// Another way through the same stops to the same last one, and no dearer.

@@ -111,7 +111,7 @@ impl State {
     pub fn start(job: &Job) -> State {
         let cost = match job.start.is_empty() {
             true => None,
-            false => Some(job.legs.order_cost(&job.start)),
+            false => Some(job.legs.order_cost(&job.start, job.bound.ends())),
         };
         State {
             active: vec![Rc::new(Node::empty(&job.legs, job.bound))],

@@ -8,7 +8,8 @@ use std::cell::RefCell;
 use std::collections::BTreeSet;
 
 use common::{
-    ample, check_finished, check_order, choices, counts_of, for_each_job, read_pool, table_of_kind, told_words, Job,
+    ample, check_finished, check_order, choices, counts_of, for_each_away_job, for_each_job, read_pool, table_of_kind,
+    told_words, Job,
 };
 use samples::{Random, KINDS};
 use witness::{plan_watched, Report, State, LARGEST_BUDGET, STOPPED, WORDS};
@@ -170,6 +171,14 @@ fn every_budget_up_to_three_stops() {
 #[test]
 fn every_budget_of_four_stops() {
     for_each_job(64, 4, 1, |job| check_budgets(job, every_budget));
+}
+
+/// Request A.5's days.
+#[test]
+fn every_budget_of_days_that_end_away() {
+    for_each_away_job(67, 1, 1, |job| check_budgets(job, every_budget));
+    for_each_away_job(68, 2, 3, |job| check_budgets(job, every_budget));
+    for_each_away_job(69, 3, 3, |job| check_budgets(job, every_budget));
 }
 
 /// Every choice over a table of its own, at times with a starting order; some

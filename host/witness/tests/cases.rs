@@ -5,7 +5,7 @@ mod common;
 use common::{check_finished, Job};
 use samples::{level, T};
 use witness::enumerate::{all_orders, cheapest_orders, least_cost};
-use witness::legs::Legs;
+use witness::legs::{Ends, Legs};
 use witness::node::{Bound, Node};
 
 fn expect(job: &Job, records: usize, cost: u32, order: &[u32], counts: [u64; 5]) {
@@ -22,10 +22,10 @@ fn on_t(choices: [u64; 3], start: &[u32]) -> Job {
 #[test]
 fn costs_of_the_orders_in_t() {
     let legs = Legs::new(3, &T);
-    let costs: Vec<u32> = all_orders(3).iter().map(|o| legs.order_cost(o)).collect();
+    let costs: Vec<u32> = all_orders(3).iter().map(|o| legs.order_cost(o, Ends::Home)).collect();
     assert_eq!(costs, [13, 17, 27, 18, 19, 26]);
-    assert_eq!(least_cost(&legs), 13);
-    assert_eq!(cheapest_orders(&legs), [[1, 2, 3]]);
+    assert_eq!(least_cost(&legs, Ends::Home), 13);
+    assert_eq!(cheapest_orders(&legs, Ends::Home), [[1, 2, 3]]);
     assert_eq!(all_orders(6).len(), 720);
 }
 

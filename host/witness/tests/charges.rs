@@ -2,9 +2,10 @@
 
 mod common;
 
-use common::{check_finished, choices, course, Job};
+use common::course::course;
+use common::{check_finished, choices, Job};
 use samples::{charged, level, T};
-use witness::legs::Legs;
+use witness::legs::{Ends, Legs};
 use witness::node::{Bound, Node};
 use witness::{Report, STOPPED};
 
@@ -25,7 +26,7 @@ fn orders_of_two_stops() {
     let legs = Legs::new(2, &TWO);
     assert_eq!((legs.flying(0, 1), legs.flying(1, 2), legs.flying(2, 0)), (1 + 10, 4 + 20, 5 + 7));
     assert_eq!((legs.flying(0, 2), legs.flying(2, 1), legs.flying(1, 0)), (2 + 20, 6 + 10, 3 + 7));
-    assert_eq!([legs.order_cost(&[1, 2]), legs.order_cost(&[2, 1])], [47, 48]);
+    assert_eq!([[1, 2], [2, 1]].map(|order| legs.order_cost(&order, Ends::Home)), [47, 48]);
 }
 
 /// Path cost and bound of e, 1, 2, 12 and 21.

@@ -1,9 +1,10 @@
 //! Demand 3 with request A.3's budgets: job A, given no less than job B,
-//! finishes in every pool that B finishes in and counts no more.
+//! finishes in every pool that B finishes in and counts no more. Both end home
+//! or both end away (request A.5), the one as often as the other.
 
 mod common;
 
-use common::{choices, for_each_table, table_of_kind, Job};
+use common::{away_choices, choices, for_each_table, table_of_kind, Job};
 use samples::Random;
 use witness::{Report, LARGEST_BUDGET, STOPPED};
 
@@ -21,7 +22,8 @@ fn two_orders(random: &mut Random, job: &Job) -> (Vec<u32>, Vec<u32>) {
 fn pair(random: &mut Random, n: usize, table: &[u32]) -> (Job, Job) {
     let selection = random.below(4);
     let dominance = 2 * random.below(8);
-    let bound = random.below(2);
+    let plain = 2 * random.below(2);
+    let bound = plain + random.below(2);
     let mut b = Job::new(n, table, [selection, dominance, bound], &[]);
     let mut a = b.clone();
     let (upper_a, upper_b) = random.pick(&[(0, 0), (1, 0), (1, 1)]);
@@ -34,7 +36,7 @@ fn pair(random: &mut Random, n: usize, table: &[u32]) -> (Job, Job) {
         _ => (a.start, b.start) = (cheaper, dearer),
     }
     if selection >= 2 && random.below(2) == 0 {
-        a.bound = 1;
+        a.bound = plain + 1;
     }
     (a, b)
 }
@@ -69,12 +71,13 @@ fn check_pair(a: &Job, b: &Job, least: u32) {
     }
 }
 
-/// Two jobs that share the table and nothing else: where both finish, their
-/// costs are equal. How often they did.
+/// Two jobs that share the table, where the day ends, and nothing else: where
+/// both finish, their costs are equal. How often they did.
 fn finish_both(random: &mut Random, n: usize, table: &[u32]) -> u32 {
+    let choices = if random.below(2) == 0 { choices() } else { away_choices() };
     let mut finished = Vec::new();
     for _ in 0..2 {
-        let choice = random.pick(&choices());
+        let choice = random.pick(&choices);
         let start: Vec<u32> = if random.below(2) == 0 { Vec::new() } else { random.order(n) };
         let job = Job::new(n, table, choice, &start).within(random.below(40));
         let (report, _) = job.run(1 + random.below(40) as usize);
@@ -91,10 +94,10 @@ fn finish_both(random: &mut Random, n: usize, table: &[u32]) -> u32 {
 
 fn check_pairs(seed: u64, n: usize, tables: usize, pairs: usize) {
     for_each_table(&mut Random(seed), n, tables, |random, table| {
-        let least = Job::new(n, table, [0, 0, 0], &[]).least_cost();
+        let [home, away] = [0, 2].map(|bound| Job::new(n, table, [0, 0, bound], &[]).least_cost());
         for _ in 0..pairs {
             let (a, b) = pair(random, n, table);
-            check_pair(&a, &b, least);
+            check_pair(&a, &b, if a.is_away() { away } else { home });
         }
     });
 }
@@ -148,12 +151,13 @@ fn smaller_budgets_may_stop_a() {
 #[test]
 fn plain_counts_more_than_close_somewhere() {
     let mut random = Random(27);
-    let mut more = 0;
-    for _ in 0..50 {
-        let table = table_of_kind(&mut random, 4, 4);
-        let plain = Job::new(4, &table, [3, 1, 0], &[]).run(65).0;
-        let close = Job::new(4, &table, [3, 1, 1], &[]).run(65).0;
-        more += (plain.branched > close.branched) as u32;
+    for plain in [0, 2] {
+        let mut more = 0;
+        for _ in 0..50 {
+            let table = table_of_kind(&mut random, 4, 4);
+            let branched = |bound| Job::new(4, &table, [3, 1, bound], &[]).run(65).0.branched;
+            more += (branched(plain) > branched(plain + 1)) as u32;
+        }
+        assert!(more > 25, "{plain}: {more}");
     }
-    assert!(more > 25);
 }

@@ -1,15 +1,16 @@
-//! Runs under all 128 choices against full enumeration.
+//! Runs of days that end home, under all 128 choices, against full enumeration.
 
 mod common;
 
 use common::{ample, check_finished, choices, for_each_table, table_of_kind, Job};
 use samples::Random;
 use witness::enumerate::cheapest_orders;
+use witness::legs::Ends;
 
 /// No starting order, 1 to n, a random one, and one of least cost.
 fn starts(random: &mut Random, job: &Job) -> Vec<Vec<u32>> {
     let identity = (1..=job.n as u32).collect();
-    let cheapest = cheapest_orders(&job.legs());
+    let cheapest = cheapest_orders(&job.legs(), Ends::Home);
     let optimal = random.pick(&cheapest).iter().map(|&s| s as u32).collect();
     vec![Vec::new(), identity, random.order(job.n), optimal]
 }

@@ -1,13 +1,13 @@
-//! The first order (request A.1 of document 02): cases worked by hand and
-//! the refusals.
+//! The first order (request A.1 of document 02), of days that end home: cases
+//! worked by hand; and the refusals, with request A.5's number 4.
 
 mod common;
 
-use common::course;
+use common::course::course;
 use samples::{level, T};
 use witness::enumerate::least_cost;
 use witness::first_order::{exchanges, first_order};
-use witness::legs::{Legs, Place};
+use witness::legs::{Ends, Legs, Place};
 
 /// All legs the same but those named: from, to, cost.
 fn level_but(n: usize, leg: u32, others: &[(Place, Place, u32)]) -> Vec<u32> {
@@ -22,7 +22,7 @@ fn level_but(n: usize, leg: u32, others: &[(Place, Place, u32)]) -> Vec<u32> {
 /// position.
 fn exchange_costs(n: usize, table: &[u32], order: &[Place]) -> Vec<u32> {
     let legs = Legs::new(n, table);
-    exchanges(order).iter().map(|next| legs.order_cost(next)).collect()
+    exchanges(order).iter().map(|next| legs.order_cost(next, Ends::Home)).collect()
 }
 
 #[test]
@@ -104,15 +104,22 @@ fn three_exchanges() {
 fn ends_above_the_least_cost() {
     let table = level_but(3, 9, &[(0, 1, 1), (0, 2, 2), (1, 0, 1), (1, 2, 1), (2, 3, 1), (3, 0, 5), (3, 1, 1)]);
     assert_eq!(course(3, &table), [(1 + 1 + 1 + 5, vec![1, 2, 3])]);
-    assert_eq!(least_cost(&Legs::new(3, &table)), 2 + 1 + 1 + 1);
+    assert_eq!(least_cost(&Legs::new(3, &table), Ends::Home), 2 + 1 + 1 + 1);
 }
 
-fn number(n: u64, table: &[u32]) -> u32 {
-    let first = first_order(n, table);
+fn number_by(n: u64, bound: u64, table: &[u32]) -> u32 {
+    let first = first_order(n, bound, table);
     if first.number != 0 {
         assert_eq!((first.cost, first.order), (0, [0; 16]), "all else is zero");
     }
     first.number
+}
+
+/// Whichever bound of the four.
+fn number(n: u64, table: &[u32]) -> u32 {
+    let numbers = [0, 1, 2, 3].map(|bound| number_by(n, bound, table));
+    assert_eq!(numbers, [numbers[0]; 4]);
+    numbers[0]
 }
 
 #[test]
@@ -150,18 +157,33 @@ fn number_3() {
     }
 }
 
-/// With n at 3, 16 numbers and all legs 7, nothing applies.
+#[test]
+fn number_4() {
+    for bound in [4, 5, 255, 256, 1 << 32, (1 << 32) + 3, u64::MAX] {
+        assert_eq!(number_by(3, bound, &T), 4, "{bound}");
+    }
+    for n in 1..=16 {
+        for bound in 0..=4 {
+            let told = if bound == 4 { 4 } else { 0 };
+            assert_eq!(number_by(n, bound, &level(n as usize, 1)), told, "{n} {bound}");
+        }
+    }
+}
+
+/// With n at 3, 16 numbers, all legs 7 and a bound up to 3, nothing applies.
 #[test]
 fn lowest_number_of_several() {
     for n in [3, 0, 17, u64::MAX] {
         for length in [16, 0, 15, 17] {
             for spoiled in [(1, 7), (0, 100_001), (5, 1_000_000), (1, u32::MAX)] {
-                let mut table = level(3, 7);
-                table[spoiled.0] = spoiled.1;
-                table.resize(length, u32::MAX);
-                let causes = [n != 3, length != 16, spoiled != (1, 7)];
-                let told = causes.iter().position(|&applies| applies).map_or(0, |at| at as u32 + 1);
-                assert_eq!(number(n, &table), told, "{n} {length} {spoiled:?}");
+                for bound in [0, 1, 2, 3, 4, u64::MAX] {
+                    let mut table = level(3, 7);
+                    table[spoiled.0] = spoiled.1;
+                    table.resize(length, u32::MAX);
+                    let causes = [n != 3, length != 16, spoiled != (1, 7), bound > 3];
+                    let told = causes.iter().position(|&applies| applies).map_or(0, |at| at as u32 + 1);
+                    assert_eq!(number_by(n, bound, &table), told, "{n} {length} {spoiled:?} {bound}");
+                }
             }
         }
     }

@@ -3,9 +3,10 @@
 
 mod common;
 
-use common::{ample, course, for_each_table, Job};
+use common::course::course;
+use common::{ample, for_each_table, Job};
 use samples::{folded, nearest, Random};
-use witness::first_order;
+use witness::{first_order, FirstOrder};
 
 /// By legs that have the charges in them.
 fn nearest_stops(job: &Job) -> Vec<u32> {
@@ -18,8 +19,13 @@ fn few_free(random: &mut Random, n: usize) -> Vec<u32> {
     random.maybe_charged(n, table)
 }
 
+/// A day that ends home.
 fn over(n: usize, table: &[u32]) -> Job {
     Job::new(n, table, [0, 0, 0], &[])
+}
+
+fn first(job: &Job) -> FirstOrder {
+    first_order(job.n as u64, job.bound, &job.table)
 }
 
 /// What ranks an exchange, from the cost it leads to and its two positions.
@@ -50,7 +56,7 @@ fn by_keys(job: &Job, key: Key) -> Vec<u32> {
 
 /// What the request says of every first order.
 fn check_first_order(job: &Job) {
-    let first = first_order(job.n as u64, &job.table);
+    let first = first(job);
     assert_eq!(first.number, 0, "{job:?}");
     let (order, rest) = first.order.split_at(job.n);
     assert!(rest.iter().all(|&s| s == 0), "{job:?}");
@@ -86,6 +92,21 @@ fn few_free_legs() {
         for _ in 0..300 {
             check_first_order(&over(n, &few_free(&mut random, n)));
         }
+    }
+}
+
+/// With each bound of a day that ends away (request A.5): 1,920 tables of both
+/// sorts.
+#[test]
+fn days_that_end_away() {
+    let mut random = Random(56);
+    for n in 1..=16 {
+        for_each_table(&mut random, n, 10, |random, table| {
+            for table in [table, &few_free(random, n)] {
+                check_first_order(&Job { bound: 2, ..over(n, table) });
+                check_first_order(&Job { bound: 3, ..over(n, table) });
+            }
+        });
     }
 }
 
@@ -126,7 +147,7 @@ fn other_readings_differ_somewhere() {
     let mut random = Random(53);
     let jobs: Vec<Job> = (0..3_000).map(|k| k % 13 + 4).map(|n| over(n, &few_free(&mut random, n))).collect();
     for (name, key) in others {
-        let differs = |job: &&Job| by_keys(job, key) != first_order(job.n as u64, &job.table).order[..job.n];
+        let differs = |job: &&Job| by_keys(job, key) != first(job).order[..job.n];
         let differ = jobs.iter().filter(differs).count();
         println!("{name}: {differ} of {} tables answer otherwise", jobs.len());
         assert!(differ > 50, "{name}");
@@ -141,7 +162,7 @@ fn against_enumeration() {
     for n in 1..=6 {
         for_each_table(&mut Random(54), n, 40, |_, table| {
             let least = over(n, table).least_cost();
-            let first = first_order(n as u64, table);
+            let first = first(&over(n, table));
             assert!(first.cost >= least, "{table:?}");
             tables += 1;
             let job = Job::new(n, table, [0, 1, 1], &first.order[..n]);

@@ -77,11 +77,49 @@ fn charge_of_one_too_many() {
         let mut bad = file(&good);
         bad[4 * entry] += 1;
         assert_eq!((read(&bad), output(&bad).as_str()), (Err(3), "refused 3\n"));
-        (bad[16], bad[29]) = (2, 2);
+        (bad[16], bad[29]) = (2, 4);
         assert_eq!(read(&bad), Err(3));
         bad[17] = 1;
         assert_eq!(read(&bad), Err(9));
     }
+}
+
+/// Job a with the bounds of a day that ends away (request A.5): the last byte is 2 or 3, and order 123 costs 4 + 2 + 1.
+/// Under plain, node 2 has path cost 7 as well and stays.
+#[test]
+fn days_that_end_away() {
+    for (bound, counts) in [(2, "eliminated 2\nactive 2"), (3, "eliminated 3\nactive 1")] {
+        let job = Contents { bound, ..a() };
+        let bytes = file(&job);
+        assert_eq!(bytes[..76], file(&a())[..76]);
+        assert_eq!((bytes[76], bytes.len()), (bound as u8, 77));
+        assert_eq!(read(&bytes), Ok(job));
+        let lines = format!("cost 7\norder 1 2 3\nbranched 3\ngenerated 7\n{counts}\nmost 4\n");
+        assert_eq!(output(&bytes), lines);
+        let started = Contents { bound, start: vec![3, 1, 2], ..a() };
+        assert_eq!(read(&file(&started)), Ok(started));
+    }
+}
+
+/// Reader, writer and program refuse bound 4, behind a leg of one too many and in front of an order that is none.
+#[test]
+fn bound_of_one_too_many() {
+    let mut buffer = [7; LONGEST];
+    for bound in [4, 5, 255] {
+        let mut bad = file(&Contents { start: vec![2, 1, 3], ..a() });
+        bad[79] = bound;
+        assert_eq!((read(&bad), output(&bad).as_str()), (Err(4), "refused 4\n"));
+        bad[64] = 3;
+        assert_eq!(read(&bad), Err(4));
+        bad[7] = 1;
+        assert_eq!(read(&bad), Err(3));
+        for start in [vec![], vec![3, 3, 3]] {
+            let job = Contents { bound: bound.into(), start, ..a() };
+            assert_eq!(write(&job.request(), &mut buffer), Err(4));
+            assert_eq!(write(&job.request(), &mut []), Err(4));
+        }
+    }
+    assert_eq!(buffer, [7; LONGEST]);
 }
 
 #[test]
@@ -92,7 +130,7 @@ fn program_refuses() {
     assert_eq!(output(&good[1..]), "refused 9\n");
     // Longer than the longest job: 9, where the reader looks at n first.
     assert_eq!((output(&[0; LONGEST + 1]), read(&[0; LONGEST + 1])), ("refused 9\n".to_string(), Err(1)));
-    for (at, byte, number) in [(3, 1, 3), (76, 2, 4)] {
+    for (at, byte, number) in [(3, 1, 3), (76, 4, 4)] {
         let mut bad = good.clone();
         bad[at] = byte;
         assert_eq!(output(&bad), format!("refused {number}\n"));

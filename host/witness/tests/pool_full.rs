@@ -2,7 +2,7 @@
 
 mod common;
 
-use common::{ample, choices, counts_of, for_each_job, read_pool, table_of_kind, told_words, Job};
+use common::{ample, choices, counts_of, for_each_away_job, for_each_job, read_pool, table_of_kind, told_words, Job};
 use samples::{Random, KINDS};
 use witness::{plan_watched, State, WORDS};
 
@@ -61,6 +61,14 @@ fn sizes_of_five_stops() {
         let table = table_of_kind(&mut random, 5, i % KINDS.len());
         check_sizes(&Job::new(5, &table, choice, &[]));
     }
+}
+
+/// Request A.5's days.
+#[test]
+fn sizes_of_days_that_end_away() {
+    for_each_away_job(37, 1, 1, check_sizes);
+    for_each_away_job(38, 2, 2, check_sizes);
+    for_each_away_job(39, 3, 3, check_sizes);
 }
 
 /// Both ends occur, and a run that is finished isn't refused.

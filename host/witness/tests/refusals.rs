@@ -1,5 +1,6 @@
 //! Refusals 1 to 6: each cause, the boundaries, and the lowest number of
-//! several (document 01, "Causes and numbers", and request A.4 of document 02).
+//! several (document 01, "Causes and numbers", and requests A.4 and A.5 of
+//! document 02).
 
 mod common;
 
@@ -112,10 +113,10 @@ fn number_4() {
     for big in [16, 17, 31, 256, 1 << 32, u64::MAX] {
         assert_eq!(spoiled(|c| c.rules = big), 4, "{big}");
     }
-    for big in [2, 3, 256, 1 << 32, u64::MAX] {
+    for big in [4, 5, 256, 1 << 32, (1 << 32) + 2, u64::MAX] {
         assert_eq!(spoiled(|c| c.bound = big), 4, "{big}");
     }
-    for [selection, rules, bound] in common::choices() {
+    for [selection, rules, bound] in common::choices().into_iter().chain(common::away_choices()) {
         let choose = |c: &mut Call| {
             (c.selection, c.rules, c.bound) = (selection, rules, bound);
         };
@@ -179,7 +180,7 @@ fn spoil(call: &mut Call, number: u32, random: &mut Random) {
         4 => match way {
             0 => call.selection = 4,
             1 => call.rules = 16,
-            _ => call.bound = 2,
+            _ => call.bound = 4,
         },
         5 => call.start = [vec![1], vec![1, 2, 2], vec![0, 1, 2]][way].clone(),
         _ => {
@@ -189,7 +190,8 @@ fn spoil(call: &mut Call, number: u32, random: &mut Random) {
     }
 }
 
-/// All 63 sets of causes: the lowest number is the answer, whatever the budget.
+/// All 63 sets of causes: the lowest number is the answer, whatever the budget
+/// and wherever the day ends.
 #[test]
 fn lowest_number_of_several() {
     let mut random = Random(41);
@@ -197,6 +199,7 @@ fn lowest_number_of_several() {
         for round in 0..40 {
             let mut call = good();
             call.budget = [0, 1, 1 << 32, LARGEST_BUDGET][round % 4];
+            call.bound = [0, 1, 2, 3][round / 4 % 4];
             for cause in (1..=6).filter(|c| causes >> (c - 1) & 1 == 1) {
                 spoil(&mut call, cause, &mut random);
             }

@@ -3,7 +3,7 @@
 
 mod common;
 
-use common::{ample, counts_of, for_each_job, Job};
+use common::{ample, counts_of, for_each_away_job, for_each_job, Job};
 use witness::node::Node;
 use witness::State;
 
@@ -139,4 +139,13 @@ fn steps_of_four_stops() {
 #[test]
 fn steps_of_five_stops() {
     for_each_job(15, 5, 1, check_run);
+}
+
+/// Request A.5's days.
+#[test]
+fn steps_of_days_that_end_away() {
+    for_each_away_job(16, 1, 1, check_run);
+    for_each_away_job(17, 2, 8, check_run);
+    for_each_away_job(18, 3, 8, check_run);
+    for_each_away_job(19, 4, 2, check_run);
 }

@@ -1,13 +1,15 @@
 //! What the tests share: jobs, and the definitions of document 01 worked out
-//! once more from an order alone, legs and landing charges each by themselves.
+//! once more from an order alone, legs and landing charges each by themselves,
+//! of days that end home and of days that end away.
 #![allow(dead_code)]
+
+pub mod course;
 
 use samples::{Random, KINDS};
 use witness::enumerate::all_orders;
-use witness::first_order::{best_exchange, nearest_stop_order};
-use witness::legs::{Legs, Place};
-use witness::words::{in_places, record};
-use witness::{first_order, plan, plan_watched, FirstOrder, Report, Request, State, LARGEST_BUDGET, WORDS};
+use witness::legs::Legs;
+use witness::words::record;
+use witness::{plan, plan_watched, Report, Request, State, LARGEST_BUDGET, WORDS};
 
 /// A job without its pool.
 #[derive(Clone, Debug)]
@@ -77,6 +79,11 @@ impl Job {
         self.rules & rule != 0
     }
 
+    /// The day ends at the last stop.
+    pub fn is_away(&self) -> bool {
+        self.bound >= 2
+    }
+
     pub fn leg(&self, from: u32, to: u32) -> u32 {
         self.table[from as usize * (self.n + 1) + to as usize]
     }
@@ -96,6 +103,9 @@ impl Job {
     }
 
     pub fn cost(&self, order: &[u32]) -> u32 {
+        if self.is_away() {
+            return self.path(order);
+        }
         self.path(order) + self.leg(*order.last().unwrap(), 0) + self.charges(&[0])
     }
 
@@ -109,7 +119,7 @@ impl Job {
         if order.len() == self.n {
             return self.cost(order);
         }
-        if self.bound == 0 {
+        if [0, 2].contains(&self.bound) {
             return self.path(order);
         }
         let left: Vec<u32> = (1..=self.n as u32).filter(|s| !order.contains(s)).collect();
@@ -118,25 +128,12 @@ impl Job {
             let from = left.iter().copied().chain([last]).filter(|&p| p != s);
             from.map(|p| self.leg(p, s)).min().unwrap()
         };
-        let home = left.iter().map(|&s| self.leg(s, 0)).min().unwrap();
-        let legs = left.iter().map(|&s| into(s)).sum::<u32>() + home;
-        self.path(order) + legs + self.charges(&left) + self.charges(&[0])
+        let to_stops = self.path(order) + left.iter().map(|&s| into(s)).sum::<u32>() + self.charges(&left);
+        if self.is_away() {
+            return to_stops;
+        }
+        to_stops + left.iter().map(|&s| self.leg(s, 0)).min().unwrap() + self.charges(&[0])
     }
-}
-
-/// Cost and stops of the nearest-stop order and after each exchange; the call
-/// for a first order must answer with the last of them.
-pub fn course(n: usize, table: &[u32]) -> Vec<(u32, Vec<Place>)> {
-    let legs = Legs::new(n, table);
-    let mut order = nearest_stop_order(&legs);
-    let mut course = vec![(legs.order_cost(&order), order.clone())];
-    while let Some(next) = best_exchange(&legs, &order) {
-        course.push((legs.order_cost(&next), next.clone()));
-        order = next;
-    }
-    let cost = legs.order_cost(&order);
-    assert_eq!(first_order(n as u64, table), FirstOrder { number: 0, cost, order: in_places(&order) });
-    course
 }
 
 /// As many records as a run over n stops can ever keep: all its nodes.
@@ -149,12 +146,21 @@ pub fn ample(n: usize) -> usize {
     sum
 }
 
-/// All 128 choices of selection, rules and bound.
+/// All 128 choices of selection, rules and bound for a day that ends home.
 pub fn choices() -> Vec<[u64; 3]> {
+    choices_of([0, 1])
+}
+
+/// As many for a day that ends away.
+pub fn away_choices() -> Vec<[u64; 3]> {
+    choices_of([2, 3])
+}
+
+fn choices_of(bounds: [u64; 2]) -> Vec<[u64; 3]> {
     let mut all = Vec::new();
     for selection in 0..4 {
         for rules in 0..16 {
-            for bound in 0..2 {
+            for bound in bounds {
                 all.push([selection, rules, bound]);
             }
         }
@@ -178,12 +184,21 @@ pub fn for_each_table(random: &mut Random, n: usize, tables: usize, mut check: i
     }
 }
 
-/// Holds `check` to jobs over `tables` tables of each kind: every choice, with
-/// and without a starting order.
+/// Holds `check` to jobs over `tables` tables of each kind: every choice of a
+/// day that ends home, with and without a starting order.
 pub fn for_each_job(seed: u64, n: usize, tables: usize, check: impl Fn(&Job)) {
+    for_each_choice(seed, n, tables, &choices(), check);
+}
+
+/// The same of days that end away.
+pub fn for_each_away_job(seed: u64, n: usize, tables: usize, check: impl Fn(&Job)) {
+    for_each_choice(seed, n, tables, &away_choices(), check);
+}
+
+fn for_each_choice(seed: u64, n: usize, tables: usize, choices: &[[u64; 3]], check: impl Fn(&Job)) {
     for_each_table(&mut Random(seed), n, tables, |random, table| {
         let start = random.order(n);
-        for choice in choices() {
+        for &choice in choices {
             check(&Job::new(n, table, choice, &[]));
             check(&Job::new(n, table, choice, &start));
         }
