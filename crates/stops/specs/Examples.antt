@@ -10,6 +10,7 @@ use Rattle.stops.specs.Tables.{entry, charge, flying, counted, inRows, r
 use Rattle.stops.specs.Legs.{Legs, rowLeg, legs, path, cost}
 use Rattle.stops.specs.Bounds.{plain, cheapestInto, remainder, close, endsAway, isClose, boundBy, dominates}
 use Rattle.stops.specs.Stops.{day, dayOn}
+use Rattle.stops.specs.Away.{closeAway, dayAway}
 
 -- the day of a table, with every definition that it rests on open: a proof that says `unfolding computedDay` computes it
 unfoldable pub computedDay : ℕ → Bool → List ℕ → Day
@@ -111,6 +112,15 @@ away-plain = refl
 away-close : map (close 3 awayT) ([] ∷ (1 ∷ []) ∷ (2 ∷ []) ∷ (3 ∷ []) ∷ (1 ∷ 2 ∷ 3 ∷ []) ∷ []) ≡ 77 ∷ 77 ∷ 83 ∷ 86 ∷ 77 ∷ []
 unfolding awayT
 away-close = refl
+
+-- The same as request A.5 words it, by the legs of the day that ends at home: bound 3 of e and of 1, 2, 3 and 123, and what the orders cost.
+worded-close : map (dayAway 3 chargedT .bound 3) ([] ∷ (1 ∷ []) ∷ (2 ∷ []) ∷ (3 ∷ []) ∷ (1 ∷ 2 ∷ 3 ∷ []) ∷ []) ≡ 77 ∷ 77 ∷ 83 ∷ 86 ∷ 77 ∷ []
+unfolding chargedT closeAway dayAway
+worded-close = refl
+
+worded-costs : map (dayAway 3 chargedT .cost) (orders 3) ≡ 77 ∷ 84 ∷ 91 ∷ 83 ∷ 86 ∷ 91 ∷ []
+unfolding chargedT dayAway
+worded-costs = refl
 
 -- which bound a number names, 0 to 3: whether it is close, and whether for a day that ends away
 bounds-named : (map isClose (0 ∷ 1 ∷ 2 ∷ 3 ∷ []) ≡ false ∷ true ∷ false ∷ true ∷ []) × (map endsAway (0 ∷ 1 ∷ 2 ∷ 3 ∷ []) ≡ false ∷ false ∷ true ∷ true ∷ [])
