@@ -25,7 +25,7 @@ extern "C" {
 #endif
 
 /* Raised with every change of a call, of a struct or of what a number means. */
-#define GONDAMUY_VERSION 5
+#define GONDAMUY_VERSION 6
 
 /* Sizes. */
 #define GONDAMUY_MOST_STOPS 16                                         /* stops of a day at most */
@@ -59,10 +59,12 @@ enum gondamuy_rules {
     GONDAMUY_RULES_ALL = 15
 };
 
-/* What a node's whole orders cost at least. */
+/* What a node's whole orders cost at least, and where the day ends (request A.5). */
 enum gondamuy_bound {
-    GONDAMUY_BOUND_PLAIN = 0, /* what the flying so far costs, landings included */
-    GONDAMUY_BOUND_CLOSE = 1  /* what the flying so far costs, and the cheapest legs to come with their landings */
+    GONDAMUY_BOUND_PLAIN = 0,      /* what the flying so far costs, landings included */
+    GONDAMUY_BOUND_CLOSE = 1,      /* what the flying so far costs, and the cheapest legs to come with their landings */
+    GONDAMUY_BOUND_PLAIN_AWAY = 2, /* plain for a day that ends at the last stop: no leg home counts */
+    GONDAMUY_BOUND_CLOSE_AWAY = 3  /* close for such a day */
 };
 
 /* Whether its budget stopped a search (request A.3). Mark 0 alone says nothing either: a refusal has it too. */
@@ -80,7 +82,7 @@ enum gondamuy_refusal {
     GONDAMUY_REFUSED_TABLE_LENGTH = 2,
     /* a leg is above 1,000,000 or a landing charge is above 100,000. Each number is looked at by itself. */
     GONDAMUY_REFUSED_LEG = 3,
-    /* selection is above 3, rules above 15 or bound above 1. */
+    /* selection is above 3, rules above 15 or bound above 3. gondamuy_first_order looks at the bound alone. */
     GONDAMUY_REFUSED_CHOICE = 4,
     /* the starting order is neither empty nor a permutation of 1 to n. Name each stop once, or hand in none. */
     GONDAMUY_REFUSED_START = 5,
@@ -119,7 +121,7 @@ struct gondamuy_report {
 };
 
 struct gondamuy_first {
-    uint32_t number;    /* 0, or the number of the refusal: 1 to 3 */
+    uint32_t number;    /* 0, or the number of the refusal: 1 to 4 */
     uint32_t cost;      /* of this order; another may be cheaper */
     uint8_t order[GONDAMUY_ORDER_PLACES]; /* the stops as they are flown, zeros past n */
 };
@@ -152,8 +154,10 @@ struct gondamuy_record {
  * table: (n+1)*(n+1) numbers, row by row; home is place 0. Row i has the leg from place i to each other place, at most
  * GONDAMUY_DEAREST_LEG, and on the diagonal the landing charge of place i, at most GONDAMUY_DEAREST_CHARGE, 0 for none
  * (request A.4). Flying from i to j costs the leg and the charge of j, so that an order costs its legs and a landing at
- * each stop and, at the end, at home. start: an order of the n stops known beforehand, or nothing. budget: how many
- * nodes may be branched, 0 included, or GONDAMUY_NO_BUDGET. pool: words, six to a record; what they hold plays no part.
+ * each stop and, at the end, at home. On a day that ends away (bound 2 or 3, request A.5) the leg home and the landing
+ * there are in no cost and no bound; the numbers stand in the table all the same, and 3 looks at them. start: an order
+ * of the n stops known beforehand, or nothing. budget: how many nodes may be branched, 0 included, or
+ * GONDAMUY_NO_BUDGET. pool: words, six to a record; what they hold plays no part.
  *
  * What comes back and what the pool then holds, by number and mark; the lowest number that applies is returned:
  *   0, mark 0  Finished: a cheapest order, its cost, and the counts of the search. The pool holds the nodes that were
@@ -190,21 +194,30 @@ static inline int gondamuy_shows_order(const struct gondamuy_report *report)
     return report->order[0] != 0;
 }
 
+/* Whether a bound is one for a day that ends at the last stop (request A.5). Costs of two searches over one table may
+ * be held against each other only where this says the same of both bounds. */
+static inline int gondamuy_ends_away(uint32_t bound)
+{
+    return bound == GONDAMUY_BOUND_PLAIN_AWAY || bound == GONDAMUY_BOUND_CLOSE_AWAY;
+}
+
 /* Makes an order of the stops 1 to n to start from, where nobody has typed one (request A.1).
  *
- * n and table are as for gondamuy_plan. From each place on, home first, the nearest stop left is flown: the one that
- * is cheapest to fly to and land at, the lowest number of several. Then two stops change places as long as that lowers
- * the cost: of all pairs the one that lowers it most, of several the one that begins earliest in the order, then the
- * one that ends earliest. The order costs no more than that of the nearest stops, and no exchange of two of its stops
- * makes it cheaper; but another order may be cheaper still, and gondamuy_plan finds one that is cheapest.
+ * n and table are as for gondamuy_plan, and bound is that of the job that is to start from the order: it says what an
+ * order costs, with the leg home (0 and 1) or without (2 and 3, request A.5), and nothing else. From each place on,
+ * home first, the nearest stop left is flown: the one that is cheapest to fly to and land at, the lowest number of
+ * several. Then two stops change places as long as that lowers the cost: of all pairs the one that lowers it most, of
+ * several the one that begins earliest in the order, then the one that ends earliest. The order costs no more than that
+ * of the nearest stops, and no exchange of two of its stops makes it cheaper; but another order may be cheaper still,
+ * and gondamuy_plan finds one that is cheapest.
  *
  * What comes back, by number; the lowest that applies is returned:
  *   0       The order and its cost.
- *   1 to 3  The number, and zeros in every other field.
+ *   1 to 4  The number, and zeros in every other field.
  * The table is not written to. To start from the order, hand in the first n of first.order as start; 5 never comes from
  * that. gondamuy_plan does not make one by itself.
  */
-struct gondamuy_first gondamuy_first_order(uint32_t n, const uint32_t *table, size_t table_len);
+struct gondamuy_first gondamuy_first_order(uint32_t n, uint32_t bound, const uint32_t *table, size_t table_len);
 
 /* Reads a job file. The job comes back by value, so that no buffer can be too short.
  *

@@ -1,6 +1,6 @@
-/* Reads a job file from standard input, prints the first order of its table, and plans it in a pool of few records:
- * from no order, from the file's own, if it has one, and from the first order. A refusal ends it with a status other
- * than 0, and so would a search that did not finish. */
+/* Reads a job file from standard input, prints the first order of its table by its bound, which says where the day
+ * ends, and plans it in a pool of few records: from no order, from the file's own, if it has one, and from the first
+ * order. A refusal ends it with a status other than 0, and so would a search that did not finish. */
 #include <inttypes.h>
 #include <stdbool.h>
 #include <stdio.h>
@@ -53,7 +53,7 @@ int main(void)
     static uint8_t file[GONDAMUY_LONGEST_FILE + 1]; /* a file that fills it is too long, and is refused */
 
     /* With length 0 a null table will do; it is refused. */
-    if (gondamuy_first_order(3, NULL, 0).number != GONDAMUY_REFUSED_TABLE_LENGTH)
+    if (gondamuy_first_order(3, GONDAMUY_BOUND_CLOSE, NULL, 0).number != GONDAMUY_REFUSED_TABLE_LENGTH)
         return failed("an empty table is not refused by 2");
     size_t length = fread(file, 1, sizeof file, stdin);
     if (ferror(stdin))
@@ -63,7 +63,7 @@ int main(void)
         return refused(reading.number);
     uint32_t n = reading.job.n;
     size_t numbers = (n + 1) * (n + 1);
-    struct gondamuy_first first = gondamuy_first_order(n, reading.table, numbers);
+    struct gondamuy_first first = gondamuy_first_order(n, reading.job.bound, reading.table, numbers);
     if (first.number != GONDAMUY_NOT_REFUSED)
         return refused(first.number);
     print_first(&first, n);

@@ -1,7 +1,7 @@
 /* Writes the job file of document 01's case a (three stops, least bound first, rule 1, close), reads it back and plans
  * it; plans case b (earliest first, no rules, plain) within three budgets, of which the first two stop it; and plans
- * case a with a landing charge at each place. A refusal ends it with a status other than 0, and so would a search of
- * case a that did not finish. */
+ * case a with a landing charge at each place, for a day that ends at home and for one that ends at the last stop. A
+ * refusal ends it with a status other than 0, and so would a search of case a that did not finish. */
 #include <inttypes.h>
 #include <stdio.h>
 #include <stdlib.h>
@@ -51,22 +51,26 @@ static uint32_t within(uint64_t budget)
     return report.number;
 }
 
-/* Case a where landings are charged, home's first: the charges go onto the table's diagonal. Returns a status. */
-static int with_charges(const uint32_t charges[PLACES])
+/* Case a by some bound where landings are charged, home's first: the charges go onto the table's diagonal. Home's is
+ * paid only where the day ends there. Returns a status. */
+static int with_charges(const char *what, uint32_t bound, const uint32_t charges[PLACES])
 {
+    struct gondamuy_job job = case_a;
     uint32_t charged[NUMBERS], landings = 0;
 
+    job.bound = bound;
     memcpy(charged, table, sizeof charged);
     for (size_t i = 0; i < PLACES; i++) {
         charged[i * PLACES + i] = charges[i];
-        landings += charges[i];
+        if (i > 0 || !gondamuy_ends_away(bound))
+            landings += charges[i];
     }
-    struct gondamuy_report report = gondamuy_plan(case_a, charged, NUMBERS, NULL, 0, GONDAMUY_NO_BUDGET, pool, words);
+    struct gondamuy_report report = gondamuy_plan(job, charged, NUMBERS, NULL, 0, GONDAMUY_NO_BUDGET, pool, words);
     if (report.number != GONDAMUY_NOT_REFUSED)
         return refused(report.number);
     if (!gondamuy_is_finished(&report))
         return failed("stopped");
-    printf("with charges: cost %" PRIu32 ", %" PRIu32 " of it landings, ", report.cost, landings);
+    printf("%s: cost %" PRIu32 ", %" PRIu32 " of it landings, ", what, report.cost, landings);
     printf("order %d %d %d\n", report.order[0], report.order[1], report.order[2]);
     return EXIT_SUCCESS;
 }
@@ -99,5 +103,7 @@ int main(void)
         if (number != GONDAMUY_NOT_REFUSED)
             return refused(number);
     }
-    return with_charges(charges);
+    if (with_charges("with charges", GONDAMUY_BOUND_CLOSE, charges) != EXIT_SUCCESS)
+        return EXIT_FAILURE;
+    return with_charges("ending away", GONDAMUY_BOUND_CLOSE_AWAY, charges);
 }

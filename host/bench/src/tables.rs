@@ -1,6 +1,7 @@
 //! Tables to time on, by seed: uniform legs, and points in the plane with a
 //! wind that differs by place. They are without landing charges (request A.4),
-//! which the unverified code beside ours does not know.
+//! and the days end at home: the unverified code beside ours knows neither
+//! charges nor days that end away (request A.5).
 
 use gondamuy::PLACES;
 use samples::Random;

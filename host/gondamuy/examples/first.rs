@@ -1,6 +1,6 @@
-//! Reads a job file from standard input, prints the first order of its table, and plans it in a pool of few records:
-//! from no order, from the file's own, if it has one, and from the first order. A refusal ends it with a status other
-//! than 0.
+//! Reads a job file from standard input, prints the first order of its table by its bound, which says where the day
+//! ends, and plans it in a pool of few records: from no order, from the file's own, if it has one, and from the first
+//! order. A refusal ends it with a status other than 0.
 
 use std::error::Error;
 use std::io::{self, Read};
@@ -24,7 +24,7 @@ fn answer() -> Result<(), Box<dyn Error>> {
     let mut file = Vec::new();
     io::stdin().read_to_end(&mut file)?;
     let contents = read(&file)?;
-    let first = first_order(contents.job.n, contents.table())?;
+    let first = first_order(contents.job.n, contents.job.bound, contents.table())?;
     let stops: String = first.order().iter().map(|stop| format!(" {stop}")).collect();
     println!("first cost {}\nfirst order{stops}", first.cost);
     let mut pool = [Record::default(); RECORDS];

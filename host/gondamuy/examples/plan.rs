@@ -1,6 +1,7 @@
 //! Writes the job file of document 01's case a (three stops, least bound first, rule 1, close), reads it back and plans
 //! it; plans case b (earliest first, no rules, plain) within three budgets, of which the first two stop it; and plans
-//! case a with a landing charge at each place. A refusal ends it with a status other than 0.
+//! case a with a landing charge at each place, for a day that ends at home and for one that ends at the last stop. A
+//! refusal ends it with a status other than 0.
 
 use std::error::Error;
 use std::process::ExitCode;
@@ -38,7 +39,8 @@ fn answer() -> Result<(), Box<dyn Error>> {
     for budget in [0, 5, 10] {
         println!("budget {budget}: {}", within(budget, &mut pool)?);
     }
-    println!("with charges: {}", with_charges([5, 10, 20, 30], &mut pool)?);
+    println!("with charges: {}", with_charges(Bound::Close, &mut pool)?);
+    println!("ending away: {}", with_charges(Bound::CloseAway, &mut pool)?);
     Ok(())
 }
 
@@ -57,14 +59,16 @@ fn within(budget: u64, pool: &mut [u32]) -> Result<String, Refused> {
     Ok(words)
 }
 
-/// Case a where landings are charged, home's first: the charges go onto the table's diagonal.
-fn with_charges(charges: [u32; PLACES], pool: &mut [u32]) -> Result<String, Box<dyn Error>> {
+/// Case a by some bound where landings are charged, home's first: the charges go onto the table's diagonal. Home's is
+/// paid only where the day ends there.
+fn with_charges(bound: Bound, pool: &mut [u32]) -> Result<String, Box<dyn Error>> {
+    let charges = [5, 10, 20, 30];
     let mut table = TABLE;
     for (place, charge) in charges.into_iter().enumerate() {
         table[place * PLACES + place] = charge;
     }
-    let landings: u32 = charges.iter().sum();
-    let plan = plan(CASE_A, &table, &[], NO_BUDGET, pool)?.finished()?;
+    let landings: u32 = charges.iter().skip(usize::from(bound.ends_away())).sum();
+    let plan = plan(Job { bound, ..CASE_A }, &table, &[], NO_BUDGET, pool)?.finished()?;
     Ok(format!("cost {}, {landings} of it landings, order {}", plan.cost, flown(plan.order())))
 }
 

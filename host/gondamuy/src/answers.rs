@@ -188,8 +188,17 @@ impl FirstOrder {
     pub fn order(&self) -> &[u8] {
         flown(&self.order)
     }
+}
 
-    pub(crate) fn of(first: raw::FirstOrder) -> Result<FirstOrder, Refusal> {
+/// What an answer says; one with a number other than 0 is refused.
+///
+/// # Panics
+///
+/// Where there is no such number. No call answers that, but for one of another version of the library.
+impl TryFrom<raw::FirstOrder> for FirstOrder {
+    type Error = Refusal;
+
+    fn try_from(first: raw::FirstOrder) -> Result<FirstOrder, Refusal> {
         let raw::FirstOrder { number, cost, order } = first;
         Refusal::check(number)?;
         Ok(FirstOrder { cost, order })

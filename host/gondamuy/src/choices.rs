@@ -58,7 +58,8 @@ impl BitOr for Rules {
     }
 }
 
-/// How a node's bound, which none of its whole orders costs less than, is reckoned.
+/// How a node's bound, which none of its whole orders costs less than, is reckoned, and where the day ends (request
+/// A.5): at home, or at the last stop, where no leg home counts.
 #[derive(Clone, Copy, Debug, PartialEq, Eq, Hash)]
 #[repr(u32)]
 pub enum Bound {
@@ -66,6 +67,33 @@ pub enum Bound {
     Plain = 0,
     /// 1: what the flying so far costs, and the cheapest legs to come with their landings.
     Close = 1,
+    /// 2: plain for a day that ends at the last stop.
+    PlainAway = 2,
+    /// 3: close for such a day.
+    CloseAway = 3,
+}
+
+impl Bound {
+    /// Whether the day ends at the last stop. Costs of two searches over one table may be held against each other only
+    /// where this says the same of both bounds.
+    pub const fn ends_away(self) -> bool {
+        matches!(self, Bound::PlainAway | Bound::CloseAway)
+    }
+}
+
+/// The bound of a number; another number is refused as a call refuses it, by [`Refusal::Choice`].
+impl TryFrom<u32> for Bound {
+    type Error = Refusal;
+
+    fn try_from(number: u32) -> Result<Bound, Refusal> {
+        match number {
+            0 => Ok(Bound::Plain),
+            1 => Ok(Bound::Close),
+            2 => Ok(Bound::PlainAway),
+            3 => Ok(Bound::CloseAway),
+            _ => Err(Refusal::Choice),
+        }
+    }
 }
 
 /// The budget of a search that is not to be stopped: by a theorem no search makes so many branchings.
@@ -80,7 +108,7 @@ pub struct Job {
     pub selection: Selection,
     /// Which nodes are eliminated.
     pub rules: Rules,
-    /// How a node's bound is reckoned.
+    /// How a node's bound is reckoned, and where the day ends.
     pub bound: Bound,
 }
 
@@ -106,11 +134,6 @@ impl TryFrom<raw::Job> for Job {
             0..=15 => Rules(job.rules),
             _ => return Err(Refusal::Choice),
         };
-        let bound = match job.bound {
-            0 => Bound::Plain,
-            1 => Bound::Close,
-            _ => return Err(Refusal::Choice),
-        };
-        Ok(Job { n: job.n, selection, rules, bound })
+        Ok(Job { n: job.n, selection, rules, bound: job.bound.try_into()? })
     }
 }

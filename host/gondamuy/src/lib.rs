@@ -71,7 +71,8 @@ pub use sizes::*;
 ///
 /// Entry j of row i is the leg from place i to place j, at most [`DEAREST_LEG`]; entry i of row i is the landing charge
 /// of place i, home's too, at most [`DEAREST_CHARGE`] (request A.4). Flying from i to j costs the leg and the charge of
-/// j, so that an order costs its legs and every landing: one at each stop, and one at home at the end.
+/// j, so that an order costs its legs and every landing: one at each stop, and one at home at the end of the day, where
+/// it ends there.
 ///
 /// ```
 /// # use gondamuy::*;
@@ -80,6 +81,21 @@ pub use sizes::*;
 /// // 3 out and 5 back; a landing at home is charged 7, one at the stop 20.
 /// let plan = plan_records(job, &[7, 3, 5, 20], &[], NO_BUDGET, &mut pool)?.finished()?;
 /// assert_eq!(plan.cost, 3 + 20 + 5 + 7);
+/// # Ok::<(), Box<dyn std::error::Error>>(())
+/// ```
+///
+/// # A day that ends away
+///
+/// With [`Bound::PlainAway`] and [`Bound::CloseAway`] the day ends at the last stop (request A.5): neither the leg home
+/// nor the landing there is in a cost, a bound or a floor, and the order is cheapest without them. The table has them
+/// all the same, and a leg home that is too dear is refused as any other.
+///
+/// ```
+/// # use gondamuy::*;
+/// # let mut pool = [Record::default(); 1];
+/// let job = Job { n: 1, selection: Selection::Fifo, rules: Rules::NONE, bound: Bound::PlainAway };
+/// let plan = plan_records(job, &[7, 3, 5, 20], &[], NO_BUDGET, &mut pool)?.finished()?;
+/// assert_eq!(plan.cost, 3 + 20);
 /// # Ok::<(), Box<dyn std::error::Error>>(())
 /// ```
 ///
@@ -120,28 +136,31 @@ pub fn plan_records(
 
 /// Makes an order of the stops 1 to n to start from, where nobody has typed one (request A.1).
 ///
-/// `n` and `table` are as for [`plan`]. From each place on, home first, the nearest stop left is flown: the one that is
-/// cheapest to fly to and land at, the lowest number of several. Then two stops change places as long as that lowers
-/// the cost: of all pairs the one that lowers it most, of several the one that begins earliest in the order, then the
-/// one that ends earliest. The order costs no more than that of the nearest stops, and no exchange of two of its stops
-/// makes it cheaper; but another order may be cheaper still, and [`plan`] finds one that is cheapest. Refused by the
-/// lowest of 1 to 3 that applies.
+/// `n` and `table` are as for [`plan`], and `bound` is that of the job that is to start from the order: it says whether
+/// the leg home is in what an order costs ([`Bound::ends_away`], request A.5), and nothing else. From each place on,
+/// home first, the nearest stop left is flown: the one that is cheapest to fly to and land at, the lowest number of
+/// several. Then two stops change places as long as that lowers the cost: of all pairs the one that lowers it most, of
+/// several the one that begins earliest in the order, then the one that ends earliest. The order costs no more than
+/// that of the nearest stops, and no exchange of two of its stops makes it cheaper; but another order may be cheaper
+/// still, and [`plan`] finds one that is cheapest. Refused by the lowest of 1 to 3 that applies.
 ///
 /// [`plan`] does not make one by itself. As a starting order it is never refused by 5:
 ///
 /// ```
 /// # use gondamuy::*;
 /// let table = [0, 1, 2, 9, 1, 0, 1, 9, 9, 9, 0, 1, 5, 1, 9, 0];
-/// let first = first_order(3, &table)?;
-/// assert_eq!((first.cost, first.order()), (8, &[1, 2, 3][..]));
 /// let job = Job { n: 3, selection: Selection::Lifo, rules: Rules::UPPER_COST, bound: Bound::Close };
+/// let first = first_order(job.n, job.bound, &table)?;
+/// assert_eq!((first.cost, first.order()), (8, &[1, 2, 3][..]));
 /// let mut pool = vec![Record::default(); 100];
 /// let plan = plan_records(job, &table, first.order(), NO_BUDGET, &mut pool)?.finished()?;
 /// assert_eq!((plan.cost, plan.order()), (5, &[2, 3, 1][..]));
+/// // Where the day ends away it costs its legs up to stop 3.
+/// assert_eq!(first_order(3, Bound::CloseAway, &table)?.cost, 3);
 /// # Ok::<(), Box<dyn std::error::Error>>(())
 /// ```
-pub fn first_order(n: u32, table: &[u32]) -> Result<FirstOrder, Refusal> {
-    FirstOrder::of(raw::first_order(n, table))
+pub fn first_order(n: u32, bound: Bound, table: &[u32]) -> Result<FirstOrder, Refusal> {
+    raw::first_order(n, bound as u32, table).try_into()
 }
 
 /// Reads a job file. Refused by the first of 8, 1, 9, 3, 4 and 5 that applies.

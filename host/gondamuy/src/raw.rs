@@ -34,7 +34,7 @@ pub struct Job {
     pub selection: u32,
     /// A sum of 1, 2, 4 and 8: see [`Rules`](crate::Rules).
     pub rules: u32,
-    /// 0 or 1: see [`Bound`](crate::Bound).
+    /// 0 to 3: see [`Bound`](crate::Bound).
     pub bound: u32,
 }
 
@@ -78,7 +78,7 @@ impl Report {
     }
 }
 
-/// An order to start from (number 0) or a refusal (number 1 to 3) and zeros.
+/// An order to start from (number 0) or a refusal (number 1 to 4) and zeros.
 #[repr(C)]
 #[derive(Clone, Copy, Debug, Default, PartialEq, Eq)]
 pub struct FirstOrder {
@@ -176,10 +176,10 @@ pub fn words(pool: &mut [Record]) -> &mut [u32] {
     unsafe { slice::from_raw_parts_mut(pool.as_mut_ptr().cast(), pool.len() * RECORD_WORDS) }
 }
 
-/// Makes an order of the stops 1 to n to start from: [`crate::first_order`] with its number.
-pub fn first_order(n: u32, table: &[u32]) -> FirstOrder {
+/// Makes an order of the stops 1 to n to start from: [`crate::first_order`] of any numbers.
+pub fn first_order(n: u32, bound: u32, table: &[u32]) -> FirstOrder {
     // SAFETY: the slice is valid for its length.
-    unsafe { border::gondamuy_first_order(n, table.as_ptr(), table.len()) }
+    unsafe { border::gondamuy_first_order(n, bound, table.as_ptr(), table.len()) }
 }
 
 /// Reads a job file: [`crate::read`] with its number.

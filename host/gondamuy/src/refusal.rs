@@ -79,7 +79,7 @@ impl Refusal {
             Refusal::Stops => "the number of stops is 0 or above 16",
             Refusal::TableLength => "the table's length is not (n+1) squared",
             Refusal::Leg => "a leg is above 1,000,000 or a landing charge is above 100,000",
-            Refusal::Choice => "selection is above 3, rules above 15 or bound above 1",
+            Refusal::Choice => "selection is above 3, rules above 15 or bound above 3",
             Refusal::Start => "the starting order is neither empty nor a permutation of 1 to n",
             Refusal::Pool => "the pool has no whole record, or a part record",
             Refusal::Full => "the pool is full",

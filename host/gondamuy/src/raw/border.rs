@@ -14,7 +14,7 @@ extern "C" {
         pool_len: usize,
     ) -> Report;
 
-    pub fn gondamuy_first_order(n: u32, table: *const u32, table_len: usize) -> FirstOrder;
+    pub fn gondamuy_first_order(n: u32, bound: u32, table: *const u32, table_len: usize) -> FirstOrder;
 
     pub fn gondamuy_read(file: *const u8, file_len: usize) -> Reading;
 
