@@ -11,7 +11,7 @@
 //! charges 5 10 20 30      # home's landing charge, then each stop's; or none, or no such line
 //! selection LLB-FIFO      # or LLB-LIFO, FIFO, LIFO, or 0 to 3
 //! rules U/DBAS            # and AS/DB, BFS/DB, DB/AS, or none, or their sum
-//! bound close             # or plain, or 0 and 1
+//! bound close             # or plain, plain-away, close-away, or 0 to 3
 //! start 1 2 3             # or none, or no such line
 //! ```
 //!
@@ -47,9 +47,15 @@ impl Job {
         rows.enumerate().filter_map(|(place, row)| row.get(place).copied())
     }
 
-    /// What the day's landings cost, the same in every order: one at each stop, and one at home.
+    /// Whether the day ends at the last stop, so that no leg home counts (request A.5).
+    pub fn ends_away(&self) -> bool {
+        names::ends_away(self.bound)
+    }
+
+    /// What the day's landings cost, the same in every order: one at each stop, and one at home if the day ends there.
     pub fn landings(&self) -> u64 {
-        self.charges().map(u64::from).sum()
+        let home = usize::from(self.ends_away());
+        self.charges().skip(home).map(u64::from).sum()
     }
 }
 

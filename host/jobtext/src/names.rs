@@ -1,4 +1,4 @@
-//! Document 01's choices in words.
+//! The choices of document 01 and request A.5 in words.
 
 /// What stands in a job, its name, and what it means.
 pub type Named = (u32, &'static str, &'static str);
@@ -20,8 +20,21 @@ pub const RULES: [Named; 4] = [
 /// The sum of all rules.
 pub const ALL_RULES: u32 = 15;
 
-pub const BOUNDS: [Named; 2] =
-    [(0, "plain", "the path cost"), (1, "close", "the path cost, and the cheapest legs to come with their landings")];
+pub const BOUNDS: [Named; 4] = [
+    (0, "plain", "the path cost"),
+    (1, "close", "the path cost, and the cheapest legs to come with their landings"),
+    (2, "plain-away", "the path cost; the day ends at the last stop"),
+    (
+        3,
+        "close-away",
+        "the path cost, and the cheapest legs to come with their landings; the day ends at the last stop",
+    ),
+];
+
+/// Whether a bound is one for a day that ends at the last stop.
+pub fn ends_away(bound: u32) -> bool {
+    matches!(bound, 2 | 3)
+}
 
 /// The choice that a name among some stands for.
 pub fn by_name(named: &[Named], name: &str) -> Option<u32> {

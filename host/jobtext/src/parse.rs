@@ -41,7 +41,9 @@ pub struct Parsed {
     table: usize,
     rows: Vec<usize>,
     charges: usize,
-    choices: [usize; 3],
+    selection: usize,
+    rules: usize,
+    bound: usize,
     start: usize,
 }
 
@@ -51,9 +53,17 @@ impl Parsed {
         match number {
             1 => self.stops,
             3 => self.dear_row().unwrap_or(self.charges),
-            4 => self.choices[self.unknown_choice()],
+            4 => self.unknown_choice(),
             5 => self.start,
             _ => self.table,
+        }
+    }
+
+    /// The line that a refusal of its first order speaks of, which looks at no choice but the bound (request A.5).
+    pub fn line_of_first(&self, number: u32) -> usize {
+        match number {
+            4 => self.bound,
+            _ => self.line_of(number),
         }
     }
 
@@ -64,14 +74,15 @@ impl Parsed {
         rows.position(|(i, row)| dear(i, row)).map(|i| self.rows[i])
     }
 
+    /// The line of the first choice that is not known.
     fn unknown_choice(&self) -> usize {
         let Job { selection, rules, .. } = self.job;
         if selection as usize >= SELECTIONS.len() {
-            0
+            self.selection
         } else if rules > ALL_RULES {
-            1
+            self.rules
         } else {
-            2
+            self.bound
         }
     }
 }
@@ -142,7 +153,9 @@ impl Lines {
             table: rows.line,
             rows: rows.value.iter().map(|row| row.line).collect(),
             charges: charges.line,
-            choices: [selection.line, rules.line, bound.line],
+            selection: selection.line,
+            rules: rules.line,
+            bound: bound.line,
             start: start.line,
             job: Job {
                 n: stops.value,

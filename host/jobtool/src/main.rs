@@ -12,16 +12,17 @@
 //! jobtool refusal NUMBER          what a refusal's number says
 //! ```
 //!
-//! A starting order that stands in the text plays no part in `first`. The status is one of failure where something is
-//! refused or amiss; then all that is said goes to standard error. A search that its budget stopped is neither: it is
-//! told on standard output, by the word `stopped`.
+//! Of what stands in the text beside its table `first` looks at the bound alone, which says whether the day ends at home
+//! or at the last stop (request A.5). The status is one of failure where something is refused or amiss; then all that is
+//! said goes to standard error. A search that its budget stopped is neither: it is told on standard output, by the word
+//! `stopped`.
 
 mod plan;
 
 use std::io::{self, Read, Write};
 use std::process::ExitCode;
 
-use gondamuy::{first_order, raw, read, Contents, FirstOrder, Refusal, LONGEST_FILE};
+use gondamuy::{raw, read, Contents, FirstOrder, Refusal, LONGEST_FILE};
 use jobtext::{number, parse, text, Job, Parsed};
 
 const USAGE: &str = "\
@@ -30,6 +31,9 @@ jobtool show < FILE
 jobtool first [start] < TEXT
 jobtool plan [budget N] [records R] < TEXT-OR-FILE
 jobtool refusal NUMBER";
+
+/// Told of a day that ends away (request A.5), whose costs and floor have no flight home.
+const ENDS_AWAY: &str = "the day ends at the last stop, and no flight home is counted";
 
 fn main() -> ExitCode {
     let arguments: Vec<String> = std::env::args().skip(1).collect();
@@ -84,15 +88,19 @@ fn file_of(bytes: &[u8]) -> Result<Vec<u8>, String> {
 /// The job of a text, and its first order.
 fn with_first(bytes: &[u8]) -> Result<(Job, FirstOrder), String> {
     let parsed = parsed(bytes)?;
-    let first = first_order(parsed.job.n, &parsed.job.table).map_err(|refusal| at_line(&parsed, refusal))?;
+    let Job { n, bound, ref table, .. } = parsed.job;
+    let first = FirstOrder::try_from(raw::first_order(n, bound, table))
+        .map_err(|refusal| format!("line {}: {refusal}", parsed.line_of_first(refusal.number())))?;
     Ok((parsed.job, first))
 }
 
-/// Two lines. Each begins with `first`, so that nobody takes it for a line that `plan` prints.
+/// Two lines, and a third where the day ends away. Each begins with `first`, so that nobody takes it for a line that
+/// `plan` prints.
 fn first_of(bytes: &[u8]) -> Result<Vec<u8>, String> {
     let (job, first) = with_first(bytes)?;
     let cost = with_landings(first.cost, &job);
-    Ok(format!("first cost {cost}\nfirst order{}\n", flown(first.order())).into_bytes())
+    let end = if job.ends_away() { format!("first: {ENDS_AWAY}\n") } else { String::new() };
+    Ok(format!("first cost {cost}\nfirst order{}\n{end}", flown(first.order())).into_bytes())
 }
 
 /// What an order costs, and where landings are charged, what of it they are (request A.4).

@@ -1,10 +1,11 @@
 //! `jobtool plan`: what the planner makes of a job, in words. What a finished search says and what a stopped one says
-//! have no line in common but that of the counts, and a stopped one calls no order cheapest and no search finished.
+//! have no line in common but that of the counts and, in front of it, that of a day that ends away; and a stopped one
+//! calls no order cheapest and no search finished.
 
 use gondamuy::{plan_records, raw, read, Counts, Plan, Planned, Record, Refusal, Refused, Stopped, NO_BUDGET};
 use jobtext::{number, Job};
 
-use crate::{at_line, flown, job_of, parsed, with_landings};
+use crate::{at_line, flown, job_of, parsed, with_landings, ENDS_AWAY};
 
 /// As many records as the pool of the program `plan` has.
 const RECORDS: u64 = 2_000;
@@ -99,7 +100,7 @@ fn in_words(job: &Job, planned: &Planned) -> String {
 fn finished(job: &Job, plan: &Plan) -> String {
     let Plan { cost, counts: done, .. } = plan;
     let (cost, order) = (with_landings(*cost, job), flown(plan.order()));
-    format!("finished after {}\na cheapest order costs {cost}:{order}\n{}\n", branchings(done), counts(done))
+    format!("finished after {}\na cheapest order costs {cost}:{order}\n{}", branchings(done), closing(job, done))
 }
 
 fn stopped(job: &Job, answer: &Stopped) -> String {
@@ -113,10 +114,16 @@ fn stopped(job: &Job, answer: &Stopped) -> String {
         _ => "no order is known so far\n".to_string(),
     };
     format!(
-        "stopped after {}: the budget is spent\nno order costs less than {floor}\n{known}{}\n",
+        "stopped after {}: the budget is spent\nno order costs less than {floor}\n{known}{}",
         branchings(done),
-        counts(done)
+        closing(job, done)
     )
+}
+
+/// The last lines of every answer: where the day ends, if that is away, and the counts.
+fn closing(job: &Job, done: &Counts) -> String {
+    let end = if job.ends_away() { format!("{ENDS_AWAY}\n") } else { String::new() };
+    format!("{end}{}\n", counts(done))
 }
 
 fn branchings(counts: &Counts) -> String {
