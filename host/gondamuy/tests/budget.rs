@@ -1,16 +1,14 @@
 //! Best so far, and how far off (request A.3), through the wrapper: worked jobs, and what a stopped search may say,
-//! held to all n! orders: 6,000 jobs of 1 to 5 stops under all choices, half of them with landing charges (request
-//! A.4), within every budget from 0 to one more than they need.
+//! held to all n! orders: 6,000 jobs of 1 to 5 stops under all choices, half of them with landing charges (request A.4)
+//! and half of them for days that end away (request A.5), within every budget from 0 to one more than they need.
 
 mod common;
 
-use common::{choices, random_job};
+use common::{choices, least_cost, order_cost, random_job};
 use gondamuy::raw::{self, Report};
 use gondamuy::{plan, plan_records, words, Bound, Counts, Job, Plan, Planned, Record, Refusal, Rules, Selection};
 use gondamuy::{Stopped, NO_BUDGET, RECORD_WORDS};
 use samples::{Random, T};
-use witness::enumerate::least_cost;
-use witness::legs::Legs;
 
 const CASE_B: Job = Job { n: 3, selection: Selection::Fifo, rules: Rules::NONE, bound: Bound::Plain };
 
@@ -151,10 +149,9 @@ struct Seen {
 
 /// The known order is one and costs no less than the cheapest, and it is off by no more than it costs above the floor.
 fn hold_known(text: &jobtext::Job, answer: &Stopped, least: u32, seen: &mut Seen) {
-    let legs = Legs::new(text.n as usize, &text.table);
     let known = answer.known.unwrap();
-    let stops: Vec<usize> = known.order().iter().map(|&stop| stop.into()).collect();
-    assert!(is_order(known.order(), text.n) && legs.order_cost(&stops) == known.cost, "{answer:?} {text:?}");
+    assert!(is_order(known.order(), text.n), "{answer:?} {text:?}");
+    assert_eq!(order_cost(text, known.order()), known.cost, "{answer:?} {text:?}");
     assert!(least <= known.cost && known.cost - least <= answer.far_off().unwrap(), "{answer:?} {text:?}");
     seen.off += (known.cost > least) as u32;
     seen.close += (known.cost == answer.floor) as u32;
@@ -191,7 +188,7 @@ fn held_to_all_orders() {
         let most = random.pick(&[0, 1, 2, 9, 1_000, 1_000_000]);
         let text = random_job(&mut random, n, most);
         let job = Job::try_from(choices(&text)).unwrap();
-        let least = least_cost(&Legs::new(n, &text.table));
+        let least = least_cost(&text);
         let mut pool = random.words(400 * RECORD_WORDS);
         let Told { stopped, plan: found } = within_each_budget(job, &text.table, &text.start, &mut pool);
         hold_stopped(&text, &stopped, least, &mut seen);

@@ -1,5 +1,8 @@
 //! Landing charges (request A.4) through the wrapper: days worked by hand, and where check 3 comes among the others.
 
+mod common;
+
+use common::numbers;
 use gondamuy::raw::{self, Job};
 use gondamuy::{first_order, plan_records, read, words, write, Bound, Plan, Planned, Record, Refusal};
 use gondamuy::{Rules, Selection, DEAREST_CHARGE, DEAREST_LEG, LONGEST_FILE, NO_BUDGET};
@@ -26,7 +29,7 @@ fn one_stop() {
         assert_eq!((plan.cost, plan.order()), (35, &[1][..]));
         assert_eq!(pool[0], Record { size: 1, set: 1, path: 23, bound: 35, first: 0, second: 0 });
     }
-    assert_eq!(first_order(1, &table).unwrap().cost, 35);
+    assert_eq!(first_order(1, Bound::Plain, &table).unwrap().cost, 35);
 }
 
 /// The path costs of the nodes 1, 2 and 3 have their landings and not home's, which a whole order's bound has.
@@ -62,7 +65,7 @@ fn close_bounds_pay_every_landing() {
 fn the_nearest_stop_is_landed_at() {
     let legs = [0, 1, 2, 2, 0, 2, 2, 1, 0];
     for (charges, order) in [([0, 0, 0], [1, 2]), ([9, 1, 0], [1, 2]), ([0, 2, 0], [2, 1]), ([9, 3, 1], [2, 1])] {
-        let first = first_order(2, &charged(&legs, &charges)).unwrap();
+        let first = first_order(2, Bound::Plain, &charged(&legs, &charges)).unwrap();
         assert_eq!((first.cost, first.order()), (5 + charges.iter().sum::<u32>(), &order[..]), "{charges:?}");
     }
 }
@@ -72,7 +75,7 @@ fn the_nearest_stop_is_landed_at() {
 #[test]
 fn the_dearest_day() {
     let table = charged(&level(16, DEAREST_LEG), &[DEAREST_CHARGE; 17]);
-    assert_eq!(first_order(16, &table).unwrap().cost, 18_700_000);
+    assert_eq!(first_order(16, Bound::Close, &table).unwrap().cost, 18_700_000);
     let job = gondamuy::Job { n: 16, selection: Selection::LeastBoundLatest, bound: Bound::Close, ..FIFO_PLAIN };
     let mut pool = [Record::default(); 121];
     let plan = finished(job, &table, &mut pool);
@@ -81,18 +84,6 @@ fn the_dearest_day() {
     let Planned::Stopped(after) = plan_records(job, &table, &[], 16, &mut pool).unwrap() else { panic!() };
     assert_eq!((after.known.unwrap().cost, after.floor), (18_700_000, 1_100_000));
     assert_eq!(pool[120].path, 17_600_000);
-}
-
-/// What each call answers of a job of three stops: `plan`, `first_order`, `write`, and `read` of its file.
-fn numbers(job: Job, table: &[u32], start: &[u8]) -> [u32; 4] {
-    let mut file: Vec<u8> = table.iter().flat_map(|number| number.to_le_bytes()).collect();
-    let place = file.len() as u32;
-    file.extend(start);
-    file.extend([0u32, place].iter().flat_map(|place| place.to_le_bytes()));
-    file.extend([job.n, start.len() as u32, job.selection, job.rules, job.bound].map(|x| x as u8));
-    let planned = raw::plan(job, table, start, NO_BUDGET, &mut [0; 600]).number;
-    let written = raw::write(job, table, start, &mut [0; LONGEST_FILE]).number;
-    [planned, raw::first_order(job.n, table).number, written, raw::read(&file).number]
 }
 
 const CASE_A: Job = Job { n: 3, selection: 0, rules: 1, bound: 1 };
@@ -125,9 +116,10 @@ fn where_check_3_comes() {
         let dear = charged(&T, &if home { [100_001, 0, 0, 0] } else { [0, 0, 100_001, 0] });
         assert_eq!(numbers(Job { n: 17, ..CASE_A }, &dear, &[]), [1; 4]);
         assert_eq!(numbers(CASE_A, &dear[..15], &[]), [2, 2, 2, 9]);
-        let wrong = Job { n: 3, selection: 4, rules: 16, bound: 2 };
+        let wrong = Job { n: 3, selection: 4, rules: 16, bound: 4 };
         assert_eq!(numbers(wrong, &dear, &[1, 1, 3]), [3; 4]);
-        assert_eq!(numbers(wrong, &T, &[1, 1, 3]), [4, 0, 4, 4]);
+        assert_eq!(numbers(wrong, &T, &[1, 1, 3]), [4; 4]);
+        assert_eq!(numbers(Job { bound: 3, ..wrong }, &T, &[1, 1, 3]), [4, 0, 4, 4]);
         assert_eq!(numbers(CASE_A, &dear, &[1, 1, 3]), [3; 4]);
         for words in [0, 5] {
             let mut pool = [7; 5];

@@ -1,5 +1,5 @@
-//! What landing charges change (request A.4), over random days of 1 to 6 stops under all choices. The same library
-//! plans each of them twice:
+//! What landing charges change (request A.4), over random days of 1 to 6 stops under all choices, half of which end away
+//! (request A.5), where home's charge is not paid. The same library plans each of them twice:
 //!
 //! - with its charges and with them put into the legs: the same, to the last word of the pool, for 20,000 days, within
 //!   a budget or none, and for their first orders;
@@ -9,7 +9,7 @@
 
 mod common;
 
-use common::{choices, random_job};
+use common::{choices, order_cost, random_job};
 use gondamuy::raw::{first_order, plan, Report};
 use gondamuy::{NO_BUDGET, RECORD_WORDS};
 use jobtext::Job;
@@ -35,8 +35,10 @@ fn planned(job: &Job, budget: u64, records: usize) -> (Report, Vec<u32>) {
     (report, pool)
 }
 
+/// What every order pays for landings: one at each stop, and one at home if the day ends there.
 fn landings(job: &Job) -> u32 {
-    job.charges().sum()
+    let home = usize::from(job.bound >= 2);
+    job.charges().skip(home).sum()
 }
 
 #[test]
@@ -52,17 +54,17 @@ fn charges_put_into_the_legs() {
         let (report, pool) = planned(&job, budget, records);
         let in_the_legs = over(folded, &job);
         assert_eq!((report, pool), planned(&in_the_legs, budget, records), "{job:?}");
-        assert_eq!(first_order(job.n, &job.table), first_order(job.n, &in_the_legs.table), "{job:?}");
+        let first = |job: &Job| first_order(job.n, job.bound, &job.table);
+        assert_eq!(first(&job), first(&in_the_legs), "{job:?}");
         seen[report.number as usize] += 1;
         stopped += report.mark;
     }
     assert!(seen[0] > 5_000 && seen[7] > 2_000 && stopped > 2_000, "{seen:?} {stopped}");
 }
 
-/// The legs of an order, from home to home.
+/// The legs of an order, as the day without charges has them.
 fn legs(job: &Job, order: &[u8]) -> u32 {
-    let places: Vec<usize> = [&[0], order, &[0]].concat().into_iter().map(usize::from).collect();
-    places.windows(2).map(|pair| job.table[pair[0] * (job.n as usize + 1) + pair[1]]).sum()
+    order_cost(&over(uncharged, job), order)
 }
 
 #[test]
@@ -76,7 +78,7 @@ fn every_landing_is_paid_once() {
         assert!(with.is_finished() && without.is_finished(), "{job:?}");
         assert_eq!(with.cost, without.cost + landings(&job), "{job:?}");
         assert_eq!(with.cost, legs(&job, &with.order[..job.n as usize]) + landings(&job), "{job:?}");
-        let first = first_order(job.n, &job.table);
+        let first = first_order(job.n, job.bound, &job.table);
         assert_eq!(first.cost, legs(&job, &first.order[..job.n as usize]) + landings(&job), "{job:?}");
     }
 }
@@ -95,7 +97,8 @@ fn close_searches_take_the_same_steps() {
     let mut seen = [0; 8];
     for _ in 0..10_000 {
         let most = random.pick(&[0, 1, 9, 1_000, 1_000_000]);
-        let job = Job { bound: 1, ..charged_job(&mut random, most) };
+        let mut job = charged_job(&mut random, most);
+        job.bound |= 1;
         let budget = random.pick(&[0, 3, 20, NO_BUDGET]);
         let records = random.pick(&[1, 9, 2_100]);
         let (with, raised_pool) = planned(&job, budget, records);

@@ -1,8 +1,8 @@
 //! The proved planner against the second planner: every field of the report and every word of the pool, over random
-//! jobs of many kinds, half of them with landing charges (request A.4), without a starting order and with one, at times
-//! the first order of request A.1. Most are planned without a budget and, in the same pool, within one (request A.3),
-//! and then the two reports are held to each other as well; `large_jobs_within_a_budget` has those that are planned
-//! within one alone.
+//! jobs of many kinds, half of them with landing charges (request A.4) and half of them for days that end away (request
+//! A.5), without a starting order and with one, at times the first order of request A.1. Most are planned without a
+//! budget and, in the same pool, within one (request A.3), and then the two reports are held to each other as well;
+//! `large_jobs_within_a_budget` has those that are planned within one alone.
 
 mod common;
 
@@ -120,7 +120,7 @@ fn up_to_sixteen_stops() {
         for round in 0..6 {
             let most = random.pick(&[1, 9, 1_000, 1_000_000]);
             let mut job = random_job(&mut random, n, most);
-            job.bound = 1;
+            job.bound |= 1;
             // Small pools: such jobs end soon, with an order or full. Depth first
             // they need not, where the pool holds all that waits on the way down,
             // unless the branched nodes are kept too.
@@ -161,8 +161,8 @@ fn pilots_of_twelve_stops() {
     let mut random = Random(3);
     for _ in 0..6 {
         let mut job = random_job(&mut random, 12, 1_000);
-        (job.selection, job.rules, job.bound) = (3, 1, 1);
-        for start in [nearest(12, &job.table), first_stops(12, &job.table)] {
+        (job.selection, job.rules, job.bound) = (3, 1, job.bound | 1);
+        for start in [nearest(12, &job.table), first_stops(12, job.bound, &job.table)] {
             job.start = start;
             let found = both(&mut random, &job, 120 * RECORD_WORDS);
             assert!(found.without.is_finished(), "{job:?}");
@@ -204,7 +204,7 @@ fn every_refusal() {
             match random.below(3) {
                 0 => job.selection = random.pick(&[4, u32::MAX]),
                 1 => job.rules = random.pick(&[16, u32::MAX]),
-                _ => job.bound = random.pick(&[2, u32::MAX]),
+                _ => job.bound = random.pick(&[4, 5, u32::MAX]),
             }
         }
         if faults & 16 != 0 {

@@ -2,8 +2,8 @@
 //! order:
 //!
 //! - 60,000 tables of 1 to 6 stops and 20,000 of 7 to 16, half of them with landing charges (request A.4), most of them
-//!   with so few values that ties are common, and the dearest table;
-//! - 128,000 calls with causes 1 to 3, each in half of them and in every mixture, where the number is known beforehand;
+//!   with so few values that ties are common, and the dearest table; each with every bound (request A.5);
+//! - 128,000 calls with causes 1 to 4, each in half of them and in every mixture, where the number is known beforehand;
 //! - 20,000 plans of 1 to 6 stops under all choices and 100 of 7 to 16 in the pilot's way, each with and without it.
 
 mod common;
@@ -16,12 +16,20 @@ use gondamuy::{NO_BUDGET, RECORD_WORDS};
 use samples::{level, nearest, Random};
 
 /// Holds both to each other. Returns what the proved one answers.
-fn compare(n: u32, table: &[u32]) -> FirstOrder {
-    let ours = first_order(n, table);
-    let theirs = witness::first_order(n.into(), table);
-    assert_eq!((ours.number, ours.cost), (theirs.number, theirs.cost), "{n} {table:?}");
-    assert_eq!(ours.order.map(u32::from), theirs.order, "{n} {table:?}");
+fn compare(n: u32, bound: u32, table: &[u32]) -> FirstOrder {
+    let ours = first_order(n, bound, table);
+    let theirs = witness::first_order(n.into(), bound.into(), table);
+    assert_eq!((ours.number, ours.cost), (theirs.number, theirs.cost), "{n} {bound} {table:?}");
+    assert_eq!(ours.order.map(u32::from), theirs.order, "{n} {bound} {table:?}");
     ours
+}
+
+/// For a day that ends at home and for one that ends away. Of a bound nothing else is looked at: plain and close of
+/// either day have the same answer.
+fn both_ends(n: u32, table: &[u32]) -> [FirstOrder; 2] {
+    let [plain, close, plain_away, close_away] = [0, 1, 2, 3].map(|bound| compare(n, bound, table));
+    assert_eq!((plain, plain_away), (close, close_away), "{n} {table:?}");
+    [plain, plain_away]
 }
 
 /// Legs of few values, but for the last two kinds, and in half of the tables charges.
@@ -33,40 +41,50 @@ fn any_table(random: &mut Random, n: usize) -> Vec<u32> {
     random.maybe_charged(n, table)
 }
 
-/// Compares over so many tables of some sizes, and counts those where stops of the nearest-stop order were exchanged.
-fn exchanged(random: &mut Random, tables: usize, sizes: RangeInclusive<usize>) -> usize {
-    let mut count = 0;
+/// In how many tables stops of the nearest-stop order were exchanged, for a day that ends at home and for one that ends
+/// away, and in how many the two orders differ.
+#[derive(Debug, Default)]
+struct Seen {
+    exchanged: [usize; 2],
+    differ: usize,
+}
+
+/// Compares over so many tables of some sizes.
+fn compared(random: &mut Random, tables: usize, sizes: RangeInclusive<usize>) -> Seen {
+    let mut seen = Seen::default();
     for n in sizes.cycle().take(tables) {
         let table = any_table(random, n);
-        let first = compare(n as u32, &table);
-        assert_eq!(first.number, 0);
-        count += (first.order[..n] != nearest(n, &table)) as usize;
+        let firsts = both_ends(n as u32, &table);
+        for (first, exchanged) in firsts.iter().zip(&mut seen.exchanged) {
+            assert_eq!(first.number, 0);
+            *exchanged += (first.order[..n] != nearest(n, &table)) as usize;
+        }
+        seen.differ += (firsts[0].order != firsts[1].order) as usize;
     }
-    count
+    seen
 }
 
 #[test]
 fn small_tables() {
-    let count = exchanged(&mut Random(81), 60_000, 1..=6);
-    assert!(count > 15_000, "{count}");
+    let seen = compared(&mut Random(81), 60_000, 1..=6);
+    assert!(seen.exchanged.iter().all(|&count| count > 15_000) && seen.differ > 5_000, "{seen:?}");
 }
 
 #[test]
 fn up_to_sixteen_stops() {
-    let count = exchanged(&mut Random(82), 20_000, 7..=16);
-    assert!(count > 10_000, "{count}");
+    let seen = compared(&mut Random(82), 20_000, 7..=16);
+    assert!(seen.exchanged.iter().all(|&count| count > 10_000) && seen.differ > 5_000, "{seen:?}");
 }
 
 #[test]
 fn dearest_legs_and_charges() {
     let mut table = level(16, 1_000_000);
-    let first = compare(16, &table);
-    assert_eq!((first.number, first.cost), (0, 17_000_000));
+    let costs = |table: &[u32]| both_ends(16, table).map(|first| (first.number, first.cost));
+    assert_eq!(costs(&table), [(0, 17_000_000), (0, 16_000_000)]);
     for place in 0..=16 {
         table[place * 18] = 100_000;
     }
-    let first = compare(16, &table);
-    assert_eq!((first.number, first.cost), (0, 18_700_000));
+    assert_eq!(costs(&table), [(0, 18_700_000), (0, 17_600_000)]);
 }
 
 #[test]
@@ -74,7 +92,10 @@ fn every_mixture_of_causes() {
     let mut random = Random(83);
     for round in 0..128_000 {
         let mut job = any_job(&mut random);
-        let causes = some_of(&[1, 2, 3], round);
+        let causes = some_of(&[1, 2, 3, 4], round);
+        if causes.contains(&4) {
+            job.bound = random.pick(&[4, 5, 6, 7, 256, 1 << 31, u32::MAX]);
+        }
         if causes.contains(&3) {
             spoil_table(&mut random, &mut job);
         }
@@ -84,7 +105,7 @@ fn every_mixture_of_causes() {
         if causes.contains(&1) {
             spoil_stops(&mut random, &mut job);
         }
-        let first = compare(job.n, &job.table);
+        let first = compare(job.n, job.bound, &job.table);
         assert_eq!(first.number, causes.first().copied().unwrap_or(0), "{causes:?} {job:?}");
         if first.number != 0 {
             assert_eq!(first, FirstOrder { number: first.number, ..FirstOrder::default() });
@@ -95,7 +116,7 @@ fn every_mixture_of_causes() {
 /// Plans with and without it, in a pool and within a budget that are large enough without: the same cost, no more than
 /// the order's own, and no more work.
 fn started(job: Job, table: &[u32], records: usize) -> (Report, Report) {
-    let first = first_order(job.n, table);
+    let first = first_order(job.n, job.bound, table);
     let mut pool = vec![0; records * RECORD_WORDS];
     let without = plan(job, table, &[], NO_BUDGET, &mut pool);
     let with = plan(job, table, &first.order[..job.n as usize], without.branched, &mut pool);
@@ -111,7 +132,7 @@ fn started(job: Job, table: &[u32], records: usize) -> (Report, Report) {
 fn as_a_starting_order() {
     let mut random = Random(84);
     for _ in 0..20_000 {
-        let choices = [1 + random.below(6), random.below(4), random.below(16), random.below(2)];
+        let choices = [1 + random.below(6), random.below(4), random.below(16), random.below(4)];
         let [n, selection, rules, bound] = choices.map(|k| k as u32);
         started(Job { n, selection, rules, bound }, &any_table(&mut random, n as usize), 2_000);
     }
@@ -123,7 +144,7 @@ fn as_a_pilots_starting_order() {
     let mut fewer = 0;
     for n in 7..=16 {
         for _ in 0..10 {
-            let job = Job { n, selection: 3, rules: 1, bound: 1 };
+            let job = Job { n, selection: 3, rules: 1, bound: random.pick(&[1, 3]) };
             let table = random.table(n as usize, 1, 1_000);
             let table = random.maybe_charged(n as usize, table);
             let (with, without) = started(job, &table, 150);

@@ -49,6 +49,8 @@ fn the_same_numbers() {
         ("RULES_ALL", rules(Rules::ALL)),
         ("BOUND_PLAIN", Bound::Plain as u32),
         ("BOUND_CLOSE", Bound::Close as u32),
+        ("BOUND_PLAIN_AWAY", Bound::PlainAway as u32),
+        ("BOUND_CLOSE_AWAY", Bound::CloseAway as u32),
         ("NOT_STOPPED", raw::NOT_STOPPED),
         ("STOPPED", raw::STOPPED),
         ("NOT_REFUSED", 0),

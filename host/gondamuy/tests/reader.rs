@@ -1,6 +1,7 @@
 //! The proved reader against the second reader, every field and every place
 //! of what it hands back, over 337,000 files. All but the random bytes are made
-//! from jobs, half of which have landing charges (request A.4):
+//! from jobs, half of which have landing charges (request A.4) and half of
+//! which end away (request A.5):
 //!
 //! - 16,000 valid ones, 1 to 16 stops, half of them with a starting order;
 //! - 29,600 cut, at every length and from either end;
@@ -16,7 +17,7 @@
 
 mod common;
 
-use common::{any_job, choices, each_size, some_of, spoil_choice, spoil_start, spoil_table};
+use common::{any_job, bytes, choices, each_size, some_of, spoil_choice, spoil_start, spoil_table};
 use gondamuy::raw::{self, read, write, Reading, Written};
 use gondamuy::{LONGEST_FILE, ORDER_PLACES, TABLE_NUMBERS};
 use jobtext::Job;
@@ -52,18 +53,6 @@ fn compare(file: &[u8]) -> u32 {
         assert_eq!(again, file);
     }
     reading.number
-}
-
-/// The bytes of a job's file, whatever the job holds.
-fn bytes(job: &Job) -> Vec<u8> {
-    let mut file: Vec<u8> = job.table.iter().flat_map(|leg| leg.to_le_bytes()).collect();
-    let place = file.len() as u32;
-    file.extend(&job.start);
-    file.extend([0; 4]);
-    file.extend(place.to_le_bytes());
-    let length = job.start.len() as u32;
-    file.extend([job.n, length, job.selection, job.rules, job.bound].map(|x| x as u8));
-    file
 }
 
 #[test]
@@ -124,7 +113,7 @@ fn each_trailer_byte_changed() {
     // The choices alone can change to others that are known.
     assert_eq!(
         seen,
-        [32 * (3 + 15 + 1), 32 * 240, 0, 0, 32 * (252 + 240 + 254), 0, 0, 0, 0, 32 * (8 * 255 + 15 + 255)]
+        [32 * (3 + 15 + 3), 32 * 240, 0, 0, 32 * (252 + 240 + 252), 0, 0, 0, 0, 32 * (8 * 255 + 15 + 255)]
     );
 }
 

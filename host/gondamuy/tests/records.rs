@@ -48,7 +48,7 @@ fn the_same_plan_over_both_views() {
             table.pop();
         }
         let stops = random.pick(&[n as u32, n as u32, n as u32, n as u32, n as u32, n as u32, 0, 17]);
-        let choices = [random.below(4), random.below(16), random.below(2) + random.below(20) / 19];
+        let choices = [random.below(4), random.below(16), random.below(4) + random.below(20) / 19 * 4];
         let [selection, rules, bound] = choices.map(|k| k as u32);
         let order = random.order(n);
         let start = random.pick(&[Vec::new(), order, vec![1, 1]]);

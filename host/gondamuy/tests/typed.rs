@@ -4,7 +4,7 @@ mod common;
 
 use common::{any_job, choices, some_budget, spoil_choice, spoil_length, spoil_start, spoil_stops, spoil_table};
 use gondamuy::{first_order, plan, plan_records, raw, read, words, write};
-use gondamuy::{Counts, Job, Planned, Record, Refusal, Refused, LONGEST_FILE, NO_BUDGET};
+use gondamuy::{Bound, Counts, Job, Planned, Record, Refusal, Refused, LONGEST_FILE, NO_BUDGET};
 use samples::Random;
 
 #[test]
@@ -12,19 +12,23 @@ fn every_choice_has_a_type() {
     let mut known = 0;
     for selection in [0, 1, 2, 3, 4, u32::MAX] {
         for rules in (0..=16).chain([u32::MAX]) {
-            for bound in [0, 1, 2, u32::MAX] {
+            for bound in [0, 1, 2, 3, 4, u32::MAX] {
                 let numbers = raw::Job { n: 5, selection, rules, bound };
                 match Job::try_from(numbers) {
                     Ok(job) => assert_eq!(raw::Job::from(job), numbers),
                     Err(refusal) => assert_eq!(refusal, Refusal::Choice),
                 }
-                let inside = selection < 4 && rules < 16 && bound < 2;
+                let inside = selection < 4 && rules < 16 && bound < 4;
                 assert_eq!(Job::try_from(numbers).is_ok(), inside);
                 known += inside as u32;
             }
         }
     }
-    assert_eq!(known, 128);
+    assert_eq!(known, 256);
+    let bounds = [Bound::Plain, Bound::Close, Bound::PlainAway, Bound::CloseAway];
+    assert_eq!([0, 1, 2, 3].map(|number| Bound::try_from(number).unwrap()), bounds);
+    assert_eq!([4, u32::MAX].map(Bound::try_from), [Err(Refusal::Choice); 2]);
+    assert_eq!(bounds.map(Bound::ends_away), [false, false, true, true]);
 }
 
 #[test]
@@ -123,8 +127,8 @@ fn the_same_first_orders() {
             2 => spoil_table(&mut random, &mut job),
             _ => {}
         }
-        let plain = raw::first_order(job.n, &job.table);
-        match first_order(job.n, &job.table) {
+        let plain = raw::first_order(job.n, job.bound, &job.table);
+        match first_order(job.n, job.bound.try_into().unwrap(), &job.table) {
             Ok(first) => {
                 assert_eq!((plain.number, first.cost), (0, plain.cost));
                 assert_eq!(first.order(), &plain.order[..job.n as usize]);

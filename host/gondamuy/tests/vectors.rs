@@ -1,4 +1,4 @@
-//! The worked calls of host/vectors, for document 01 with requests A.1 to A.4: every field of the answers and, by its
+//! The worked calls of host/vectors, for document 01 with requests A.1 to A.5: every field of the answers and, by its
 //! hash, every word of the pool. `.ci/jobs` holds the program `plan` to the files.
 
 use gondamuy::raw::{first_order, plan, read, FirstOrder, Job, Report};
@@ -10,7 +10,7 @@ use vectors::{fnv1a, Run};
 fn worked_first_orders() {
     for call in vectors::first() {
         let told = FirstOrder { number: call.number, cost: call.cost, order: call.order };
-        assert_eq!(first_order(call.n, &call.table), told, "{call:?}");
+        assert_eq!(first_order(call.n, call.bound, &call.table), told, "{call:?}");
     }
 }
 

@@ -46,9 +46,12 @@ fn names_numbers_and_comments() {
     {
         assert_eq!(parsed(&with(8, &format!("rules {says}"))), Job { rules, ..job() });
     }
-    for (bound, says) in [(0, "plain"), (1, "close"), (0, "0"), (1, "1"), (7, "7")] {
-        assert_eq!(parsed(&with(9, &format!("bound {says}"))), Job { bound, ..job() });
+    for (number, name) in ["plain", "close", "plain-away", "close-away"].iter().enumerate() {
+        let bound = number as u32;
+        assert_eq!(parsed(&with(9, &format!("bound {name}"))), Job { bound, ..job() });
+        assert_eq!(parsed(&with(9, &format!("bound {number}"))), Job { bound, ..job() });
     }
+    assert_eq!(parsed(&with(9, "bound 7")), Job { bound: 7, ..job() });
     for (start, says) in
         [(vec![2, 1], "start 2 1"), (vec![], "start none"), (vec![], "start"), (vec![0, 255], "start 0 255")]
     {
@@ -59,7 +62,7 @@ fn names_numbers_and_comments() {
 #[test]
 fn text_of_a_job_says_the_job() {
     for rules in 0..17 {
-        for (selection, bound) in [(0, 0), (1, 1), (2, 0), (3, 1), (4, 2)] {
+        for (selection, bound) in [(0, 0), (1, 1), (2, 2), (3, 3), (4, 4)] {
             for start in [vec![], vec![2, 1]] {
                 let job = Job { selection, rules, bound, start, ..job() };
                 assert_eq!(parsed(&text(&job)), job);
@@ -96,6 +99,11 @@ fn faults_name_their_lines() {
     assert_eq!(fault(&with(8, "rules AS/DB AS/DB")), "line 8: `AS/DB` stands twice");
     assert_eq!(fault(&with(8, "rules")), "line 8: none, some of U/DBAS, AS/DB, BFS/DB, DB/AS, or a number");
     assert_eq!(fault(&with(9, "")), "line 8: the text ends without `bound`");
+    assert_eq!(
+        fault(&with(9, "bound away")),
+        "line 9: `away` is none of plain, close, plain-away, close-away, and no number"
+    );
+    assert_eq!(fault(&with(9, "bound plain away")), "line 9: one of plain, close, plain-away, close-away, or a number");
     assert_eq!(fault(&with(1, "start 1 256")), "line 1: `256` is no number of a stop");
 }
 

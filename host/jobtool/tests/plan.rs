@@ -2,7 +2,7 @@
 
 mod common;
 
-use common::{bytes, landings_of, run, string, NAMES};
+use common::{bytes, ends_away, landings_of, run, string, ENDS_AWAY, NAMES};
 use jobtext::{parse, Job};
 use witness::job_file::Contents;
 use witness::{Report, Request, LARGEST_BUDGET, WORDS};
@@ -156,7 +156,9 @@ fn samples() {
             let counts = format!(
                 "branched {branched}, generated {generated}, eliminated {eliminated}, active {active}, most {most}\n"
             );
-            assert!(text.ends_with(&counts), "{name} {budget}: {text}");
+            let end = if ends_away(&job) { ENDS_AWAY } else { "" };
+            assert!(text.ends_with(&format!("\n{end}{counts}")), "{name} {budget}: {text}");
+            assert_eq!(text.contains(ENDS_AWAY), !end.is_empty(), "{name} {budget}: {text}");
         }
     }
 }

@@ -70,5 +70,6 @@ fn choices_of_each() {
     assert_eq!(choices("office"), (12, 0, 15, 1, 0));
     assert_eq!(choices("office-full"), (16, 0, 15, 1, 0));
     assert_eq!(choices("strips"), (11, 3, 1, 1, 11));
+    assert_eq!(choices("camps"), (10, 3, 1, 3, 10));
     assert_eq!(string("office-full", "expected"), "refused 7\n");
 }

@@ -2,7 +2,7 @@
 
 mod common;
 
-use common::{landings_of, run, string, NAMES};
+use common::{ends_away, landings_of, run, string, ENDS_AWAY, NAMES};
 use jobtext::{parse, Job};
 
 const TEXT: &str = "stops 2\ntable\n0 3 4\n5 0 6\n7 8 0\nselection LIFO\nrules U/DBAS DB/AS\nbound close\nstart 2 1\n";
@@ -33,7 +33,7 @@ fn refused_jobs() {
     assert!(refused("7 8 0", "7 1000001 0").starts_with("line 5: refused 3:"));
     assert!(refused("LIFO", "4").starts_with("line 6: refused 4:"));
     assert!(refused("U/DBAS DB/AS", "16").starts_with("line 7: refused 4:"));
-    assert!(refused("close", "2").starts_with("line 8: refused 4:"));
+    assert!(refused("close", "4").starts_with("line 8: refused 4:"));
     assert!(refused("start 2 1", "start 2 2").starts_with("line 9: refused 5:"));
     let none = "stops 0\ntable\n0\nselection 0\nrules 0\nbound 0\n";
     assert!(write(none).unwrap_err().starts_with("line 1: refused 1:"));
@@ -51,15 +51,16 @@ fn first_order_of_a_text() {
     assert_eq!(first(&[], TEXT).unwrap(), told);
     let started = first(&["start"], TEXT).unwrap();
     assert_eq!(write(&started), write(&TEXT.replace("start 2 1", "start 1 2")));
-    // Neither the text's own starting order nor its choices are looked at.
-    for (old, new) in [("start 2 1", "start 2 2"), ("start 2 1", ""), ("LIFO", "4")] {
+    // Neither the text's own starting order nor its choices are looked at, but for the bound.
+    for (old, new) in [("start 2 1", "start 2 2"), ("start 2 1", ""), ("LIFO", "4"), ("U/DBAS DB/AS", "16")] {
         let other = TEXT.replace(old, new);
         assert_eq!(first(&[], &other).unwrap(), told);
         assert!(first(&["start"], &other).unwrap().ends_with("\nstart 1 2\n"));
     }
 }
 
-/// Refused by 1 and 3 at the line that they speak of. A text's table always fits its stops, so that 2 never comes.
+/// Refused by 1, 3 and 4 at the line that they speak of, where 4 speaks of the bound, whatever the other choices are. A
+/// text's table always fits its stops, so that 2 never comes.
 #[test]
 fn refused_first_orders() {
     let rows = ("0 ".repeat(18) + "\n").repeat(18);
@@ -70,6 +71,10 @@ fn refused_first_orders() {
         assert!(refused("7 8 0", "7 1000001 0").starts_with("line 5: refused 3:"));
         assert_eq!(first(more, &many).unwrap_err(), format!("line 1: {}\n", gondamuy::Refusal::Stops));
         assert_eq!(refused("5 0 6", "5 0"), "line 4: a row of 2 entries, and 2 stops have 3\n");
+        assert_eq!(refused("close", "4"), format!("line 8: {}\n", gondamuy::Refusal::Choice));
+        let unknown = TEXT.replace("LIFO", "4").replace("U/DBAS DB/AS", "16").replace("close", "4294967295");
+        assert!(first(more, &unknown).unwrap_err().starts_with("line 8: refused 4:"));
+        assert!(first(more, &unknown.replace("5 0 6", "5 0 1000001")).unwrap_err().starts_with("line 4: refused 3:"));
     }
 }
 
@@ -79,12 +84,13 @@ fn first_orders_of_the_samples() {
     for name in NAMES {
         let text = string(name, "txt");
         let job = parse(&text).unwrap().job;
-        let told = witness::first_order(job.n.into(), &job.table);
+        let told = witness::first_order(job.n.into(), job.bound.into(), &job.table);
         let stops = &told.order[..job.n as usize];
         let line: String = stops.iter().map(|stop| format!(" {stop}")).collect();
         let landings = landings_of(&job);
-        let cost = told.cost;
-        assert_eq!(first(&[], &text).unwrap(), format!("first cost {cost}{landings}\nfirst order{line}\n"), "{name}");
+        let end = if ends_away(&job) { format!("first: {ENDS_AWAY}") } else { String::new() };
+        let lines = format!("first cost {}{landings}\nfirst order{line}\n{end}", told.cost);
+        assert_eq!(first(&[], &text).unwrap(), lines, "{name}");
         let started = first(&["start"], &text).unwrap();
         let start = stops.iter().map(|&stop| stop as u8).collect();
         assert_eq!(parse(&started).unwrap().job, Job { start, ..job }, "{name}");

@@ -1,9 +1,11 @@
 //! What the tests and the bench try planners on: a fixed generator with the
 //! tables and orders drawn from it, and some that need none. Module `charges`
-//! has landing charges on the tables' diagonals.
+//! has landing charges on the tables' diagonals, module `away` flights home.
 
+mod away;
 mod charges;
 
+pub use away::free_flights_home;
 pub use charges::{charged, charges, folded, uncharged};
 
 /// Document 01's table T, of three stops.

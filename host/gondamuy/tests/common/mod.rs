@@ -1,13 +1,35 @@
-//! What the tests share: random jobs, and ways to spoil them.
+//! What the tests share: random jobs, what their orders cost, and ways to spoil them.
 #![allow(dead_code)]
 
-use gondamuy::raw;
+use gondamuy::{raw, LONGEST_FILE, NO_BUDGET};
 use jobtext::Job;
 use samples::Random;
+use witness::enumerate::all_orders;
 
 /// The numbers of a job as the calls take them.
 pub fn choices(job: &Job) -> raw::Job {
     raw::Job { n: job.n, selection: job.selection, rules: job.rules, bound: job.bound }
+}
+
+/// The bytes of a job's file, whatever the job holds.
+pub fn bytes(job: &Job) -> Vec<u8> {
+    let mut file: Vec<u8> = job.table.iter().flat_map(|leg| leg.to_le_bytes()).collect();
+    let place = file.len() as u32;
+    file.extend(&job.start);
+    file.extend([0; 4]);
+    file.extend(place.to_le_bytes());
+    let length = job.start.len() as u32;
+    file.extend([job.n, length, job.selection, job.rules, job.bound].map(|x| x as u8));
+    file
+}
+
+/// What each call says of a job of few stops: `plan`, `first_order`, `write`, and `read` of its file.
+pub fn numbers(job: raw::Job, table: &[u32], start: &[u8]) -> [u32; 4] {
+    let raw::Job { n, selection, rules, bound } = job;
+    let file = bytes(&Job { n, table: table.to_vec(), selection, rules, bound, start: start.to_vec() });
+    let planned = raw::plan(job, table, start, NO_BUDGET, &mut [0; 600]).number;
+    let written = raw::write(job, table, start, &mut [0; LONGEST_FILE]).number;
+    [planned, raw::first_order(n, bound, table).number, written, raw::read(&file).number]
 }
 
 /// What the second planner reports, field by field as the library does.
@@ -31,28 +53,37 @@ pub fn some_budget(random: &mut Random, own: u64) -> u64 {
 }
 
 /// The first order of n stops, as `plan` takes a starting order.
-pub fn first_stops(n: usize, table: &[u32]) -> Vec<u8> {
-    raw::first_order(n as u32, table).order[..n].to_vec()
+pub fn first_stops(n: usize, bound: u32, table: &[u32]) -> Vec<u8> {
+    raw::first_order(n as u32, bound, table).order[..n].to_vec()
 }
 
-/// A job of n stops that every check lets pass: in half of the cases with landing charges, and in half of them from the
-/// first order, else from none or from any.
+/// A job of n stops that every check lets pass: in half of the cases with landing charges, in half of them for a day
+/// that ends away, and in half of them from the first order, else from none or from any.
 pub fn random_job(random: &mut Random, n: usize, most: u32) -> Job {
     let table = random.table(n, 0, most);
     let table = random.maybe_charged(n, table);
+    let bound = random.below(4) as u32;
     let start = match random.below(4) {
         0 => Vec::new(),
         1 => random.order(n),
-        _ => first_stops(n, &table),
+        _ => first_stops(n, bound, &table),
     };
-    Job {
-        n: n as u32,
-        table,
-        selection: random.below(4) as u32,
-        rules: random.below(16) as u32,
-        bound: random.below(2) as u32,
-        start,
-    }
+    Job { n: n as u32, table, selection: random.below(4) as u32, rules: random.below(16) as u32, bound, start }
+}
+
+/// What an order costs on the job's day, by the table alone: its legs with their landings, and the flight home only
+/// where the day ends there (request A.5).
+pub fn order_cost(job: &Job, order: &[u8]) -> u32 {
+    let side = job.n as usize + 1;
+    let end: &[u8] = if job.bound < 2 { &[0] } else { &[] };
+    let places: Vec<usize> = [&[0], order, end].concat().into_iter().map(usize::from).collect();
+    places.windows(2).map(|pair| job.table[pair[0] * side + pair[1]] + job.table[pair[1] * (side + 1)]).sum()
+}
+
+/// The least that one of all n! orders costs.
+pub fn least_cost(job: &Job) -> u32 {
+    let stops = |order: Vec<usize>| order.into_iter().map(|stop| stop as u8).collect::<Vec<u8>>();
+    all_orders(job.n as usize).into_iter().map(|order| order_cost(job, &stops(order))).min().unwrap()
 }
 
 /// As `random_job`, over 1 to 16 stops and legs of every size.
@@ -101,13 +132,13 @@ pub fn spoil_table(random: &mut Random, job: &mut Job) {
     }
 }
 
-/// Number 4: a selection, rules or a bound that are not known; `more` are added to 4, 16 and 2.
+/// Number 4: a selection, rules or a bound that are not known; `more` are added to 4, 16 and 4.
 pub fn spoil_choice(random: &mut Random, job: &mut Job, more: &[u32]) {
     let more = random.pick(more);
     match random.below(3) {
         0 => job.selection = 4 + more,
         1 => job.rules = 16 + more,
-        _ => job.bound = 2 + more,
+        _ => job.bound = 4 + more,
     }
 }
 

@@ -8,7 +8,7 @@ use std::process::{Command, Stdio};
 
 use jobtext::Job;
 
-pub const NAMES: [&str; 6] = ["case-a", "office", "office-full", "pilot", "pilot-first", "strips"];
+pub const NAMES: [&str; 7] = ["camps", "case-a", "office", "office-full", "pilot", "pilot-first", "strips"];
 
 pub fn folder() -> PathBuf {
     Path::new(env!("CARGO_MANIFEST_DIR")).join("../../jobs/samples")
@@ -23,9 +23,17 @@ pub fn string(name: &str, kind: &str) -> String {
     String::from_utf8(bytes(name, kind)).unwrap()
 }
 
-/// What is told behind a cost: the part of it that is landings, where any are charged.
+/// What is told of a day that ends away.
+pub const ENDS_AWAY: &str = "the day ends at the last stop, and no flight home is counted\n";
+
+/// Whether the day is one that ends away, by the number of its bound.
+pub fn ends_away(job: &Job) -> bool {
+    [2, 3].contains(&job.bound)
+}
+
+/// What is told behind a cost: the part of it that is landings, where any are charged, home's only if it is flown to.
 pub fn landings_of(job: &Job) -> String {
-    match job.charges().sum() {
+    match job.charges().skip(usize::from(ends_away(job))).sum() {
         0u32 => String::new(),
         landings => format!(", {landings} of it landings"),
     }
