@@ -10,7 +10,7 @@
 --   Priced n table        what `rows` asks of a table, so that each number is in it and no sum of two overflows; check 3 sees to it
 --   Cheap rows            no leg of theirs is above the dearest (Within m L: none is above m)
 --   Reckonable rows x        what `order_cost` asks, so that each leg of x is in the rows and their sum does not overflow
---   rowOf n away table i  a row of the planner's
+--   rowOf n table i       a row of the planner's, on a day that ends at home
 --   Wide x s leg          what `extended` asks, so that no word overflows
 --   emptyRecord           six zeros, e's record before it has a bound
 use mathlib.Core.Path.{_≡_}
@@ -24,7 +24,7 @@ use Rattle.sizes.specs.Sizes.{mostStops, places, dearestLeg, dearestCharge, dea
 use Rattle.lists.specs.Lists.{In, put, from}
 use Rattle.orders.specs.Orders.{Node, last}
 use Rattle.days.specs.Code.{Reckoning}
-use Rattle.stops.specs.Tables.{charge, flying, counted}
+use Rattle.stops.specs.Tables.{charge, flying}
 use Rattle.stops.specs.Legs.{Legs, legs}
 use Rattle.stops.specs.Bounds.{isClose, remainder}
 use Rattle.stops.specs.declared.node_record.Record.{Record}
@@ -95,9 +95,9 @@ reckoning L = record { place = last; further = L .leg; after = λ place s. s; ah
 unfoldable pub reckonOn : List (List ℕ) → Reckoning
 reckonOn rows = reckoning (legs rows)
 
--- a row: what flying from place i counts, and zeros
-unfoldable pub rowOf : ℕ → Bool → List ℕ → ℕ → List ℕ
-rowOf n away table i = map (λ j. cond (leb j n) (counted away (flying n table) i j) 0) (from 0 places)
+-- a row: what flying from place i costs, and zeros
+unfoldable pub rowOf : ℕ → List ℕ → ℕ → List ℕ
+rowOf n table i = map (λ j. cond (leb j n) (flying n table i j) 0) (from 0 places)
 
 -- a table for n stops whose legs and charges are not too dear
 pub record Priced (n : ℕ) (table : List ℕ) : Type 0 where

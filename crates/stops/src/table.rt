@@ -1,6 +1,6 @@
 // The table: the checks on its numbers, and the rows that the planner reckons with.
 ghost use mathlib.Core.Path.{_≡_};
-ghost use mathlib.Core.Bool.{not, cond};
+ghost use mathlib.Core.Bool.{not};
 ghost use Prim.Native.Nat.{suc, _*_, _≤_};
 ghost use lib.Dec.{ltb};
 ghost use lib.ListN.{length};
@@ -71,20 +71,13 @@ fn flying(n: usize, table: &[u32], i: usize, j: usize) -> u32
     entry(n, table, i, j) + charge(n, table, j)
 }
 
-// The first place whose leg counts: home, or stop 1 on a day that ends away (request A.5).
-fn first_counted(away: bool) -> usize
-    ensures { λ r. ⌜ r ≡ cond away 1 0 ⌝ }
-{
-    if away { 1 } else { 0 }
-}
-
-// One row: what flying from a place counts, and zeros.
-fn row(n: usize, away: bool, table: &[u32], i: usize) -> [u32; PLACES]
+// One row: what flying from a place costs, and zeros.
+fn row(n: usize, table: &[u32], i: usize) -> [u32; PLACES]
     requires { ⌜ Priced n (now table) × (i ≤ n) ⌝ }
-    ensures { λ r. ⌜ r ≡ rowOf n away (now (table .entry)) i ⌝ }
+    ensures { λ r. ⌜ r ≡ rowOf n (now (table .entry)) i ⌝ }
 {
     let mut r = [0u32; PLACES];
-    let mut j = first_counted(away);
+    let mut j = 0;
     while j <= n {
         r[j] = flying(n, table, i, j);
         j += 1;
@@ -97,12 +90,19 @@ pub fn rows(n: usize, bound: u32, table: &[u32]) -> Rows
     requires { ⌜ Priced n (now table) ⌝ }
     ensures { λ r. ⌜ r ≡ rows n (endsAway bound) (now (table .entry)) ⌝ }
 {
-    let away = ends_away(bound);
     let mut t = [[0u32; PLACES]; PLACES];
     let mut i = 0;
     while i <= n {
-        t[i] = row(n, away, table, i);
+        t[i] = row(n, table, i);
         i += 1;
+    }
+    if ends_away(bound) {
+        // no leg home counts
+        let mut s = 0;
+        while s <= n {
+            t[s][0] = 0;
+            s += 1;
+        }
     }
     t
 }
