@@ -1,6 +1,6 @@
 -- Calls that use no request's feature, a theorem for each type of specs/AsBefore.
-use mathlib.Core.Path.{_≡_, refl, sym, ap, ap₂, _∙_, subst}
-use mathlib.Core.Bool.{Bool, true, false, not, _||_}
+use mathlib.Core.Path.{_≡_, refl, sym, ap, ap₂, _∙_}
+use mathlib.Core.Bool.{Bool, false, not, _||_}
 use mathlib.Core.List.{List}
 use mathlib.Core.Logic.{_⊎_, inl, inr, _≢_}
 use Prim.Native.Nat.{ℕ, zero, suc, _≤_, _<_}
@@ -16,8 +16,7 @@ use Rattle.stops.specs.Tables.{entry, charge, rows}
 use Rattle.stops.specs.Bounds.{endsAway}
 use Rattle.stops.specs.Stops.{dayOn}
 use Rattle.stops.proofs.Charges.{uncharged-rows}
-use Rattle.answer.specs.Call.{Call, Answer}
-use Rattle.answer.specs.declared.Job.{Job}
+use Rattle.answer.specs.Call.{Call}
 use Rattle.answer.specs.Checks.{cause₁, cause₂, cause₃, noSuchBound, cause₄, tableCause, jobCause, cause}
 use Rattle.answer.specs.Answer.{dayOf}
 use Rattle.answer.specs.Demands.{written}

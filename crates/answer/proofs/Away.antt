@@ -1,30 +1,26 @@
 -- Request A.5 of the written run, a theorem for each type of specs/Away.
-use mathlib.Core.Path.{_≡_, refl, sym, ap, ap₂, _∙_, subst}
-use mathlib.Core.Bool.{Bool, true, false, not, _||_}
+use mathlib.Core.Path.{_≡_, refl, sym, ap, _∙_, subst}
+use mathlib.Core.Bool.{false}
 use mathlib.Core.List.{List}
 use Prim.Native.Nat.{ℕ, zero, suc, _≤_}
 use native.Mathlib.Omega.{arith}
-use lib.ListN.{length}
 use borrow.Author.Tests.{le-ltb}
 use Rattle.orders.specs.Orders.{Node, Order}
-use Rattle.orders.proofs.Tree.{complete-size}
-use Rattle.orders.proofs.Partial.{partial-size}
-use Rattle.orders.proofs.Order.{full-order}
+use Rattle.orders.proofs.Order.{partial-order}
 use Rattle.orders.proofs.Orders.{orders-in, in-orders}
 use Rattle.days.specs.Days.{Day, problem}
 use Rattle.stops.specs.Tables.{entry, rows}
 use Rattle.stops.specs.Bounds.{endsAway}
-use Rattle.stops.specs.Legs.{path, cost}
 use Rattle.stops.specs.Stops.{day, dayOn}
 use Rattle.stops.specs.Away.{dayAway, dayAwayOn}
 use Rattle.stops.proofs.Away.{away-path, away-bound, away-dominates, away-cost, path-below, unread-rows}
 use Rattle.answer.specs.Call.{Call, callOf, Answer}
 use Rattle.answer.specs.Checks.{noSuchBound, cause₄, cause}
 use Rattle.answer.specs.Answer.{dayOf, problemOf, answer}
-use Rattle.answer.specs.Ends.{Finishes, orderIn}
-use Rattle.answer.specs.Demands.{written, OneTable, Cheapest}
-use Rattle.answer.specs.OnDay.{answerOn, SameFigures}
-use Rattle.answer.specs.Away.{homeDayOf, awayDayOf, EndsAway, LetsBoundsPass, FiguresAway, AnswersAway, BoundExactAway, CheapestAway, CheapestWithoutLegHome, NoDearerAway, LegsHomeUnread}
+use Rattle.answer.specs.Ends.{orderIn}
+use Rattle.answer.specs.Demands.{written, OneTable}
+use Rattle.answer.specs.OnDay.{answerOn}
+use Rattle.answer.specs.Away.{homeDayOf, awayDayOf, EndsAway, LetsBoundsPass, FiguresAway, AnswersAway, BoundExactAway, CheapestWithoutLegHome, NoDearerAway, LegsHomeUnread}
 use Rattle.answer.proofs.Passes.{choices-pass, passes}
 use Rattle.answer.proofs.Bounds.{bound-is-cost}
 use Rattle.answer.proofs.Demand3.{cheapest-of-all}
@@ -70,7 +66,7 @@ pub bound-exact-away : BoundExactAway
 unfolding problemOf problem
 bound-exact-away c e ends x p whole =
     bound-is-cost c e x whole
-    ∙ own-cost c e ends x (full-order (c .job .n) x p (let f : length x ≡ c .job .n = omega (arith, complete-size (c .job .n) x whole, partial-size (c .job .n) x p) in f))
+    ∙ own-cost c e ends x (partial-order (c .job .n) x p whole)
 
 pub cheapest-without-leg-home : CheapestWithoutLegHome written
 cheapest-without-leg-home c a e ends h =

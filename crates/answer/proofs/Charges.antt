@@ -13,7 +13,6 @@ use Rattle.lists.specs.Lists.{In, any, from, padded}
 use Rattle.lists.proofs.Tests.{compared, to-false}
 use Rattle.lists.proofs.Elements.{getD-small}
 use Rattle.lists.proofs.Members.{any-in, in-from}
-use Rattle.orders.specs.Orders.{Node}
 use Rattle.orders.proofs.Orders.{in-orders}
 use Rattle.stops.specs.Tables.{entry, charge, flying, counted, rows}
 use Rattle.stops.specs.Bounds.{endsAway}

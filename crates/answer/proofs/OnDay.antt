@@ -14,17 +14,16 @@ use Rattle.lists.proofs.Members.{in-head}
 use Rattle.lists.proofs.Map.{least-map}
 use Rattle.search.specs.Problem.{State, upper, start}
 use Rattle.search.specs.Step.{on}
-use Rattle.search.specs.Run.{withBranched, held, Outcome, finished, stopped, full, unfinished, run}
+use Rattle.search.specs.Run.{withBranched, held, Outcome, finished, stopped, full, unfinished}
 use Rattle.search.proofs.Mapped.{Maps, ValidBest, ValidState}
 use Rattle.search.proofs.MappedRun.{start-valid}
 use Rattle.search.proofs.SameRun.{EndsValid, same-run}
 use Rattle.orders.specs.Orders.{Node, setOf, mask, size, complete, Partial, Order, nodes}
-use Rattle.orders.proofs.Tree.{complete-size}
-use Rattle.orders.proofs.Partial.{partial-root, partial-child, partial-size}
-use Rattle.orders.proofs.Order.{order-partial, order-complete, full-order}
+use Rattle.orders.proofs.Partial.{partial-root, partial-child}
+use Rattle.orders.proofs.Order.{order-partial, order-complete, partial-order}
 use Rattle.days.specs.Days.{Day, problem, choices}
 use Rattle.records.specs.Records.{orderWord, record-of, poolWords, recordsIn}
-use Rattle.answer.specs.Call.{Call, Answer}
+use Rattle.answer.specs.Call.{Call}
 use Rattle.answer.specs.Checks.{cause}
 use Rattle.answer.specs.Answer.{dayOf, problemOf, choicesOf, given, stopsOf, costOf, outcome, floorOf, reportWith, wordsOf, ending, respond, answer}
 use Rattle.answer.specs.OnDay.{problemOn, choicesOn, outcomeOn, wordsOn, floorOn, endingOn, answerOn, OnItsDay, SameFigures, FiguresDecide}
@@ -54,8 +53,7 @@ module _ (c : Call) (ok : Passes c) (D E : Day) (same : SameFigures (c .job .n) 
   n = c .job .n
 
   complete-cost : (x : Node) → Partial n x → T (complete n x) → D .cost x ≡ E .cost x
-  complete-cost x p whole =
-      same .orders-cost x (full-order n x p (let e : length x ≡ n = omega (arith, complete-size n x whole, partial-size n x p) in e))
+  complete-cost x p whole = same .orders-cost x (partial-order n x p whole)
 
   day-maps : Maps (λ x. x) (Partial (c .job .n)) (problemOn E c) (problemOn D c) (choicesOn E c) (choicesOn D c)
   unfolding problem choices

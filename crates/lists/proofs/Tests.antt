@@ -1,6 +1,6 @@
 -- Laws of Boolean tests: what `_&&_`, `_||_` and `not` say as types, and the rules by which `omega` reads tests of numbers.
 use mathlib.Core.Path.{_≡_, refl, subst}
-use mathlib.Core.Bool.{Bool, true, false, not, _&&_, _||_}
+use mathlib.Core.Bool.{Bool, true, false, not, _&&_, _||_, cond}
 use mathlib.Core.Logic.{_⊎_, inl, inr, _≢_}
 use Prim.Native.Nat.{ℕ, _≤_, _<_}
 use lib.Dec.{T, leb, eqb, leb→le, ltb→lt, nleb→lt, nltb→le, le→leb, lt→ltb, eqb→eq, eqb-refl, T-not, not-T}
@@ -69,6 +69,11 @@ not-either false b h = (tt, h)
 pub both-false : (a b : Bool) → (a || b) ≡ false → (a ≡ false) × (b ≡ false)
 both-false true b e = absurd (subst T e tt)
 both-false false b e = (refl, e)
+
+-- nothing either way is nothing
+pub cond-zero : (b : Bool) → _≡_ {A = ℕ} (cond b 0 0) 0
+cond-zero true = refl
+cond-zero false = refl
 
 pub same-tests : (a b : Bool) → (T a → T b) → (T b → T a) → a ≡ b
 same-tests true true f g = refl

@@ -41,7 +41,7 @@ order-complete n x o = left-complete n x (no-members (left n x) go)
     go : (s : ℕ) → In s (left n x) → ⊥
     go s m = let h = in-left n x s m in T-not (flown x s) (h .2) (in-flown x s (o .every s (h .0) (h .1)))
 
-partial-order : (n : ℕ) (x : Node) → Partial n x → T (complete n x) → Order n x
+pub partial-order : (n : ℕ) (x : Node) → Partial n x → T (complete n x) → Order n x
 partial-order n x p c = record { once = p .once; only = p .only; every = λ s h k. flown-in x s (not-not (flown x s) (go s h k)) }
   where
     go : (s : ℕ) → 1 ≤ s → s ≤ n → T (not (flown x s)) → ⊥

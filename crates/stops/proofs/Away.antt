@@ -12,7 +12,7 @@ use native.Mathlib.Omega.{arith}
 use lib.Dec.{T, eqb, leb, leb→le}
 use Rattle.sizes.specs.Sizes.{mostStops, places}
 use Rattle.lists.specs.Lists.{sum, least, same, from}
-use Rattle.lists.proofs.Tests.{neq}
+use Rattle.lists.proofs.Tests.{neq, cond-zero}
 use Rattle.lists.proofs.Map.{map-same}
 use Rattle.lists.proofs.Numbers.{sum-const, least-small}
 use Rattle.orders.specs.Orders.{Node, setOf, left, last, complete, Partial, Order}
@@ -82,10 +82,6 @@ module _ (n : ℕ) (some : 1 ≤ n) (few : n ≤ mostStops) (table : List ℕ) w
   unfolding legs rows
   no-leg-home s h k = leg-in-rows n (counted true (flying n table)) few s 0 k (omega arith) ∙ counted-home (flying n table) s
 
-  nothing : (b : Bool) → _≡_ {A = ℕ} (cond b 0 0) 0
-  nothing true = refl
-  nothing false = refl
-
   module _ (x : Node) (p : Partial n x) where
     pub away-path : dayOn n (rows n true table) .path x ≡ dayAwayOn n (rows n false table) .path x
     unfolding dayOn day dayAwayOn dayAway
@@ -116,7 +112,7 @@ module _ (n : ℕ) (some : 1 ≤ n) (few : n ≤ mostStops) (table : List ℕ) w
               arith,
               plain-pays n some awayward (unhomed homeward) (λ j. 0) stops-alike no-leg-home x p,
               sum-const 0 x,
-              nothing (complete n x),
+              cond-zero (complete n x),
               unhomed-plain n homeward x,
             )
 

@@ -17,7 +17,7 @@ use native.Mathlib.Omega.{arith}
 use lib.Dec.{T, T-not, eqb, leb, leb→le}
 use Rattle.sizes.specs.Sizes.{mostStops, places}
 use Rattle.lists.specs.Lists.{In, sum, least, without, same, from, Distinct, more}
-use Rattle.lists.proofs.Tests.{and-right, neq}
+use Rattle.lists.proofs.Tests.{and-right, neq, cond-zero}
 use Rattle.lists.proofs.Map.{map-same}
 use Rattle.lists.proofs.Members.{in-head, in-keep}
 use Rattle.lists.proofs.Numbers.{least-adds, sum-adds, sum-const}
@@ -216,10 +216,6 @@ module _ (n : ℕ) (some : 1 ≤ n) (few : n ≤ mostStops) (away : Bool) (table
 module _
     (n : ℕ) (some : 1 ≤ n) (few : n ≤ mostStops) (costs g : ℕ → ℕ → ℕ)
     (apart : (i j : ℕ) → i ≤ n → j ≤ n → i ≢ j → costs i j ≡ g i j) where
-  nothing : (b : Bool) → _≡_ {A = ℕ} (cond b 0 0) 0
-  nothing true = refl
-  nothing false = refl
-
   nothing-added : (i j : ℕ) → i ≤ n → j ≤ n → i ≢ j → costs i j ≡ g i j + 0
   nothing-added i j h k e = omega (arith, apart i j h k e)
 
@@ -233,7 +229,7 @@ module _
         go : (b : Bool) → isClose k ≡ b → dayOn n (inRows n costs) .bound k x ≡ dayOn n (inRows n g) .bound k x
         go true e = omega (arith, rows-close n some few costs g (λ j. 0) nothing-added x p k e, sum-const 0 (from 0 (suc n)))
         go false e =
-            omega (arith, rows-plain n some few costs g (λ j. 0) nothing-added x p k e, sum-const 0 x, nothing (complete n x))
+            omega (arith, rows-plain n some few costs g (λ j. 0) nothing-added x p k e, sum-const 0 x, cond-zero (complete n x))
 
   pub diagonal-dominates :
       (y z : Node) → Partial n y → Partial n z → dayOn n (inRows n costs) .dominates y z ≡ dayOn n (inRows n g) .dominates y z

@@ -19,7 +19,7 @@ use lib.Seq.{getD-set-same, getD-set-other, ext-getD}
 use borrow.Author.Tests.{lt-ltb, le-ltb}
 use Rattle.sizes.specs.Sizes.{mostStops, places, tableNumbers, dearestCharge}
 use Rattle.lists.specs.Lists.{any, from}
-use Rattle.lists.proofs.Tests.{compared, same-tests, tests}
+use Rattle.lists.proofs.Tests.{compared, same-tests, tests, cond-zero}
 use Rattle.lists.proofs.Elements.{getD-numbers, getD-from, Rest, any-finds, any-skips, any-ends}
 use Rattle.lists.proofs.Map.{map-same}
 use Rattle.lists.proofs.Members.{length-from}
@@ -154,11 +154,7 @@ module _ (n : ℕ) (table : List ℕ) where
   -- a row without its leg home
   row-uncounted : (i : ℕ) → set (rowIn false i) 0 0 ≡ rowIn true i
   unfolding counted
-  row-uncounted i = ap (λ (v : ℕ). v ∷ map (λ j. cond (leb i n && leb j n) (flying n table i j) 0) (from 1 mostStops)) (sym (nothing (leb i n && leb 0 n)))
-    where
-      nothing : (b : Bool) → _≡_ {A = ℕ} (cond b 0 0) 0
-      nothing true = refl
-      nothing false = refl
+  row-uncounted i = ap (λ (v : ℕ). v ∷ map (λ j. cond (leb i n && leb j n) (flying n table i j) 0) (from 1 mostStops)) (sym (cond-zero (leb i n && leb 0 n)))
 
   pub uncounted-more : (k : ℕ) → k < places → set (uncounted k) k (set (getD (uncounted k) k []) 0 0) ≡ uncounted (k + 1)
   unfolding uncounted

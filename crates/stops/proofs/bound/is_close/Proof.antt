@@ -1,5 +1,4 @@
 -- `stops::bound::is_close` meets its contract.
-use mathlib.Core.Path.{sym}
 use borrow.Author.Tests.{eq-eqb, ne-eqb}
 use Rattle.stops.specs.Bounds.{isClose}
 use Rattle.stops.proofs.bound.is_close.Statement.{statement}
