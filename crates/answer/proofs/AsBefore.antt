@@ -21,8 +21,9 @@ use Rattle.answer.specs.Checks.{cause₁, cause₂, cause₃, noSuchBoun
 use Rattle.answer.specs.Answer.{dayOf}
 use Rattle.answer.specs.Demands.{written}
 use Rattle.answer.specs.OnDay.{answerOn}
+use Rattle.answer.specs.Charges.{legDayOf}
 use Rattle.answer.specs.Away.{homeDayOf}
-use Rattle.answer.specs.AsBefore.{homeCause₄, homeCauseBehind, homeCause, EndsHome, EndsHomeAsBefore, NoCharges, Uncharged, legCause₃, legTableCause, TableCausesAsBefore, legCause, document01Day, AsDocument01, AcceptedBefore}
+use Rattle.answer.specs.AsBefore.{homeCause₄, homeCauseBehind, homeCause, EndsHome, EndsHomeAsBefore, NoCharges, Uncharged, UnchargedByLegs, legCause₃, legTableCause, TableCausesAsBefore, legCause, document01Day, AsDocument01, AcceptedBefore}
 use Rattle.answer.proofs.Passes.{none-found, none-first, passes}
 use Rattle.answer.proofs.Charges.{none-passes, small-charges}
 use Rattle.answer.proofs.OnDay.{on-its-day}
@@ -79,6 +80,14 @@ module _ (n : ℕ) (table : List ℕ) (none : NoCharges n table) where
 pub table-causes-as-before : TableCausesAsBefore
 unfolding tableCause legTableCause
 table-causes-as-before n table none later = rw (same-cause₃ n table none) refl
+
+pub uncharged-by-legs : UnchargedByLegs written
+unfolding dayOf legDayOf cause jobCause
+uncharged-by-legs c a e none =
+    e ∙ on-its-day c
+    ∙ ap₂ (λ (D : Day) (k : ℕ). answerOn D c k)
+    (ap (dayOn (c .job .n)) (uncharged-rows (c .job .n) (endsAway (c .job .bound)) (c .table) none))
+    (table-causes-as-before (c .job .n) (c .table) none _)
 
 -- ---- document 01
 

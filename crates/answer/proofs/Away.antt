@@ -73,6 +73,7 @@ cheapest-without-leg-home c a e ends h =
     let passed : cause c ≡ 0 = number-0-passes c (subst (λ (x : Answer). x .report .number ≡ 0) e (h .0)) in
     let best = cheapest-of-all c a e h in
     record {
+      is-order = best .has-order .is-order;
       cost-is = best .has-order .cost-is-its ∙ own-cost c passed ends (orderIn c (a .report)) (best .has-order .is-order);
       least = λ y m. subst (λ (v : ℕ). a .report .cost ≤ v) (own-cost c passed ends y (in-orders (c .job .n) y m)) (best .least y m);
     }
@@ -113,7 +114,9 @@ unread-day c table ends alike = rw ends (ap (dayOn (c .job .n)) (unread-rows (c 
 
 pub legs-home-unread : LegsHomeUnread written
 unfolding callOf
-legs-home-unread c table x y p q ends e f alike =
-    p ∙ on-its-day c ∙ ap (answerOn (dayOf c) c) e
-    ∙ ap (λ (D : Day). answerOn D c 0) (unread-day c table ends alike)
-    ∙ sym (q ∙ on-its-day (over c table) ∙ ap (answerOn (dayOf (over c table)) (over c table)) f)
+legs-home-unread c table x y p q ends same alike =
+    p ∙ on-its-day c ∙ ap (answerOn (dayOf c) c) same ∙ go (cause (over c table)) ∙ sym (q ∙ on-its-day (over c table))
+  where
+    go : (k : ℕ) → answerOn (dayOf c) c k ≡ answerOn (dayOf (over c table)) (over c table) k
+    go zero = ap (λ (D : Day). answerOn D c 0) (unread-day c table ends alike)
+    go (suc k) = refl

@@ -1,6 +1,6 @@
 -- A call that uses no request's feature is answered as before the request: a type for each, over any planner; proofs/ has a theorem for each.
 --   homeCause, EndsHomeAsBefore      without request A.5: no day that ends away
---   NoCharges, Uncharged             without request A.4: no landing charge
+--   NoCharges, Uncharged, UnchargedByLegs    without request A.4: no landing charge
 --   legCause₃, legTableCause, TableCausesAsBefore    the causes that look at a table, by document 01
 --   legCause, AsDocument01, AcceptedBefore           without either, an answer is document 01's, within whatever budget
 use mathlib.Core.Path.{_≡_}
@@ -16,9 +16,10 @@ use Rattle.stops.specs.Tables.{entry, charge, legRows}
 use Rattle.stops.specs.Stops.{dayOn}
 use Rattle.answer.specs.Call.{Call, Answer}
 use Rattle.answer.specs.declared.Job.{Job}
-use Rattle.answer.specs.Checks.{cause₁, cause₂, cause₅, cause₆, orLater, tableCause}
+use Rattle.answer.specs.Checks.{cause₁, cause₂, cause₄, cause₅, cause₆, orLater, tableCause}
 use Rattle.answer.specs.Demands.{Planner}
 use Rattle.answer.specs.OnDay.{answerOn}
+use Rattle.answer.specs.Charges.{legDayOf}
 use Rattle.answer.specs.Away.{homeDayOf}
 
 -- THE DAY ENDS AT HOME (request A.5)
@@ -59,6 +60,15 @@ legTableCause n table later = orLater (cause₁ n) 1 (orLater (cause₂ n table)
 -- Every call that looks at a table looks at it by `tableCause`: without charges, causes 1 to 3 are document 01's.
 abbrev pub TableCausesAsBefore : Type 0
 TableCausesAsBefore = (n : ℕ) (table : List ℕ) → NoCharges n table → (later : ℕ) → tableCause n table later ≡ legTableCause n table later
+
+-- Wherever the day ends, the answer is then the one over the legs alone, by document 01's causes 1 to 3.
+abbrev pub UnchargedByLegs : Planner → Type 0
+UnchargedByLegs P =
+    (c : Call) (a : Answer) → P c a → Uncharged c
+    → a
+    ≡ answerOn (legDayOf c) c
+    (legTableCause (c .job .n) (c .table)
+    (orLater (cause₄ (c .job)) 4 (orLater (cause₅ (c .job .n) (c .start)) 5 (orLater (cause₆ (c .pool)) 6 0))))
 
 -- DOCUMENT 01
 

@@ -12,7 +12,7 @@ use mathlib.Core.Logic.{_↔_}
 use Prim.Native.Nat.{ℕ, _≤_}
 use lib.Dec.{T}
 use Rattle.lists.specs.Lists.{In}
-use Rattle.orders.specs.Orders.{Node, complete, Partial, orders}
+use Rattle.orders.specs.Orders.{Node, complete, Partial, Order, orders}
 use Rattle.days.specs.Days.{Day}
 use Rattle.stops.specs.Tables.{entry, rows}
 use Rattle.stops.specs.Bounds.{endsAway}
@@ -63,6 +63,7 @@ BoundExactAway =
 
 -- A finished run shows an order that is cheapest without the leg home, and that cost.
 pub record CheapestAway (c : Call) (a : Answer) : Type 0 where
+  pub is-order : Order (c .job .n) (orderIn c (a .report))
   pub cost-is : a .report .cost ≡ homeDayOf c .path (orderIn c (a .report))
   pub least : (y : Node) → In y (orders (c .job .n)) → a .report .cost ≤ homeDayOf c .path y
 
@@ -75,10 +76,11 @@ NoDearerAway P =
     (a b : Call) (x y : Answer) → P a x → P b y → OneTable a b → EndsAway a → endsAway (b .job .bound) ≡ false
     → Finishes (x .report) → Finishes (y .report) → x .report .cost ≤ y .report .cost
 
--- Where the day ends away, what the table says of flying home (its legs to place 0, and home's charge) plays no part once it has passed check 3.
+-- Where the day ends away, what the table says of flying home (its legs to place 0, and home's charge) plays no part beyond check 3: with others
+-- that the checks say the same of, the answer is the same.
 abbrev pub LegsHomeUnread : Planner → Type 0
 LegsHomeUnread P =
     (c : Call) (table : List ℕ) →
     let d = callOf (c .job) table (c .start) (c .budget) (c .pool) in
-    (x y : Answer) → P c x → P d y → EndsAway c → cause c ≡ 0 → cause d ≡ 0
+    (x y : Answer) → P c x → P d y → EndsAway c → cause c ≡ cause d
     → ((i j : ℕ) → i ≤ c .job .n → 1 ≤ j → j ≤ c .job .n → entry (c .job .n) (c .table) i j ≡ entry (c .job .n) table i j) → x ≡ y

@@ -4,7 +4,7 @@ use Rattle.answer.specs.Demands.{EveryCallIsAnswered, EveryCallEnds, OneAnswer,
 use Rattle.answer.specs.Budget.{MarkedIff, StoppedAsWritten, OtherwiseZero, ExactBudget, WithinBudget, OrderOrZeros, NoDearerThanStart, FloorHolds, Between, LargerBudget, UnstoppedAsWithout, NoRunReaches}
 use Rattle.answer.specs.Charges.{OrderShownPays, CheapestByLegs}
 use Rattle.answer.specs.Away.{AnswersAway, CheapestWithoutLegHome, NoDearerAway, LegsHomeUnread}
-use Rattle.answer.specs.AsBefore.{EndsHomeAsBefore, AsDocument01, AcceptedBefore}
+use Rattle.answer.specs.AsBefore.{EndsHomeAsBefore, UnchargedByLegs, AsDocument01, AcceptedBefore}
 use Rattle.answer.specs.Document01.{FinishedIff, BranchedAreSteps, ContentsPlayNoPart}
 use Rattle.answer.proofs.Demand1.{call-answered, call-ends, one-answer, refusals-fixed}
 use Rattle.answer.proofs.Demand2.{run-is-written, counts-balance, full-iff, finished-iff, branched-are-steps}
@@ -15,7 +15,7 @@ use Rattle.answer.proofs.Budget.{marked-iff, stopped-as-written, otherwise-zero
 use Rattle.answer.proofs.BudgetPairs.{no-dearer-than-start, larger-budget, unstopped-as-without}
 use Rattle.answer.proofs.Charges.{order-shown-pays, cheapest-by-legs}
 use Rattle.answer.proofs.Away.{answers-away, cheapest-without-leg-home, no-dearer-away, legs-home-unread}
-use Rattle.answer.proofs.AsBefore.{ends-home-as-before, as-document-01, accepted-before}
+use Rattle.answer.proofs.AsBefore.{ends-home-as-before, uncharged-by-legs, as-document-01, accepted-before}
 use Rattle.planner.specs.Demands.{returned}
 
 -- demand 1 (that the code's call returns at all is what every proved contract says)
@@ -121,6 +121,9 @@ returned-unread = legs-home-unread
 -- without them
 pub returned-ends-home : EndsHomeAsBefore returned
 returned-ends-home = ends-home-as-before
+
+pub returned-uncharged : UnchargedByLegs returned
+returned-uncharged = uncharged-by-legs
 
 pub returned-as-document-01 : AsDocument01 returned
 returned-as-document-01 = as-document-01
