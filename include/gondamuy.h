@@ -194,8 +194,8 @@ static inline int gondamuy_shows_order(const struct gondamuy_report *report)
     return report->order[0] != 0;
 }
 
-/* Whether a bound is one for a day that ends at the last stop (request A.5). Costs of two searches over one table may
- * be held against each other only where this says the same of both bounds. */
+/* Whether a bound is one for a day that ends at the last stop (request A.5). Costs and floors of two searches over one
+ * table may be held against each other only where this says the same of both bounds. */
 static inline int gondamuy_ends_away(uint32_t bound)
 {
     return bound == GONDAMUY_BOUND_PLAIN_AWAY || bound == GONDAMUY_BOUND_CLOSE_AWAY;

@@ -55,6 +55,9 @@ int main(void)
     /* With length 0 a null table will do; it is refused. */
     if (gondamuy_first_order(3, GONDAMUY_BOUND_CLOSE, NULL, 0).number != GONDAMUY_REFUSED_TABLE_LENGTH)
         return failed("an empty table is not refused by 2");
+    if (gondamuy_ends_away(GONDAMUY_BOUND_PLAIN) || gondamuy_ends_away(GONDAMUY_BOUND_CLOSE)
+        || !gondamuy_ends_away(GONDAMUY_BOUND_PLAIN_AWAY) || !gondamuy_ends_away(GONDAMUY_BOUND_CLOSE_AWAY))
+        return failed("a bound is taken for one of the other kind of day");
     size_t length = fread(file, 1, sizeof file, stdin);
     if (ferror(stdin))
         return failed("standard input cannot be read");

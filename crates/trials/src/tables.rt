@@ -34,7 +34,7 @@ fn stops_in(k: u64) -> usize
     6
 }
 
-// The day of table k: every other ends away.
+// The day of table k: it ends away for every other run of tables of all kinds.
 pub fn day_of(k: u64) -> Day
     ensures { λ r. ⌜ (1 ≤ r .n) × (r .n ≤ 6) ⌝ }
 {

@@ -87,8 +87,8 @@ pub use sizes::*;
 /// # A day that ends away
 ///
 /// With [`Bound::PlainAway`] and [`Bound::CloseAway`] the day ends at the last stop (request A.5): neither the leg home
-/// nor the landing there is in a cost, a bound or a floor, and the order is cheapest without them. The table has them
-/// all the same, and a leg home that is too dear is refused as any other.
+/// nor the landing there is in a cost, a bound or a floor, and the order of a finished search is cheapest without
+/// them. The table has them all the same, and a leg home that is too dear is refused as any other.
 ///
 /// ```
 /// # use gondamuy::*;

@@ -1,4 +1,4 @@
-//! A day that ends away (request A.5) through the wrapper: days worked by hand, and which bounds are refused, and where.
+//! A day that ends away (request A.5) through the wrapper: days worked by hand; which bounds are refused, and where.
 
 mod common;
 

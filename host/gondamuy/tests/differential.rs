@@ -204,7 +204,7 @@ fn every_refusal() {
             match random.below(3) {
                 0 => job.selection = random.pick(&[4, u32::MAX]),
                 1 => job.rules = random.pick(&[16, u32::MAX]),
-                _ => job.bound = random.pick(&[4, 5, u32::MAX]),
+                _ => job.bound = random.pick(&[4, 5, 6, 7, 256, u32::MAX]),
             }
         }
         if faults & 16 != 0 {

@@ -1,6 +1,6 @@
 //! The proved writer against the second writer: the number, the length and
 //! every byte of the buffer, over 112,000 calls, half of whose jobs have landing
-//! charges (request A.4) and half of whose end away (request A.5):
+//! charges (request A.4) and half of which end away (request A.5):
 //!
 //! - 48,000 with a job of 1 to 16 stops, half of them with a starting order,
 //!   in a buffer empty, too short by one, exact, longer by one and by more; what

@@ -5,17 +5,18 @@
 //! ```text
 //! jobtool write < TEXT > FILE     the job file of a text
 //! jobtool show < FILE             the text of a job file, or why it is refused
-//! jobtool first < TEXT            `first cost` and `first order`: what it costs, and its stops
+//! jobtool first < TEXT            `first cost` and `first order`: what it costs, and its stops; and that the day ends
+//!                                 away, if it does
 //! jobtool first start < TEXT      the job anew as text, with that order as its starting order
 //! jobtool plan [budget N] [records R] < TEXT-OR-FILE
 //!                                 the plan of a job in words, or what a search stopped after N branchings knows
 //! jobtool refusal NUMBER          what a refusal's number says
 //! ```
 //!
-//! Of what stands in the text beside its table `first` looks at the bound alone, which says whether the day ends at home
-//! or at the last stop (request A.5). The status is one of failure where something is refused or amiss; then all that is
-//! said goes to standard error. A search that its budget stopped is neither: it is told on standard output, by the word
-//! `stopped`.
+//! Of what stands in the text beside its stops and table `first` looks at the bound alone, which says whether the day
+//! ends at home or at the last stop (request A.5). The status is one of failure where something is refused or amiss;
+//! then all that is said goes to standard error. A search that its budget stopped is neither: it is told on standard
+//! output, by the word `stopped`.
 
 mod plan;
 
@@ -71,8 +72,8 @@ fn parsed(bytes: &[u8]) -> Result<Parsed, String> {
 }
 
 /// A refusal of a text's job, with the line that it speaks of.
-fn at_line(parsed: &Parsed, refusal: Refusal) -> String {
-    format!("line {}: {refusal}", parsed.line_of(refusal.number()))
+fn at_line(line: usize, refusal: Refusal) -> String {
+    format!("line {line}: {refusal}")
 }
 
 fn file_of(bytes: &[u8]) -> Result<Vec<u8>, String> {
@@ -80,7 +81,7 @@ fn file_of(bytes: &[u8]) -> Result<Vec<u8>, String> {
     let Job { n, ref table, selection, rules, bound, ref start } = parsed.job;
     let mut file = vec![0; LONGEST_FILE];
     let written = raw::write(raw::Job { n, selection, rules, bound }, table, start, &mut file);
-    Refusal::check(written.number).map_err(|refusal| at_line(&parsed, refusal))?;
+    Refusal::check(written.number).map_err(|refusal| at_line(parsed.line_of(refusal.number()), refusal))?;
     file.truncate(written.length);
     Ok(file)
 }
@@ -90,7 +91,7 @@ fn with_first(bytes: &[u8]) -> Result<(Job, FirstOrder), String> {
     let parsed = parsed(bytes)?;
     let Job { n, bound, ref table, .. } = parsed.job;
     let first = FirstOrder::try_from(raw::first_order(n, bound, table))
-        .map_err(|refusal| format!("line {}: {refusal}", parsed.line_of_first(refusal.number())))?;
+        .map_err(|refusal| at_line(parsed.line_of_first(refusal.number()), refusal))?;
     Ok((parsed.job, first))
 }
 

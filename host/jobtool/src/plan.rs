@@ -77,7 +77,7 @@ fn of_text(text: &[u8], asked: &Asked) -> Result<(Job, Planned), String> {
     let report = raw::plan_records(job, table, start, asked.budget, &mut asked.pool()?);
     let planned = Planned::try_from(report).map_err(|refused| match refused.refusal {
         Refusal::Pool | Refusal::Full => refusal(&refused),
-        of_the_text => at_line(&parsed, of_the_text),
+        of_the_text => at_line(parsed.line_of(of_the_text.number()), of_the_text),
     })?;
     Ok((parsed.job, planned))
 }

@@ -78,15 +78,11 @@ impl Node {
 
     fn bound_by(&self, legs: &Legs, kind: Bound) -> u32 {
         if self.is_complete(legs) {
-            return match kind.ends() {
-                Ends::Home => self.path + legs.flying(self.last(), 0),
-                Ends::Away => self.path,
-            };
+            return legs.order_cost(&self.stops, kind.ends());
         }
         match kind {
             Bound::Plain | Bound::PlainAway => self.path,
             Bound::Close => self.path + self.legs_to_stops(legs) + self.leg_home(legs),
-            // No leg home counts.
             Bound::CloseAway => self.path + self.legs_to_stops(legs),
         }
     }
