@@ -2,6 +2,7 @@
 use mathlib.Core.Path.{_≡_, refl, sym, ap, _∙_, subst}
 use mathlib.Core.Bool.{false}
 use mathlib.Core.List.{List}
+use mathlib.Core.Logic.{inl, inr}
 use Prim.Native.Nat.{ℕ, zero, suc, _≤_}
 use native.Mathlib.Omega.{arith}
 use borrow.Author.Tests.{le-ltb}
@@ -18,10 +19,11 @@ use Rattle.answer.specs.Call.{Call, callOf, Answer}
 use Rattle.answer.specs.Checks.{noSuchBound, cause₄, cause}
 use Rattle.answer.specs.Answer.{dayOf, problemOf, answer}
 use Rattle.answer.specs.Ends.{orderIn}
-use Rattle.answer.specs.Demands.{written, OneTable}
+use Rattle.answer.specs.Demands.{written, OneTable, EndAlike, AsClose}
 use Rattle.answer.specs.OnDay.{answerOn}
-use Rattle.answer.specs.Away.{homeDayOf, awayDayOf, EndsAway, LetsBoundsPass, FiguresAway, AnswersAway, BoundExactAway, CheapestWithoutLegHome, NoDearerAway, LegsHomeUnread}
+use Rattle.answer.specs.Away.{homeDayOf, awayDayOf, EndsAway, LetsBoundsPass, FiguresAway, AnswersAway, BoundExactAway, ComparedEndAlike, CheapestWithoutLegHome, NoDearerAway, LegsHomeUnread}
 use Rattle.answer.proofs.Passes.{choices-pass, passes}
+use Rattle.answer.proofs.Instance.{closer-ends}
 use Rattle.answer.proofs.Bounds.{bound-is-cost}
 use Rattle.answer.proofs.Demand3.{cheapest-of-all}
 use Rattle.answer.proofs.OnDay.{on-its-day, figures-decide}
@@ -67,6 +69,13 @@ unfolding problemOf problem
 bound-exact-away c e ends x p whole =
     bound-is-cost c e x whole
     ∙ own-cost c e ends x (partial-order (c .job .n) x p whole)
+
+pub compared-end-alike : ComparedEndAlike
+compared-end-alike a b favours = go (favours .bound)
+  where
+    go : AsClose (a .job) (b .job) → EndAlike a b
+    go (inl e) = ap endsAway e
+    go (inr h) = closer-ends (a .job .bound) (b .job .bound) (h .1)
 
 pub cheapest-without-leg-home : CheapestWithoutLegHome written
 cheapest-without-leg-home c a e ends h =

@@ -57,7 +57,7 @@ call-came c = go (cause c) refl
     go zero e = ran e (outcome c) refl
     go (suc k) e = checked k e (ap (respond c) e ∙ ap (λ (m : ℕ). record { report = refusal m; pool = c .pool }) (sym e))
 
--- a cause of a table is one of three, and of a call one of six
+-- a cause of a table and a bound is one of four, and of a call one of six
 or-later : (b : Bool) (number later m : ℕ) → number ≤ m → later ≤ m → orLater b number later ≤ m
 or-later true number later m h k = h
 or-later false number later m h k = k

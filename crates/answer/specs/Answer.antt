@@ -18,7 +18,7 @@ use Rattle.answer.specs.Call.{Call, Answer, refusal}
 use Rattle.answer.specs.declared.Report.{Report}
 use Rattle.answer.specs.Checks.{cause}
 
--- the day that a call is about; by its bound it ends at home, or away (request A.5)
+-- the day that a call is about; by its bound it ends at home or, request A.5, away: then every answer is the one without legs home (`AnswersAway`)
 unfoldable pub dayOf : Call → Day
 dayOf c = dayOn (c .job .n) (rows (c .job .n) (endsAway (c .job .bound)) (c .table))
 

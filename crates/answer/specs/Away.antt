@@ -3,6 +3,7 @@
 --   homeDayOf, awayDayOf, EndsAway    the table's day that ends at home; its day that ends away, as the request words it; a call for such a day
 --   LetsBoundsPass                    check 4
 --   FiguresAway, AnswersAway          no leg home counts
+--   ComparedEndAlike                  which jobs are compared
 --   CheapestWithoutLegHome, NoDearerAway, LegsHomeUnread    of a planner's answers
 --   BoundExactAway                    the bounds of such a day; that they never fall and that close is not below plain is in `Document01`
 use mathlib.Core.Path.{_≡_}
@@ -23,7 +24,7 @@ use Rattle.answer.specs.declared.Job.{Job}
 use Rattle.answer.specs.Checks.{cause₄, cause}
 use Rattle.answer.specs.Answer.{dayOf, choicesOf}
 use Rattle.answer.specs.Ends.{Finishes, orderIn}
-use Rattle.answer.specs.Demands.{Planner, OneTable}
+use Rattle.answer.specs.Demands.{Planner, OneTable, EndAlike, Favours}
 use Rattle.answer.specs.OnDay.{answerOn, SameFigures}
 
 -- the day of a call's table that ends at home, charges included
@@ -58,6 +59,10 @@ abbrev pub BoundExactAway : Type 0
 BoundExactAway =
     (c : Call) → cause c ≡ 0 → EndsAway c → (x : Node) → Partial (c .job .n) x → T (complete (c .job .n) x)
     → choicesOf c .bound x ≡ homeDayOf c .path x
+
+-- Demand 3 compares two jobs only where both end at home or both end away.
+abbrev pub ComparedEndAlike : Type 0
+ComparedEndAlike = (a b : Call) → Favours a b → EndAlike a b
 
 -- WHAT COMES BACK
 

@@ -1,6 +1,6 @@
 -- Request A.4 beside its definitions (`charge`, `flying` and `rows` in crate `stops`, `cause₃` in `Checks`): a type for each of its sentences, as
 -- in `Demands`; proofs/ has a theorem for each.
---   legDayOf, landings, everyLanding      a call's day by the legs alone, and what landings are charged
+--   legDayOf, landingAt, landings, everyLanding    a call's day by the legs alone, and what landings are charged
 --   LetsPass                              check 3
 --   PathPays, OrderPays, PlainPays, ClosePays    what is reckoned, against what the legs alone give
 --   DiagonalUnflown                       the diagonal of the rows plays no part
@@ -35,7 +35,7 @@ legDayOf c = dayOn (c .job .n) (legRows (c .job .n) (endsAway (c .job .bound)) (
 unfoldable pub landingAt : Call → ℕ → ℕ
 landingAt c = landing (c .job .n) (endsAway (c .job .bound)) (c .table)
 
--- at some places; and at every place once, home included
+-- at some places; and at every place once, home included where the day ends there
 unfoldable pub landings : Call → List ℕ → ℕ
 landings c places = sum (landingAt c) places
 
@@ -62,13 +62,13 @@ PathPays = (c : Call) → cause c ≡ 0 → (x : Node) → Partial (c .job .n) x
 abbrev pub OrderPays : Type 0
 OrderPays = (c : Call) → cause c ≡ 0 → (x : Node) → Order (c .job .n) x → dayOf c .cost x ≡ legDayOf c .cost x + everyLanding c
 
--- A plain bound has the landings of the path, and home's once no stop is left.
+-- A plain bound has the landings of the path and, once no stop is left, home's where the day ends there.
 abbrev pub PlainPays : Type 0
 PlainPays =
     (c : Call) → cause c ≡ 0 → (k : ℕ) → isClose k ≡ false → (x : Node) → Partial (c .job .n) x
     → dayOf c .bound k x ≡ legDayOf c .bound k x + (landings c x + cond (complete (c .job .n) x) (landingAt c 0) 0)
 
--- A close bound has every landing, flown or left.
+-- A close bound has every landing, flown or left, home's where the day ends there.
 abbrev pub ClosePays : Type 0
 ClosePays =
     (c : Call) → cause c ≡ 0 → (k : ℕ) → isClose k ≡ true → (x : Node) → Partial (c .job .n) x

@@ -16,12 +16,12 @@ use Rattle.lists.proofs.Padded.{take-padded}
 use Rattle.orders.specs.Orders.{Node, Order, isOrder}
 use Rattle.orders.proofs.Order.{order-length, order-isOrder}
 use Rattle.orders.proofs.Orders.{orders-in}
-use Rattle.stops.specs.Tables.{rows}
+use Rattle.stops.specs.Tables.{flying, counted, rows}
 use Rattle.stops.specs.Legs.{Legs, legs, path, cost}
 use Rattle.stops.specs.Bounds.{endsAway}
 use Rattle.stops.specs.Stops.{day, dayOn}
 use Rattle.stops.specs.Away.{dayAway, dayAwayOn}
-use Rattle.stops.proofs.LegTable.{leg-flying}
+use Rattle.stops.proofs.LegTable.{leg-in-rows}
 use Rattle.stops.proofs.Charges.{day-cost-pays, uncharged-rows}
 use Rattle.stops.proofs.Away.{away-cost}
 use Rattle.answer.proofs.AsBefore.{table-causes-as-before}
@@ -180,8 +180,8 @@ plan-no-dearer P run c a bound r p h ends g =
 -- ---- request A.4
 
 pub first-flies : FirstFlies
-unfolding legsOf legs
-first-flies n bound table few i j h stop k = leg-flying n table few (endsAway bound) i j h k stop
+unfolding legsOf legs rows flying
+first-flies n bound table few i j h k = leg-in-rows n (counted (endsAway bound) (flying n table)) few i j h k
 
 pub first-pays : FirstPays
 unfolding legsOf dayOn day
@@ -211,9 +211,10 @@ first-ends-home n bound table r e h =
     ∙ ap₂ (λ (away : Bool) (k : ℕ). firstOn (legs (rows n away table)) n k) (home-bound bound h) (known-bound n bound table (omega arith))
 
 pub first-uncharged : FirstUncharged
-first-uncharged n bound table r e h none =
-    first-ends-home n bound table r e h
-    ∙ ap₂ (λ (L : Legs) (k : ℕ). firstOn L n k) (ap legs (uncharged-rows n false table none)) (table-causes-as-before n table none 0)
+unfolding boundCause
+first-uncharged n bound table r e none =
+    e ∙ first-on n bound table
+    ∙ ap₂ (λ (L : Legs) (k : ℕ). firstOn L n k) (ap legs (uncharged-rows n (endsAway bound) table none)) (table-causes-as-before n table none _)
 
 -- ---- request A.5
 
@@ -226,15 +227,17 @@ first-ends-away n bound table r (e, z) away =
     let L : Legs = legs (rows n false table) in
     let long : length (shown n r) ≡ n = order-length n (shown n r) order in
     let costs : (x : Node) → Order n x → cost (legs (rows n (endsAway bound) table)) x ≡ path L x =
-    λ x o. rw away (away-cost n (passed .some) (passed .priced .few) table x o) in (
+    λ x o. rw away (away-cost n (passed .some) (passed .priced .few) table x o) in
+    let near = no-dearer-than-nearest n bound table r (e, z) in (
       own-cost n bound table r (e, z) ∙ costs (shown n r) order,
       λ p q h k.
           subst (λ (v : ℕ). r .cost ≤ v) (costs (exchanged (shown n r) p q) (exchanged-order (shown n r) p q (omega (arith, long)) (omega (arith, long)) n order))
           (no-exchange-cheaper n bound table r (e, z) p q h k),
+      subst (λ (v : ℕ). r .cost ≤ v) (costs (nearestOf n bound table) (near .0)) (near .1),
     )
 
 pub first-by-end : FirstByEnd
-first-by-end n a b table h k ends =
-    first-on n a table
+first-by-end n a b table r s e f h k ends =
+    e ∙ first-on n a table
     ∙ ap₂ (λ (away : Bool) (k : ℕ). firstOn (legs (rows n away table)) n k) ends (known-bound n a table h ∙ sym (known-bound n b table k))
-    ∙ sym (first-on n b table)
+    ∙ sym (f ∙ first-on n b table)

@@ -114,9 +114,9 @@ two cost a b = record { number = 0; cost = cost; order = a ∷ b ∷ replicate 1
 dear-home : List ℕ
 dear-home = 0 ∷ 1 ∷ 5 ∷ 1 ∷ 0 ∷ 1 ∷ 100 ∷ 5 ∷ 0 ∷ []
 
-first-by-end : map (λ bound. firstAnswer 2 bound dear-home) (0 ∷ 1 ∷ 2 ∷ 3 ∷ []) ≡ two 11 2 1 ∷ two 11 2 1 ∷ two 2 1 2 ∷ two 2 1 2 ∷ []
+each-end : map (λ bound. firstAnswer 2 bound dear-home) (0 ∷ 1 ∷ 2 ∷ 3 ∷ []) ≡ two 11 2 1 ∷ two 11 2 1 ∷ two 2 1 2 ∷ two 2 1 2 ∷ []
 unfolding computed dear-home two
-first-by-end = refl
+each-end = refl
 
 -- no bound 4 (request A.5)
 no-bound-4 : firstAnswer 2 4 dear-home ≡ refused 4

@@ -11,18 +11,18 @@ use lib.ListN.{length, take, replicate}
 use Rattle.sizes.specs.Sizes.{mostStops, orderPlaces}
 use Rattle.lists.specs.Lists.{In, sum, from, padded}
 use Rattle.orders.specs.Orders.{Node, Order}
-use Rattle.stops.specs.Tables.{entry, charge, rows, legRows, landing}
+use Rattle.stops.specs.Tables.{entry, charge, counted, rows, legRows, landing}
 use Rattle.stops.specs.Legs.{Legs, legs, path, cost}
 use Rattle.stops.specs.Bounds.{endsAway}
 use Rattle.answer.specs.Call.{Call, Answer}
 use Rattle.answer.specs.declared.Job.{Job}
-use Rattle.answer.specs.Checks.{cause₅, tableCause, boundCause, jobCause}
+use Rattle.answer.specs.Checks.{cause₅, noSuchBound, orLater, tableCause, boundCause, jobCause}
 use Rattle.answer.specs.Ends.{Finishes}
 use Rattle.answer.specs.Demands.{Planner}
 use Rattle.answer.specs.AsBefore.{NoCharges, legTableCause}
 use Rattle.first_answer.specs.Nearest.{anyNode, cheapest, nearest}
 use Rattle.first_answer.specs.Exchanges.{exchanged, Settles, settled, lowered, improved}
-use Rattle.first_answer.specs.First.{legsOf, nearestOf, firstAnswer, Promised}
+use Rattle.first_answer.specs.First.{legsOf, nearestOf, Promised}
 use Rattle.first_answer.specs.declared.FirstOrder.{FirstOrder}
 
 -- of some elements, a has the least f and is the first that has: each in front of it has a greater one
@@ -108,11 +108,12 @@ PlanNoDearer P =
 
 -- REQUEST A.4
 
--- the nearest stop, and every order, is reckoned by legs that have the landing: from i to a stop j the table's leg and the charge of j
+-- the nearest stop, and every order, is reckoned by legs that have the landing: from i to j the table's leg and the charge of j; on a day that ends
+-- away no leg home counts (request A.5)
 abbrev pub FirstFlies : Type 0
 FirstFlies =
-    (n bound : ℕ) (table : List ℕ) → n ≤ mostStops → (i j : ℕ) → i ≤ n → 1 ≤ j → j ≤ n
-    → legsOf n bound table .leg i j ≡ entry n table i j + charge n table j
+    (n bound : ℕ) (table : List ℕ) → n ≤ mostStops → (i j : ℕ) → i ≤ n → j ≤ n
+    → legsOf n bound table .leg i j ≡ counted (endsAway bound) (λ i j. entry n table i j + charge n table j) i j
 
 -- the cost is that of the order's legs as the table has them, and of every landing, home's included where the day ends there
 abbrev pub FirstPays : Type 0
@@ -127,12 +128,11 @@ firstOn L n zero =
     record { number = 0; cost = cost L x; order = padded orderPlaces x }
 firstOn L n (suc k) = record { number = suc k; cost = 0; order = replicate orderPlaces 0 }
 
--- with all charges 0 and a day that ends at home, what is returned is what was returned before the requests: by the legs alone, and by
--- document 01's causes
+-- with all charges 0, what is returned is what the legs alone give, and causes 1 to 3 are document 01's
 abbrev pub FirstUncharged : Type 0
 FirstUncharged =
-    (n bound : ℕ) (table : List ℕ) (r : FirstOrder) → Promised n bound table r → bound ≤ 1 → NoCharges n table
-    → r ≡ firstOn (legs (legRows n false table)) n (legTableCause n table 0)
+    (n bound : ℕ) (table : List ℕ) (r : FirstOrder) → Promised n bound table r → NoCharges n table
+    → r ≡ firstOn (legs (legRows n (endsAway bound) table)) n (legTableCause n table (orLater (noSuchBound bound) 4 0))
 
 -- REQUEST A.5
 
@@ -142,13 +142,16 @@ FirstEndsHome =
     (n bound : ℕ) (table : List ℕ) (r : FirstOrder) → Promised n bound table r → bound ≤ 1
     → r ≡ firstOn (legs (rows n false table)) n (tableCause n table 0)
 
--- where the day ends away no leg home counts: the cost is the path cost of the order, and no exchange has a lower one
+-- where the day ends away no leg home counts: the cost is the path cost of the order, no exchange has a lower one, nor has the nearest-stop order
 abbrev pub FirstEndsAway : Type 0
 FirstEndsAway =
     (n bound : ℕ) (table : List ℕ) (r : FirstOrder) → Given n bound table r → endsAway bound ≡ true →
     let L : Legs = legs (rows n false table) in
     (r .cost ≡ path L (shown n r)) × ((p q : ℕ) → p < q → q < n → r .cost ≤ path L (exchanged (shown n r) p q))
+    × (r .cost ≤ path L (nearestOf n bound table))
 
 -- of the bound, only where the day ends plays a part: plain and close have one first order
 abbrev pub FirstByEnd : Type 0
-FirstByEnd = (n a b : ℕ) (table : List ℕ) → a ≤ 3 → b ≤ 3 → endsAway a ≡ endsAway b → firstAnswer n a table ≡ firstAnswer n b table
+FirstByEnd =
+    (n a b : ℕ) (table : List ℕ) (r s : FirstOrder) → Promised n a table r → Promised n b table s
+    → a ≤ 3 → b ≤ 3 → endsAway a ≡ endsAway b → r ≡ s

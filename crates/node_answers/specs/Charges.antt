@@ -29,7 +29,7 @@ FiguresPathPays =
     (x : Record) (job : Job) (table : List ℕ) → T (isNode (job .n) x) → jobCause job table [] 0 ≡ 0
     → figures true x job table .path ≡ legDay job table .path (flownStops x) + sum (landed job table) (flownStops x)
 
--- a plain bound too, and home's once no stop is left
+-- a plain bound too and, once no stop is left, home's where the day ends there
 abbrev pub FiguresPlainPays : Type 0
 FiguresPlainPays =
     (x : Record) (job : Job) (table : List ℕ) → T (isNode (job .n) x) → jobCause job table [] 0 ≡ 0 → isClose (job .bound) ≡ false
@@ -37,7 +37,7 @@ FiguresPlainPays =
     ≡ legDay job table .bound (job .bound) (flownStops x)
     + (sum (landed job table) (flownStops x) + cond (complete (job .n) (flownStops x)) (landed job table 0) 0)
 
--- a close bound has every landing
+-- a close bound has every landing, home's where the day ends there
 abbrev pub FiguresClosePays : Type 0
 FiguresClosePays =
     (x : Record) (job : Job) (table : List ℕ) → T (isNode (job .n) x) → jobCause job table [] 0 ≡ 0 → isClose (job .bound) ≡ true

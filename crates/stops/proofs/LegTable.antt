@@ -1,6 +1,6 @@
 -- Rows, and the legs that they give.
 --   leg-in-rows      from i to j rows have the cost that they were made of, for places up to n; leg-outside: other legs are 0
---   counted-all, counted-stop, counted-home    which legs count
+--   counted-stop, counted-home    which legs count
 --   leg-flying       the planner's have the table's leg and the charge of j, for a stop j
 --   in-table         every number of a table is one of its entries
 --   entry-small      no number of the table is above the dearest leg, where it is priced
@@ -24,11 +24,7 @@ use Rattle.stops.specs.Legs.{rowLeg, legs}
 use Rattle.stops.specs.Code.{Priced, Cheap}
 use Rattle.stops.specs.Examples
 
--- on a day that ends at home every leg counts, on one that ends away those to the stops
-pub counted-all : (costs : ℕ → ℕ → ℕ) (i j : ℕ) → counted false costs i j ≡ costs i j
-unfolding counted
-counted-all costs i j = refl
-
+-- on a day that ends away the legs to the stops count what they cost
 pub counted-stop : (away : Bool) (costs : ℕ → ℕ → ℕ) (i j : ℕ) → 1 ≤ j → counted away costs i j ≡ costs i j
 unfolding counted
 counted-stop false costs i j h = refl

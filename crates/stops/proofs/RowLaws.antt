@@ -2,7 +2,7 @@
 --   entry-at                a number of the table, by its place
 --   Clear, charge-finds, charge-skips, charges-end    a loop that looks for a charge that is too dear
 --   Inside, place-inside    a place of the table is within it, and the table is small
---   filled, filled-none, filled-more    a loop that fills an array, as long as a row, from the front
+--   filled, filled-none, filled-next, filled-more    a loop that fills an array, as long as a row, from the front
 --   filled-row, filled-rows    a row and the rows, once the places up to n are filled
 --   uncounted, uncounted-none, uncounted-more, uncounted-all    a loop that takes the legs home out of the rows
 use mathlib.Core.Path.{_≡_, refl, ap, sym, _∙_}
@@ -137,7 +137,7 @@ module _ (n : ℕ) (table : List ℕ) where
         at i true = refl
         at i false = refl
 
-  -- row i of the rows, and the rows of a day that ends away in the first k rows
+  -- row i; and, `uncounted k`, the rows with those before k without their leg home
   abbrev rowBy : Bool → Bool → ℕ → List ℕ
   rowBy inside away i = map (λ j. cond (inside && leb j n) (counted away (flying n table) i j) 0) (from 0 places)
 

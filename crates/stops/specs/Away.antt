@@ -10,7 +10,7 @@ use Rattle.days.specs.Days.{Day}
 use Rattle.stops.specs.Legs.{Legs, legs, path}
 use Rattle.stops.specs.Bounds.{isClose, cheapestInto, dominates}
 
--- close: the path cost and, for each stop that is left, the cheapest leg into it
+-- close: the path cost and, for each stop that is left, the cheapest leg into it; of a complete node, which leaves none, the path cost
 unfoldable pub closeAway : ℕ → Legs → Node → ℕ
 closeAway n L x = path L x + sum (cheapestInto L (last x) (left n x)) (left n x)
 

@@ -1,4 +1,4 @@
--- Legs, path costs and the cost of an order: document 01, "Legs and orders" and "Nodes". A leg here is what flying it counts, its landing
+-- Legs, path costs and the cost of an order: document 01, "Legs and orders" and "Nodes". A leg here is what it counts to fly it, its landing
 -- included (requests A.4 and A.5, `flying` and `counted` in Tables).
 use mathlib.Core.List.{List, [], _∷_}
 use Prim.Native.Nat.{ℕ, _+_}

@@ -33,7 +33,7 @@ inRows n costs = map (λ i. map (λ j. cond (leb i n && leb j n) (costs i j) 0) 
 unfoldable pub rows : ℕ → Bool → List ℕ → List (List ℕ)
 rows n away table = inRows n (counted away (flying n table))
 
--- To compare with: the legs alone, as document 01 had them in its rows before request A.4; and what a landing counts, its charge, but at home
+-- To compare with: the legs alone, which on a day that ends at home are document 01's rows; and what a landing counts, its charge, but at home
 -- nothing where no leg home counts.
 unfoldable pub legRows : ℕ → Bool → List ℕ → List (List ℕ)
 legRows n away table = inRows n (counted away (entry n table))
