@@ -1,4 +1,4 @@
--- A day that ends away, at its last stop, as request A.5 words it, over any legs: no leg home counts, neither in an order's cost nor in a bound.
+-- A day that ends away, at its last stop, as request A.5 words it, over any legs: its orders and its bounds are reckoned without a leg home.
 -- The planner's day for bounds 2 and 3 has its rows with zeros for the legs home (`rows`); proofs/ shows that its figures are these, by the legs
 -- of the same table's day that ends at home.
 use mathlib.Core.Bool.{cond}
