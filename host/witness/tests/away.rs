@@ -2,8 +2,9 @@
 
 mod common;
 
+use common::by_hand::{expect, on_t};
 use common::course::{course, course_away};
-use common::{away_choices, check_finished, Job};
+use common::{away_choices, Job};
 use samples::{charged, level, T};
 use witness::enumerate::{all_orders, cheapest_orders, least_cost};
 use witness::legs::{Ends, Legs};
@@ -17,17 +18,6 @@ const TWO: [u32; 9] = [7, 1, 2, 3, 10, 4, 5, 6, 20];
 /// Home again, order 12 is cheaper: 1 + 4 + 1 against 2 + 1 + 9. Away, it is
 /// 21: 1 + 4 against 2 + 1.
 const TURNED: [u32; 9] = [0, 1, 2, 9, 0, 4, 1, 1, 0];
-
-fn expect(job: &Job, records: usize, cost: u32, order: &[u32], counts: [u64; 5]) {
-    let (report, pool) = job.run(records);
-    check_finished(job, &report, &pool, cost);
-    assert_eq!(&report.order[..job.n], order);
-    assert_eq!(report.counts(), counts);
-}
-
-fn on_t(choices: [u64; 3], start: &[u32]) -> Job {
-    Job::new(3, &T, choices, start)
-}
 
 /// Out and between the stops, and nothing behind the last of them.
 #[test]

@@ -2,22 +2,12 @@
 
 mod common;
 
-use common::{check_finished, Job};
+use common::by_hand::{expect, on_t};
+use common::Job;
 use samples::{level, T};
 use witness::enumerate::{all_orders, cheapest_orders, least_cost};
 use witness::legs::{Ends, Legs};
 use witness::node::{Bound, Node};
-
-fn expect(job: &Job, records: usize, cost: u32, order: &[u32], counts: [u64; 5]) {
-    let (report, pool) = job.run(records);
-    check_finished(job, &report, &pool, cost);
-    assert_eq!(&report.order[..job.n], order);
-    assert_eq!(report.counts(), counts);
-}
-
-fn on_t(choices: [u64; 3], start: &[u32]) -> Job {
-    Job::new(3, &T, choices, start)
-}
 
 #[test]
 fn costs_of_the_orders_in_t() {

@@ -2,8 +2,9 @@
 
 mod common;
 
+use common::by_hand::expect;
 use common::course::course;
-use common::{check_finished, choices, Job};
+use common::{choices, Job};
 use samples::{charged, level, T};
 use witness::legs::{Ends, Legs};
 use witness::node::{Bound, Node};
@@ -12,13 +13,6 @@ use witness::{Report, STOPPED};
 /// Two stops; landings cost 7 at home, 10 at stop 1 and 20 at stop 2. Flying
 /// costs 11 and 22 from home, 24 from 1 to 2, 16 from 2 to 1, 10 and 12 home.
 const TWO: [u32; 9] = [7, 1, 2, 3, 10, 4, 5, 6, 20];
-
-fn expect(job: &Job, records: usize, cost: u32, order: &[u32], counts: [u64; 5]) {
-    let (report, pool) = job.run(records);
-    check_finished(job, &report, &pool, cost);
-    assert_eq!(&report.order[..job.n], order);
-    assert_eq!(report.counts(), counts);
-}
 
 /// Order 12 pays 11, 24 and 12; order 21 pays 22, 16 and 10.
 #[test]

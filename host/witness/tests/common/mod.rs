@@ -3,6 +3,7 @@
 //! of days that end home and of days that end away.
 #![allow(dead_code)]
 
+pub mod by_hand;
 pub mod course;
 
 use samples::{Random, KINDS};
