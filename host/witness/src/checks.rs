@@ -1,8 +1,10 @@
 //! Refusals 1 to 6, the lowest number that applies (document 01, "Causes and
-//! numbers"; number 3 with request A.4 of document 02, number 4 with A.5).
+//! numbers"; number 3 with request A.4 of document 02, number 4 with A.5), and
+//! between 5 and 6 request A.6's number 11.
 
 use crate::legs::{Legs, Place, MOST_STOPS};
 use crate::node::Bound;
+use crate::pairs::Pairs;
 use crate::run::{Job, Rules, Selection};
 use crate::words::WORDS;
 
@@ -24,34 +26,43 @@ pub struct Request<'a> {
     pub rules: u64,
     pub bound: u64,
     pub start: &'a [u32],
+    /// The pair file's bytes.
+    pub pairs: &'a [u8],
     /// Branchings to be made at most; no check looks at it.
     pub budget: u64,
 }
 
+/// A starting order that is a permutation gets number 5 only behind pairs that
+/// pass, so that 11 may be asked for first.
 pub fn check(request: &Request, pool_words: usize) -> Result<Job, u32> {
     let job = check_job(request)?;
+    let pairs = Pairs::read(job.legs.n, request.pairs).ok_or(11u32)?;
+    if !pairs.respected_by(&job.start) {
+        return Err(5);
+    }
     if pool_words == 0 || pool_words % WORDS != 0 {
         return Err(6);
     }
-    Ok(job)
+    Ok(Job { pairs, ..job })
 }
 
-/// Refusals 1 to 5, which don't look at the pool.
+/// Refusals 1 to 5, which look at neither pairs nor pool. The job has no pairs.
 pub fn check_job(request: &Request) -> Result<Job, u32> {
     let legs = check_legs(request.n, request.table)?;
     let selection = selection(request.selection).ok_or(4u32)?;
     let rules = rules(request.rules).ok_or(4u32)?;
     let bound = bound(request.bound).ok_or(4u32)?;
     let start = starting_order(legs.n, request.start).ok_or(5u32)?;
-    Ok(Job { legs, selection, rules, bound, start, budget: request.budget })
+    Ok(Job { legs, selection, rules, bound, start, pairs: Pairs::none(), budget: request.budget })
 }
 
-/// Refusals 1 to 4 of the first order's call (requests A.1 and A.5), whose
-/// number 4 looks at the bound alone.
-pub fn check_first(n: u64, bound_number: u64, table: &[u32]) -> Result<(Legs, Bound), u32> {
+/// Refusals 1 to 4 and 11 of the first order's call (requests A.1, A.5 and
+/// A.6), whose number 4 looks at the bound alone.
+pub fn check_first(n: u64, bound_number: u64, table: &[u32], pairs: &[u8]) -> Result<(Legs, Bound, Pairs), u32> {
     let legs = check_legs(n, table)?;
     let bound = bound(bound_number).ok_or(4u32)?;
-    Ok((legs, bound))
+    let pairs = Pairs::read(legs.n, pairs).ok_or(11u32)?;
+    Ok((legs, bound, pairs))
 }
 
 /// Refusals 1 to 3, which look at n and the table alone.

@@ -1,9 +1,11 @@
 //! The first order (request A.1 of document 02): the nearest-stop order, then
 //! exchanges of two of its stops as long as one lowers the cost. The bound
-//! number says which cost (request A.5): with the leg home or without.
+//! number says which cost (request A.5): with the leg home or without. The
+//! pairs say which stops and exchanges are allowed (request A.6).
 
 use crate::checks::check_first;
 use crate::legs::{Ends, Legs, Place, MOST_STOPS};
+use crate::pairs::Pairs;
 use crate::words::in_places;
 
 #[derive(Clone, Copy, PartialEq, Eq, Debug, Default)]
@@ -14,55 +16,58 @@ pub struct FirstOrder {
     pub order: [u32; MOST_STOPS],
 }
 
-/// The whole call: number 0 with cost and order, or a number from 1 to 4 and
-/// zeros.
-pub fn first_order(n: u64, bound: u64, table: &[u32]) -> FirstOrder {
-    match check_first(n, bound, table) {
-        Ok((legs, bound)) => {
-            let order = exchanged(&legs, bound.ends(), nearest_stop_order(&legs));
+/// The whole call: number 0 with cost and order, or a number from 1 to 4 or 11
+/// and zeros. `pairs` has the pair file's bytes.
+pub fn first_order(n: u64, bound: u64, table: &[u32], pairs: &[u8]) -> FirstOrder {
+    match check_first(n, bound, table, pairs) {
+        Ok((legs, bound, pairs)) => {
+            let order = exchanged(&legs, &pairs, bound.ends(), nearest_stop_order(&legs, &pairs));
             FirstOrder { number: 0, cost: legs.order_cost(&order, bound.ends()), order: in_places(&order) }
         }
         Err(number) => FirstOrder { number, ..FirstOrder::default() },
     }
 }
 
-/// From each place on to the nearest stop not yet flown, wherever the day ends.
-pub fn nearest_stop_order(legs: &Legs) -> Vec<Place> {
+/// From each place on to the nearest allowed stop not yet flown, wherever the
+/// day ends.
+pub fn nearest_stop_order(legs: &Legs, pairs: &Pairs) -> Vec<Place> {
     let mut order = Vec::new();
     let mut place = 0;
     while order.len() < legs.n {
-        place = nearest_stop(legs, place, &order);
+        place = nearest_stop(legs, pairs, place, &order);
         order.push(place);
     }
     order
 }
 
-/// The stop not yet flown that is cheapest to fly to and land at, the lowest
-/// number of several.
-fn nearest_stop(legs: &Legs, from: Place, flown: &[Place]) -> Place {
-    let left: Vec<Place> = (1..=legs.n).filter(|stop| !flown.contains(stop)).collect();
-    let cheapest = left.iter().map(|&stop| legs.flying(from, stop)).min().expect("a stop is left");
-    left.into_iter().find(|&stop| legs.flying(from, stop) == cheapest).unwrap()
+/// Of the stops not yet flown that the pairs allow, the one that is cheapest to
+/// fly to and land at, the lowest number of several.
+fn nearest_stop(legs: &Legs, pairs: &Pairs, from: Place, flown: &[Place]) -> Place {
+    let left = (1..=legs.n).filter(|stop| !flown.contains(stop));
+    let allowed: Vec<Place> = left.filter(|&stop| pairs.allow(stop, flown)).collect();
+    let cheapest = allowed.iter().map(|&stop| legs.flying(from, stop)).min().expect("an allowed stop is left");
+    allowed.into_iter().find(|&stop| legs.flying(from, stop) == cheapest).unwrap()
 }
 
 /// The order after all exchanges; each lowers the cost, so they end.
-fn exchanged(legs: &Legs, ends: Ends, start: Vec<Place>) -> Vec<Place> {
+fn exchanged(legs: &Legs, pairs: &Pairs, ends: Ends, start: Vec<Place>) -> Vec<Place> {
     let mut order = start;
-    while let Some(next) = best_exchange(legs, ends, &order) {
+    while let Some(next) = best_exchange(legs, pairs, ends, &order) {
         order = next;
     }
     order
 }
 
-/// What the exchange that lowers the cost most makes of the order, the first
-/// of several such; None if no exchange lowers it.
-pub fn best_exchange(legs: &Legs, ends: Ends, order: &[Place]) -> Option<Vec<Place>> {
-    let all = exchanges(order);
-    let least = all.iter().map(|next| legs.order_cost(next, ends)).min()?;
+/// What the allowed exchange that lowers the cost most makes of the order, the
+/// first of several such; None if no allowed exchange lowers it.
+pub fn best_exchange(legs: &Legs, pairs: &Pairs, ends: Ends, order: &[Place]) -> Option<Vec<Place>> {
+    let mut allowed = exchanges(order);
+    allowed.retain(|next| pairs.respected_by(next));
+    let least = allowed.iter().map(|next| legs.order_cost(next, ends)).min()?;
     if least >= legs.order_cost(order, ends) {
         return None;
     }
-    all.into_iter().find(|next| legs.order_cost(next, ends) == least)
+    allowed.into_iter().find(|next| legs.order_cost(next, ends) == least)
 }
 
 /// The order with the stops at positions p and q in each other's place, for

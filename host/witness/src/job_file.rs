@@ -20,7 +20,7 @@ pub struct Contents {
 }
 
 impl Contents {
-    /// With the largest budget, as a file holds none.
+    /// Without pairs and with the largest budget, as a file holds neither.
     pub fn request(&self) -> Request<'_> {
         Request {
             n: self.n,
@@ -29,6 +29,7 @@ impl Contents {
             rules: self.rules,
             bound: self.bound,
             start: &self.start,
+            pairs: &[],
             budget: LARGEST_BUDGET,
         }
     }
@@ -80,7 +81,8 @@ pub fn read(file: &[u8]) -> Result<Contents, u32> {
 }
 
 /// Writes a job's file at the front of the buffer and returns its length, or
-/// the first number of 1 to 5 and 10 that applies. The budget isn't written.
+/// the first number of 1 to 5 and 10 that applies. Pairs and budget are neither
+/// looked at nor written.
 pub fn write(job: &Request, buffer: &mut [u8]) -> Result<usize, u32> {
     check_job(job)?;
     let file = bytes(job);

@@ -1,19 +1,20 @@
-//! A second planner, written from document 01 and requests A.1, A.3, A.4 and
-//! A.5 of document 02 alone, in plain lists and literal passes, and a second
+//! A second planner, written from document 01 and requests A.1 and A.3 to A.6
+//! of document 02 alone, in plain lists and literal passes, and a second
 //! reader and writer of job files, which follow document 01's text. They serve
 //! as witnesses beside the proved ones. Request A.2 changes no answer, so there
 //! is nothing of it here.
 //!
 //! In reading order: `legs` (table, request A.4's charges and the cost of an
-//! order, with the leg home or, by request A.5, without), `node` (partial
-//! orders, bounds, dominance), `checks` (refusals 1 to 6), `run` (the run,
-//! request A.3's budget and refusal 7), `words` (report and pool),
-//! `first_order` (request A.1's call), `enumerate` (all n! orders), `job_file`
-//! (reader and writer), `program` (what `plan` prints).
+//! order, with the leg home or, by request A.5, without), `pairs` (request
+//! A.6's pick-ups and drops), `node` (partial orders, bounds, dominance),
+//! `checks` (refusals 1 to 6 and 11), `run` (the run, request A.3's budget and
+//! refusal 7), `words` (report and pool), `first_order` (request A.1's call),
+//! `enumerate` (all n! orders), `job_file` (reader and writer), `program` (what
+//! `plan` prints).
 //!
 //! Where the texts leave a choice, this planner takes these, 1 to 12 from
 //! document 01, 13 to 16 from request A.1, 17 to 25 from request A.3, 26 to 32
-//! from request A.4 and the rest from request A.5:
+//! from request A.4, 33 to 41 from request A.5 and the rest from request A.6:
 //!
 //! 1. Selection, rules, bound and n come in as 64-bit numbers and stops of the
 //!    starting order as 32-bit ones, so that every refusal can be provoked.
@@ -45,8 +46,8 @@
 //! 15. After each exchange all pairs are looked at anew, by the cost of the
 //!     whole order. An exchange that leaves the cost the same isn't made.
 //! 16. The first order's call takes n and the table, with request A.5 the bound
-//!     number (39), and nothing else; n is as in 1 and checks are as in 2. Its
-//!     order has the report's sixteen places.
+//!     number (39), with request A.6 the pairs (53), and nothing else; n is as
+//!     in 1 and checks are as in 2. Its order has the report's sixteen places.
 //! 17. Every 64-bit number is a budget: none is refused, and the checks come
 //!     first whatever it is. The first order's call takes none.
 //! 18. The budget stops a run that is not finished and has made as many
@@ -115,6 +116,39 @@
 //!     none of these legs leads home.
 //! 41. A job file keeps its form. Its byte for the bound may be 2 or 3, which
 //!     reader, writer and `plan` let pass.
+//! 42. Pairs are handed in as the pair file's bytes, the pick-up and then the
+//!     drop of each pair. No byte is no pair: nothing of 43 to 53 then changes
+//!     an answer, and there is no other way to say that there are none.
+//! 43. A pair file passes if its bytes are sixteen at most, an even number of
+//!     them, and stops from 1 to n of which no two are the same. Any other gets
+//!     11, whichever of its faults it has and however many.
+//! 44. The sequence of the checks is 1 to 5, 11, 6: "the lowest number that
+//!     applies" doesn't hold of 11.
+//! 45. A starting order that is no permutation gets 5 whatever the pairs are.
+//!     One that is gets 5 if the pairs pass and it goes against one of them;
+//!     against pairs that don't pass it isn't held, and they get 11. An empty
+//!     one goes against none.
+//! 46. A drop may be flown once its pick-up has been, at once or with other
+//!     stops between. All other stops may be flown at any time.
+//! 47. A child that the pairs forbid isn't made: "generated" doesn't count it,
+//!     no bound is asked of it, and it isn't eliminated.
+//! 48. Bounds are as they were: close has the cheapest legs between stops to
+//!     come, also those that the pairs keep anyone from flying. Dominance is as
+//!     it was too: nodes of one set have the same stops allowed to come.
+//! 49. A node that isn't complete always has a child: if a stop to come is
+//!     forbidden, its pick-up is to come as well and is no drop of another
+//!     pair, so it is allowed.
+//! 50. Orders that go against the pairs have no say: the least cost, the floor
+//!     and what may start a run are of those that respect them.
+//! 51. In which sequence the pairs stand in their file plays no part. Jobs held
+//!     against each other have the same pairs.
+//! 52. Pairs stand in no job file. The reader's and the writer's checks don't
+//!     ask for them, and `plan` plans without.
+//! 53. The first order's call has the pairs behind the table, and its number 11
+//!     comes behind 4. Its nearest stop is the nearest of those allowed by the
+//!     stops flown so far, ties among these by the lowest number. An exchange
+//!     is allowed if the whole order that it makes respects the pairs; the
+//!     greatest gain and its ties are among those allowed.
 
 pub mod checks;
 pub mod enumerate;
@@ -122,6 +156,7 @@ pub mod first_order;
 pub mod job_file;
 pub mod legs;
 pub mod node;
+pub mod pairs;
 pub mod program;
 pub mod run;
 pub mod words;

@@ -1,7 +1,9 @@
 //! Partial orders, their bounds, and dominance (document 01, "Nodes", with the
-//! landings of request A.4 of document 02 and the days away of request A.5).
+//! landings of request A.4 of document 02, the days away of request A.5 and the
+//! pairs of request A.6).
 
 use crate::legs::{Ends, Legs, Place};
+use crate::pairs::Pairs;
 
 #[derive(Clone, Copy, PartialEq, Eq, Debug)]
 pub enum Bound {
@@ -71,9 +73,10 @@ impl Node {
         child
     }
 
-    pub fn children(&self, legs: &Legs, kind: Bound) -> Vec<Node> {
-        let unflown = self.unflown(legs);
-        unflown.into_iter().map(|s| self.extended(s, legs, kind)).collect()
+    /// By each stop not yet flown that the pairs allow, ascending.
+    pub fn children(&self, legs: &Legs, kind: Bound, pairs: &Pairs) -> Vec<Node> {
+        let allowed = self.unflown(legs).into_iter().filter(|&s| pairs.allow(s, &self.stops));
+        allowed.map(|s| self.extended(s, legs, kind)).collect()
     }
 
     fn bound_by(&self, legs: &Legs, kind: Bound) -> u32 {

@@ -1,6 +1,6 @@
 //! What document 01's program `plan` prints, by the second reader and the
-//! second planner. A file's job comes with the largest budget, which stops no
-//! run: there is neither mark nor floor to print.
+//! second planner. A file's job comes without pairs and with the largest budget,
+//! which stops no run: there is neither mark nor floor to print.
 
 use crate::job_file::{read, LONGEST};
 use crate::{plan, Report, WORDS};

@@ -5,6 +5,7 @@ use std::rc::Rc;
 
 use crate::legs::{Legs, Place};
 use crate::node::{Bound, Node};
+use crate::pairs::Pairs;
 
 #[derive(Clone, Copy, PartialEq, Eq, Debug)]
 pub enum Selection {
@@ -34,6 +35,7 @@ pub struct Job {
     pub bound: Bound,
     /// Empty if none is given.
     pub start: Vec<Place>,
+    pub pairs: Pairs,
     /// Of branchings.
     pub budget: u64,
 }
@@ -177,7 +179,8 @@ impl State {
         // 1
         let b = next.active.remove(b);
         next.branched.push(b.clone());
-        let mut children: Vec<Rc<Node>> = b.children(&job.legs, job.bound).into_iter().map(Rc::new).collect();
+        let generated = b.children(&job.legs, job.bound, &job.pairs);
+        let mut children: Vec<Rc<Node>> = generated.into_iter().map(Rc::new).collect();
         next.generated += children.len() as u64;
         // 2
         for child in &children {

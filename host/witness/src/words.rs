@@ -33,7 +33,7 @@ pub struct Report {
 }
 
 impl Report {
-    /// A number from 1 to 6, and zeros.
+    /// A number from 1 to 6 or 11, and zeros.
     pub fn refusal(number: u32) -> Report {
         Report { number, ..Report::default() }
     }

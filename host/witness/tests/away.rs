@@ -9,6 +9,7 @@ use samples::{charged, level, T};
 use witness::enumerate::{all_orders, cheapest_orders, least_cost};
 use witness::legs::{Ends, Legs};
 use witness::node::{Bound, Node};
+use witness::pairs::Pairs;
 use witness::{Report, STOPPED};
 
 /// Two stops; landings cost 7 at home, 10 at stop 1 and 20 at stop 2. Flying
@@ -36,7 +37,7 @@ fn nodes(n: usize, table: &[u32], kind: Bound) -> Vec<(u32, u32)> {
     let (mut all, mut sized) = (Vec::new(), vec![Node::empty(&legs, kind)]);
     while !sized.is_empty() {
         all.extend(sized.iter().map(|y| (y.path, y.bound)));
-        sized = sized.iter().flat_map(|y| y.children(&legs, kind)).collect();
+        sized = sized.iter().flat_map(|y| y.children(&legs, kind, &Pairs::none())).collect();
     }
     all
 }
@@ -197,7 +198,7 @@ fn way_home_is_checked() {
                 table[place] = entry;
                 let job = Job::new(3, &table, [0, 1, bound], &[]);
                 let (report, _) = job.run(16);
-                assert_eq!(witness::first_order(3, bound, &table).number, report.number);
+                assert_eq!(witness::first_order(3, bound, &table, &[]).number, report.number);
                 report.number
             };
             assert_eq!((number(most), number(most + 1)), (0, 3), "{place}");

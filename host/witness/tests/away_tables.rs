@@ -149,7 +149,7 @@ fn way_home_changes_nothing() {
         let (records, budget) = (1 + random.below(60) as usize, random.below(60));
         assert_eq!(job.within(budget).run(records), other.within(budget).run(records), "{job:?}");
         assert_eq!(job.run(ample(n)), other.run(ample(n)), "{job:?}");
-        let first = |job: &Job| first_order(n as u64, job.bound, &job.table);
+        let first = |job: &Job| first_order(n as u64, job.bound, &job.table, &[]);
         assert_eq!(first(&job), first(&other), "{job:?}");
     }
 }
@@ -166,7 +166,7 @@ fn way_home_matters_at_home() {
         let (one, two) = (job.run(ample(4)).0, other.run(ample(4)).0);
         reports += (one != two) as u32;
         orders += (one.order != two.order) as u32;
-        let first = |job: &Job| first_order(4, job.bound, &job.table).order;
+        let first = |job: &Job| first_order(4, job.bound, &job.table, &[]).order;
         firsts += (first(&job) != first(&other)) as u32;
     }
     assert!(reports > 200 && orders > 100 && firsts > 50, "{reports} {orders} {firsts}");
@@ -183,7 +183,7 @@ fn free_way_home() {
         let (records, budget) = (1 + random.below(60) as usize, random.below(60));
         assert_eq!(job.within(budget).run(records), free.within(budget).run(records), "{job:?}");
         assert_eq!(job.run(ample(n)), free.run(ample(n)), "{job:?}");
-        let first = |job: &Job| first_order(n as u64, job.bound, &job.table);
+        let first = |job: &Job| first_order(n as u64, job.bound, &job.table, &[]);
         assert_eq!(first(&job), first(&free), "{job:?}");
     }
 }

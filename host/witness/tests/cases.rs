@@ -8,6 +8,7 @@ use samples::{level, T};
 use witness::enumerate::{all_orders, cheapest_orders, least_cost};
 use witness::legs::{Ends, Legs};
 use witness::node::{Bound, Node};
+use witness::pairs::Pairs;
 
 #[test]
 fn costs_of_the_orders_in_t() {
@@ -94,7 +95,7 @@ fn case_k() {
     let legs = Legs::new(3, &T);
     let e = Node::empty(&legs, Bound::Close);
     assert_eq!(e.bound, 10);
-    let bounds: Vec<u32> = e.children(&legs, Bound::Close).iter().map(|y| y.bound).collect();
+    let bounds: Vec<u32> = e.children(&legs, Bound::Close, &Pairs::none()).iter().map(|y| y.bound).collect();
     assert_eq!(bounds, [10, 18, 19]);
 }
 

@@ -8,6 +8,7 @@ use common::{choices, Job};
 use samples::{charged, level, T};
 use witness::legs::{Ends, Legs};
 use witness::node::{Bound, Node};
+use witness::pairs::Pairs;
 use witness::{Report, STOPPED};
 
 /// Two stops; landings cost 7 at home, 10 at stop 1 and 20 at stop 2. Flying
@@ -27,8 +28,8 @@ fn orders_of_two_stops() {
 fn nodes_of_two_stops(kind: Bound) -> Vec<(u32, u32)> {
     let legs = Legs::new(2, &TWO);
     let e = Node::empty(&legs, kind);
-    let sized_1 = e.children(&legs, kind);
-    let sized_2: Vec<Node> = sized_1.iter().flat_map(|y| y.children(&legs, kind)).collect();
+    let sized_1 = e.children(&legs, kind, &Pairs::none());
+    let sized_2: Vec<Node> = sized_1.iter().flat_map(|y| y.children(&legs, kind, &Pairs::none())).collect();
     let all = [vec![e], sized_1, sized_2].concat();
     all.iter().map(|y| (y.path, y.bound)).collect()
 }
@@ -112,7 +113,7 @@ fn table_t_with_charges() {
     expect(&on_t([3, 1, 1], &[1, 2, 3]), 1, 74, &[1, 2, 3], [2, 6, 3, 1, 1]);
     let legs = Legs::new(3, &table);
     let e = Node::empty(&legs, Bound::Close);
-    let bounds: Vec<u32> = e.children(&legs, Bound::Close).iter().map(|y| y.bound).collect();
+    let bounds: Vec<u32> = e.children(&legs, Bound::Close, &Pairs::none()).iter().map(|y| y.bound).collect();
     assert_eq!((e.bound, bounds), (71, vec![71, 79, 80]));
 }
 

@@ -85,7 +85,7 @@ fn charges_within_the_legs() {
         let job = some_job(&mut random, n);
         let sums = folded(n, &job.table);
         if sums.iter().any(|&leg| leg > DEAREST_LEG) {
-            assert_eq!(first_order(n as u64, 0, &sums).number, 3);
+            assert_eq!(first_order(n as u64, 0, &sums, &[]).number, 3);
             dearer += 1;
             continue;
         }
@@ -93,7 +93,7 @@ fn charges_within_the_legs() {
         let other = over(sums, &job);
         assert_eq!(end(&job, records, budget), end(&other, records, budget), "{job:?}");
         assert_eq!(end(&job, ample(n), u64::MAX), end(&other, ample(n), u64::MAX), "{job:?}");
-        let first = |job: &Job| first_order(n as u64, job.bound, &job.table);
+        let first = |job: &Job| first_order(n as u64, job.bound, &job.table, &[]);
         assert_eq!(first(&job), first(&other), "{job:?}");
         same += 1;
     }
@@ -164,7 +164,8 @@ fn charges_change_the_search_somewhere() {
         let job = Job { bound: 0, ..some_job(&mut random, 5) };
         let bare = over(uncharged(5, &job.table), &job);
         counts += (job.run(ample(5)).0.counts() != bare.run(ample(5)).0.counts()) as u32;
-        orders += (first_order(5, 0, &job.table).order != first_order(5, 0, &bare.table).order) as u32;
+        let first = |job: &Job| first_order(5, 0, &job.table, &[]).order;
+        orders += (first(&job) != first(&bare)) as u32;
     }
     assert!(counts > 100 && orders > 50, "{counts} {orders}");
 }

@@ -108,7 +108,7 @@ fn ends_above_the_least_cost() {
 }
 
 fn number_by(n: u64, bound: u64, table: &[u32]) -> u32 {
-    let first = first_order(n, bound, table);
+    let first = first_order(n, bound, table, &[]);
     if first.number != 0 {
         assert_eq!((first.cost, first.order), (0, [0; 16]), "all else is zero");
     }

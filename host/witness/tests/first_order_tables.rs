@@ -25,7 +25,7 @@ fn over(n: usize, table: &[u32]) -> Job {
 }
 
 fn first(job: &Job) -> FirstOrder {
-    first_order(job.n as u64, job.bound, &job.table)
+    first_order(job.n as u64, job.bound, &job.table, &job.pairs)
 }
 
 /// What ranks an exchange, from the cost it leads to and its two positions.

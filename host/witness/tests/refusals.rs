@@ -1,48 +1,12 @@
 //! Refusals 1 to 6: each cause, the boundaries, and the lowest number of
 //! several (document 01, "Causes and numbers", and requests A.4 and A.5 of
-//! document 02).
+//! document 02), with request A.6's number 11 among them.
 
 mod common;
 
-use samples::{Random, T};
-use witness::{plan, Report, Request, LARGEST_BUDGET};
-
-/// A call on table T that passes every check, to be spoiled in places.
-#[derive(Clone)]
-struct Call {
-    n: u64,
-    table: Vec<u32>,
-    selection: u64,
-    rules: u64,
-    bound: u64,
-    start: Vec<u32>,
-    budget: u64,
-    pool: Vec<u32>,
-}
-
-fn good() -> Call {
-    let pool = (0..96).map(|i| 0xA5A5_0000 + i).collect();
-    let (table, start) = (T.to_vec(), vec![2, 3, 1]);
-    Call { n: 3, table, selection: 3, rules: 15, bound: 1, start, budget: LARGEST_BUDGET, pool }
-}
-
-fn number(call: &Call) -> u32 {
-    let mut pool = call.pool.clone();
-    let Call { n, ref table, selection, rules, bound, ref start, budget, .. } = *call;
-    let report = plan(&Request { n, table, selection, rules, bound, start, budget }, &mut pool);
-    if (1..=6).contains(&report.number) {
-        let bare = Report { number: report.number, ..Report::default() };
-        assert_eq!(report, bare, "all else is zero");
-        assert_eq!(pool, call.pool, "the pool stays as it was");
-    }
-    report.number
-}
-
-fn spoiled(spoil: impl Fn(&mut Call)) -> u32 {
-    let mut call = good();
-    spoil(&mut call);
-    number(&call)
-}
+use common::call::{good, number, spoiled, Call};
+use samples::Random;
+use witness::LARGEST_BUDGET;
 
 #[test]
 fn the_good_call_passes() {
@@ -183,6 +147,7 @@ fn spoil(call: &mut Call, number: u32, random: &mut Random) {
             _ => call.bound = 4,
         },
         5 => call.start = [vec![1], vec![1, 2, 2], vec![0, 1, 2]][way].clone(),
+        11 => call.pairs = [vec![2], vec![1, 4], vec![2, 1, 2, 3]][way].clone(),
         _ => {
             let words = [0, 5, 95][way];
             call.pool.truncate(words);
@@ -190,20 +155,24 @@ fn spoil(call: &mut Call, number: u32, random: &mut Random) {
     }
 }
 
-/// All 63 sets of causes: the lowest number is the answer, whatever the budget
-/// and wherever the day ends.
+/// In which sequence the numbers are asked for.
+const SEQUENCE: [u32; 7] = [1, 2, 3, 4, 5, 11, 6];
+
+/// All 127 sets of causes: the first in the sequence is the answer, whatever
+/// the budget, wherever the day ends, with pairs and without.
 #[test]
-fn lowest_number_of_several() {
+fn first_number_of_several() {
     let mut random = Random(41);
-    for causes in 1u32..64 {
+    for causes in 1u32..128 {
         for round in 0..40 {
             let mut call = good();
             call.budget = [0, 1, 1 << 32, LARGEST_BUDGET][round % 4];
             call.bound = [0, 1, 2, 3][round / 4 % 4];
-            for cause in (1..=6).filter(|c| causes >> (c - 1) & 1 == 1) {
+            call.pairs = [vec![], vec![2, 1]][round / 16 % 2].clone();
+            for (_, &cause) in SEQUENCE.iter().enumerate().filter(|(at, _)| causes >> at & 1 == 1) {
                 spoil(&mut call, cause, &mut random);
             }
-            assert_eq!(number(&call), causes.trailing_zeros() + 1);
+            assert_eq!(number(&call), SEQUENCE[causes.trailing_zeros() as usize]);
         }
     }
 }
@@ -216,7 +185,7 @@ fn number_7_is_the_last() {
         c.pool.truncate(6);
     };
     assert_eq!(spoiled(short), 7);
-    for cause in 1..=5 {
+    for cause in [1, 2, 3, 4, 5, 11] {
         let both = |c: &mut Call| {
             short(c);
             spoil(c, cause, &mut Random(42));

@@ -39,7 +39,7 @@ fn main() {
         let mut pool = vec![0; case.records * WORDS];
         let [selection, rules, bound] = case.choices;
         let (table, start, budget) = (case.table, case.start, LARGEST_BUDGET);
-        let request = Request { n: case.n, table, selection, rules, bound, start, budget };
+        let request = Request { n: case.n, table, selection, rules, bound, start, pairs: &[], budget };
         let report = plan(&request, &mut pool);
         let found = match (report.number, report.mark) {
             (0, 0) => {

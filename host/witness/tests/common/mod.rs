@@ -1,13 +1,14 @@
 //! What the tests share: jobs, and the definitions of document 01 worked out
 //! once more from an order alone, legs and landing charges each by themselves,
-//! of days that end home and of days that end away.
+//! of days that end home and of days that end away, with pairs and without.
 #![allow(dead_code)]
 
 pub mod by_hand;
+pub mod call;
 pub mod course;
+pub mod paired;
 
 use samples::{Random, KINDS};
-use witness::enumerate::all_orders;
 use witness::legs::Legs;
 use witness::words::record;
 use witness::{plan, plan_watched, Report, Request, State, LARGEST_BUDGET, WORDS};
@@ -21,14 +22,16 @@ pub struct Job {
     pub rules: u64,
     pub bound: u64,
     pub start: Vec<u32>,
+    pub pairs: Vec<u8>,
     pub budget: u64,
 }
 
 impl Job {
-    /// With the largest budget.
+    /// Without pairs, with the largest budget.
     pub fn new(n: usize, table: &[u32], choices: [u64; 3], start: &[u32]) -> Job {
         let [selection, rules, bound] = choices;
-        Job { n, table: table.to_vec(), selection, rules, bound, start: start.to_vec(), budget: LARGEST_BUDGET }
+        let (table, start, pairs) = (table.to_vec(), start.to_vec(), Vec::new());
+        Job { n, table, selection, rules, bound, start, pairs, budget: LARGEST_BUDGET }
     }
 
     /// The same with another budget.
@@ -44,6 +47,7 @@ impl Job {
             rules: self.rules,
             bound: self.bound,
             start: &self.start,
+            pairs: &self.pairs,
             budget: self.budget,
         }
     }
@@ -110,10 +114,9 @@ impl Job {
         self.path(order) + self.leg(*order.last().unwrap(), 0) + self.charges(&[0])
     }
 
-    /// The least cost over all orders.
+    /// The least cost over all orders that respect the pairs.
     pub fn least_cost(&self) -> u32 {
-        let orders = all_orders(self.n).into_iter();
-        orders.map(|order| self.cost(&order.iter().map(|&s| s as u32).collect::<Vec<u32>>())).min().unwrap()
+        self.orders().iter().map(|order| self.cost(order)).min().unwrap()
     }
 
     pub fn bound_of(&self, order: &[u32]) -> u32 {
@@ -239,6 +242,7 @@ pub fn order_of(job: &Job, record: &[u32]) -> Vec<u32> {
     assert_eq!(set >> job.n, 0, "stops are 1 to n");
     assert_eq!(record[2], job.path(&order));
     assert_eq!(record[3], job.bound_of(&order));
+    assert!(job.respects(&order));
     order
 }
 
@@ -257,13 +261,15 @@ pub fn read_pool(job: &Job, report: &Report, pool: &[u32]) -> (Vec<Vec<u32>>, Ve
     (orders[..active].to_vec(), orders[active..].to_vec())
 }
 
-/// The report shows a permutation of 1 to n, with its cost and zeros behind.
+/// The report shows a permutation of 1 to n that respects the pairs, with its
+/// cost and zeros behind.
 pub fn check_order(job: &Job, report: &Report) {
     let (order, rest) = report.order.split_at(job.n);
     let mut sorted = order.to_vec();
     sorted.sort();
     assert_eq!(sorted, (1..=job.n as u32).collect::<Vec<u32>>(), "{job:?}");
     assert_eq!(job.cost(order), report.cost, "{job:?}");
+    assert!(job.respects(order), "{job:?}");
     assert!(rest.iter().all(|&s| s == 0), "{job:?}");
 }
 

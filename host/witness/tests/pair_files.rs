@@ -1,0 +1,106 @@
+//! Pair files that get number 11 (request A.6 of document 02), and where it
+//! stands among the other refusals.
+
+mod common;
+
+use common::call::{spoiled, Call};
+
+/// Each fault of a pair file for three stops: an odd length; a pair too many
+/// for any day, be it empty otherwise; a stop 0 or 4, or far off, as pick-up or
+/// drop; the same stop twice; a stop in two pairs, whichever its part in each.
+const FAULTY_PAIRS: [&[u8]; 20] = [
+    &[1],
+    &[0],
+    &[1, 2, 3],
+    &[1, 2, 3, 1, 2],
+    &[0, 1],
+    &[1, 0],
+    &[0, 0],
+    &[4, 1],
+    &[1, 4],
+    &[255, 1],
+    &[1, 255],
+    &[17, 3],
+    &[2, 2],
+    &[3, 3],
+    &[1, 2, 3, 4],
+    &[1, 2, 1, 3],
+    &[1, 2, 2, 3],
+    &[1, 2, 3, 1],
+    &[1, 2, 3, 2],
+    &[1, 2, 1, 2],
+];
+
+#[test]
+fn number_11() {
+    for pairs in FAULTY_PAIRS {
+        for start in [&[][..], &[1, 2, 3], &[3, 2, 1]] {
+            let faulty = |c: &mut Call| (c.start, c.pairs) = (start.to_vec(), pairs.to_vec());
+            assert_eq!(spoiled(faulty), 11, "{pairs:?} {start:?}");
+        }
+    }
+    for pairs in [[1, 2], [2, 1], [1, 3], [3, 1], [2, 3], [3, 2]] {
+        let passed = |c: &mut Call| (c.start, c.pairs) = (Vec::new(), pairs.to_vec());
+        assert_eq!(spoiled(passed), 0, "{pairs:?}");
+    }
+}
+
+/// Sixteen stops in eight pairs pass. 17 bytes and more don't, whatever they
+/// are, nor does any byte in place of one of the sixteen.
+#[test]
+fn number_11_of_sixteen_stops() {
+    let number = |pairs: &[u8]| {
+        spoiled(|c| {
+            (c.n, c.table) = (16, vec![0; 17 * 17]);
+            (c.start, c.pairs) = ((1..=16).rev().collect(), pairs.to_vec());
+        })
+    };
+    let eight: Vec<u8> = (1..=16).rev().collect();
+    assert_eq!((number(&eight), number(&eight[..14])), (0, 0));
+    for length in [1, 3, 15, 17, 18, 32, 255, 256, 272] {
+        let mut other = eight.clone();
+        other.resize(length, 17);
+        assert_eq!(number(&other), 11, "{length}");
+    }
+    for place in 0..16 {
+        for byte in (0..=255).filter(|&byte| byte != eight[place]) {
+            let mut other = eight.clone();
+            other[place] = byte;
+            assert_eq!(number(&other), 11, "{byte} at {place}");
+        }
+    }
+}
+
+/// Number 5 for a permutation is for one that goes against pairs that pass.
+#[test]
+fn number_5_against_pairs() {
+    let orders: [[u32; 3]; 6] = [[1, 2, 3], [1, 3, 2], [2, 1, 3], [2, 3, 1], [3, 1, 2], [3, 2, 1]];
+    let told = [([1, 2], [0, 0, 5, 5, 0, 5]), ([3, 1], [5, 5, 5, 0, 0, 0]), ([2, 3], [0, 5, 0, 0, 5, 5])];
+    for (pairs, numbers) in told {
+        let number = |order: [u32; 3]| spoiled(|c| (c.start, c.pairs) = (order.to_vec(), pairs.to_vec()));
+        assert_eq!(orders.map(number), numbers, "{pairs:?}");
+    }
+}
+
+/// 5 before 11 for what is no permutation, and before 6 for what goes against
+/// the pairs; 11 before 5 for a permutation that goes against one of them, and
+/// before 6.
+#[test]
+fn number_11_between_5_and_6() {
+    let number = |start: &[u32], pairs: &[u8], words: usize| {
+        spoiled(|c| {
+            (c.start, c.pairs) = (start.to_vec(), pairs.to_vec());
+            c.pool.truncate(words);
+        })
+    };
+    for words in [96, 95, 0] {
+        let six = if words == 96 { 0 } else { 6 };
+        assert_eq!([number(&[2, 3, 1], &[2, 1], words), number(&[], &[2, 1], words)], [six, six]);
+        assert_eq!([number(&[1, 3, 2], &[2, 1], words), number(&[1, 1, 2], &[2, 1], words)], [5, 5]);
+        for pairs in FAULTY_PAIRS {
+            assert_eq!([number(&[1, 1, 2], pairs, words), number(&[1], pairs, words)], [5, 5]);
+            assert_eq!([number(&[], pairs, words), number(&[2, 3, 1], pairs, words)], [11, 11]);
+            assert_eq!(number(&[3, 2, 1], pairs, words), 11);
+        }
+    }
+}
