@@ -1,4 +1,4 @@
-//! Runs (document 01 with requests A.1 to A.5).
+//! Runs (document 01 with requests A.1 to A.6).
 
 use crate::words::Words;
 use crate::{lines, ORDER_PLACES};
@@ -17,6 +17,8 @@ pub struct Run {
     pub bound: u32,
     /// The starting order's stops, empty if there is none.
     pub start: Vec<u8>,
+    /// The pair file's bytes, empty if there are no pairs.
+    pub pairs: Vec<u8>,
     pub budget: u64,
     /// Whole records in the pool.
     pub records: usize,
@@ -46,7 +48,8 @@ impl Run {
             selection: words.number_of("selection")?,
             rules: words.number_of("rules")?,
             bound: words.number_of("bound")?,
-            start: start(words)?,
+            start: words.some_of("start")?,
+            pairs: words.some_of("pairs")?,
             budget: budget(words)?,
             records: words.number_of("pool")?,
             extra: extra(words)?,
@@ -69,18 +72,6 @@ impl Run {
     }
 }
 
-/// `none`, or a stop and further ones.
-fn start(words: &mut Words) -> Result<Vec<u8>, String> {
-    words.word("start")?;
-    if words.take_if("none") {
-        return Ok(Vec::new());
-    }
-    let first = words.number()?;
-    let mut stops = words.numbers()?;
-    stops.insert(0, first);
-    Ok(stops)
-}
-
 /// `most` for the largest, or a number.
 fn budget(words: &mut Words) -> Result<u64, String> {
     words.word("budget")?;
@@ -101,7 +92,7 @@ fn extra(words: &mut Words) -> Result<usize, String> {
     }
 }
 
-/// The 300 calls of A05-run.txt.
+/// The 300 calls of A06-run.txt.
 pub fn runs() -> Vec<Run> {
-    lines("A05-run.txt", include_str!("../A05-run.txt"), 300, Run::parse)
+    lines("A06-run.txt", include_str!("../A06-run.txt"), 300, Run::parse)
 }

@@ -60,6 +60,18 @@ impl<'a> Words<'a> {
         self.numbers()
     }
 
+    /// Takes a name and the numbers that stand behind it, one at least, or `none` for no number.
+    pub fn some_of<T: FromStr + ToString>(&mut self, name: &str) -> Result<Vec<T>, String> {
+        self.word(name)?;
+        if self.take_if("none") {
+            return Ok(Vec::new());
+        }
+        let first = self.number()?;
+        let mut numbers = self.numbers()?;
+        numbers.insert(0, first);
+        Ok(numbers)
+    }
+
     /// As `numbers_of`, which are to be N.
     pub fn array_of<T: FromStr + ToString, const N: usize>(&mut self, name: &str) -> Result<[T; N], String> {
         let numbers = self.numbers_of(name)?;

@@ -1,9 +1,12 @@
-//! A05-run.txt is parsed as a whole, and nothing else passes for a line of it.
+//! A06-run.txt is parsed as a whole, and nothing else passes for a line of it.
 
+mod common;
+
+use common::in_front;
 use vectors::{fnv1a, runs, Run};
 
 const LINE: &str =
-    "n 1 table 0 25 21 0 selection 3 rules 15 bound 1 start 1 budget 0 pool 2 and 5 fill 7 => 6 cost 46 \
+    "n 1 table 0 25 21 0 selection 3 rules 15 bound 1 start 1 pairs 2 3 budget 0 pool 2 and 5 fill 7 => 6 cost 46 \
                     order 1 0 0 0 0 0 0 0 0 0 0 0 0 0 0 0 counts 1 2 3 4 5 mark 1 floor 9 words 00000000000000ff";
 
 fn one_stop() -> Run {
@@ -16,6 +19,7 @@ fn one_stop() -> Run {
         rules: 15,
         bound: 1,
         start: vec![1],
+        pairs: vec![2, 3],
         budget: 0,
         records: 2,
         extra: 5,
@@ -41,26 +45,30 @@ fn a_line_of_run() {
     assert_eq!(one_stop().pool(), [7; 17]);
     assert_eq!(changed("start 1", "start none"), Ok(Run { start: Vec::new(), ..one_stop() }));
     assert_eq!(changed("start 1", "start 2 0 255"), Ok(Run { start: vec![2, 0, 255], ..one_stop() }));
+    assert_eq!(changed("pairs 2 3", "pairs none"), Ok(Run { pairs: Vec::new(), ..one_stop() }));
+    assert_eq!(changed("pairs 2 3", "pairs 0"), Ok(Run { pairs: vec![0], ..one_stop() }));
+    assert_eq!(changed("pairs 2 3", "pairs 255 1 1"), Ok(Run { pairs: vec![255, 1, 1], ..one_stop() }));
     assert_eq!(changed("budget 0", "budget most"), Ok(Run { budget: u64::MAX, ..one_stop() }));
     assert_eq!(changed(" and 5", ""), Ok(Run { extra: 0, ..one_stop() }));
     assert_eq!(changed("table 0 25 21 0", "table"), Ok(Run { table: Vec::new(), ..one_stop() }));
     assert_eq!(changed("fill 7", "fill 4294967295"), Ok(Run { fill: u32::MAX, ..one_stop() }));
 }
 
-/// The fourth line of the file, the third, and the first, which a budget stopped.
+/// The first line of the file, the second, which a budget stopped, and the ninth, which has a pair.
 #[test]
 fn lines_of_the_file() {
-    let fourth = &runs()[3];
-    assert_eq!((fourth.n, fourth.budget, fourth.records, fourth.extra, fourth.fill), (2, 4, 2, 0, u32::MAX));
-    assert_eq!((fourth.selection, fourth.rules, fourth.bound), (1, 9, 2));
-    assert_eq!(fourth.start, [1, 2]);
-    assert_eq!((fourth.number, fourth.cost, &fourth.order[..3]), (0, 85_942, &[1, 2, 0][..]));
-    assert_eq!((fourth.counts, fourth.mark, fourth.floor), ([3, 5, 0, 2, 2], 0, 0));
-    assert_eq!(fourth.words, 0xa49f_8850_0f22_9bdc);
-    let third = &runs()[2];
-    assert_eq!((third.bound, third.budget, third.cost, third.start.len()), (3, u64::MAX, 288_481, 0));
-    let stopped = &runs()[0];
-    assert_eq!((stopped.budget, stopped.counts[0], stopped.mark, stopped.floor), (29, 29, 1, 977_192));
+    let first = &runs()[0];
+    assert_eq!((first.n, first.budget, first.records, first.extra, first.fill), (2, 4, 52, 0, 0));
+    assert_eq!((first.selection, first.rules, first.bound), (0, 11, 2));
+    assert_eq!((first.start.len(), first.pairs.len()), (0, 0));
+    assert_eq!((first.number, first.cost, &first.order[..3]), (0, 12, &[2, 1, 0][..]));
+    assert_eq!((first.counts, first.mark, first.floor), ([3, 5, 0, 2, 2], 0, 0));
+    assert_eq!(first.words, 0xce85_3c19_d513_2534);
+    let stopped = &runs()[1];
+    assert_eq!(stopped.start, [5, 6, 3, 4, 2, 1]);
+    assert_eq!((stopped.budget, stopped.counts[0], stopped.mark, stopped.floor), (84, 84, 1, 47));
+    let paired = &runs()[8];
+    assert_eq!((paired.bound, paired.budget, paired.cost, &paired.pairs[..]), (3, u64::MAX, 1_200_276, &[1, 4][..]));
 }
 
 /// Runs over tables with charges, however they end, and charges of one too many.
@@ -86,17 +94,39 @@ fn bounds_of_run() {
         }
     }
     assert!(runs().iter().any(|call| (call.bound, call.number) == (4, 4)));
-    let passed = |call: &&Run| [0, 5, 6, 7].contains(&call.number);
+    let passed = |call: &&Run| [0, 5, 6, 7, 11].contains(&call.number);
     assert!(runs().iter().filter(passed).all(|call| call.bound <= 3));
 }
 
-/// Answers of every number but 5, every selection, sum of rules and bound up to
+/// Runs with up to three pairs, however they end, and no order shown that goes against them; a starting order that does;
+/// and pairs that number 11 refuses: of odd length, and with a stop that isn't there, too low and too high.
+#[test]
+fn pairs_of_run() {
+    let calls = runs();
+    for (number, mark) in [(0, 0), (0, 1), (7, 0)] {
+        for pairs in 0..=2 {
+            let some = |call: &Run| (call.number, call.mark, call.pairs.len()) == (number, mark, 2 * pairs);
+            assert!(calls.iter().any(some), "{number} {mark} {pairs}");
+        }
+    }
+    assert!(calls.iter().any(|call| call.number == 0 && call.pairs.len() == 6));
+    for call in calls.iter().filter(|call| call.order[0] != 0) {
+        assert!(in_front(&call.pairs, &call.order), "{call:?}");
+    }
+    assert!(calls.iter().any(|call| call.number == 5 && !in_front(&call.pairs, &call.start)));
+    let refused: Vec<&Run> = calls.iter().filter(|call| call.number == 11).collect();
+    assert!(refused.iter().any(|call| call.pairs.len() % 2 == 1));
+    assert!(refused.iter().any(|call| call.pairs.contains(&0)));
+    assert!(refused.iter().any(|call| call.pairs.iter().any(|&stop| u32::from(stop) > call.n)));
+}
+
+/// Answers of every number, every selection, sum of rules and bound up to
 /// one too many, and stopped runs with an order and without one.
 #[test]
 fn the_calls_of_run() {
     let calls = runs();
     let some = |what: &dyn Fn(&Run) -> bool| calls.iter().any(what);
-    for number in [0, 1, 2, 3, 4, 6, 7] {
+    for number in [0, 1, 2, 3, 4, 5, 6, 7, 11] {
         assert!(some(&|call| call.number == number), "{number}");
     }
     for selection in 0..=4 {
@@ -144,11 +174,16 @@ fn faulty_lines() {
     assert_eq!(fault("21 0 selection", "21 4294967296 selection"), "`4294967296` in the place of a number");
     assert_eq!(fault("selection 3", "selection -1"), "`-1` in the place of a number");
     assert_eq!(fault("rules 15 ", ""), "`bound` in the place of `rules`");
-    assert_eq!(fault("start 1", "start"), "`budget` in the place of a number");
-    assert_eq!(fault("start 1", "start none 1"), "`1` in the place of `budget`");
-    assert_eq!(fault("start 1", "start 1 none"), "`none` in the place of `budget`");
+    assert_eq!(fault("start 1", "start"), "`pairs` in the place of a number");
+    assert_eq!(fault("start 1", "start none 1"), "`1` in the place of `pairs`");
+    assert_eq!(fault("start 1", "start 1 none"), "`none` in the place of `pairs`");
     assert_eq!(fault("start 1", "start None"), "`None` in the place of a number");
     assert_eq!(fault("start 1", "start 256"), "`256` in the place of a number");
+    assert_eq!(fault("pairs 2 3 ", ""), "`budget` in the place of `pairs`");
+    assert_eq!(fault("pairs 2 3", "pairs"), "`budget` in the place of a number");
+    assert_eq!(fault("pairs 2 3", "pairs none 3"), "`3` in the place of `budget`");
+    assert_eq!(fault("pairs 2 3", "pairs 2 none"), "`none` in the place of `budget`");
+    assert_eq!(fault("pairs 2 3", "pairs 2 256"), "`256` in the place of a number");
     assert_eq!(fault("budget 0", "budget none"), "`none` in the place of a number");
     assert_eq!(fault("budget 0", "budget most 1"), "`1` in the place of `pool`");
     assert_eq!(fault("budget 0", "budget 18446744073709551616"), "`18446744073709551616` in the place of a number");
@@ -182,7 +217,7 @@ fn faulty_answers() {
 fn hashes() {
     assert_eq!(fnv1a(&[]), 0xcbf2_9ce4_8422_2325);
     assert_eq!(fnv1a(&[u32::from_le_bytes(*b"foob")]), 0xdd12_0e79_0c25_12af);
-    for call in runs().iter().filter(|call| (1..=6).contains(&call.number)) {
+    for call in runs().iter().filter(|call| ![0, 7].contains(&call.number)) {
         assert_eq!(fnv1a(&call.pool()), call.words, "{call:?}");
     }
 }

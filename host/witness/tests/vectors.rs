@@ -1,4 +1,4 @@
-//! The worked calls of host/vectors, for document 01 with requests A.1 to A.5.
+//! The worked calls of host/vectors, for document 01 with requests A.1 to A.6.
 
 use vectors::{fnv1a, Run};
 use witness::program::output;
@@ -8,7 +8,7 @@ use witness::{first_order, plan, Report, Request};
 #[test]
 fn worked_first_orders() {
     for call in vectors::first() {
-        let first = first_order(call.n.into(), call.bound.into(), &call.table, &[]);
+        let first = first_order(call.n.into(), call.bound.into(), &call.table, &call.pairs);
         assert_eq!((first.number, first.cost), (call.number, call.cost), "{call:?}");
         assert_eq!(first.order, call.order.map(u32::from), "{call:?}");
     }
@@ -34,7 +34,7 @@ fn worked_runs() {
             rules: call.rules.into(),
             bound: call.bound.into(),
             start: &start,
-            pairs: &[],
+            pairs: &call.pairs,
             budget: call.budget,
         };
         let mut pool = call.pool();
