@@ -7,6 +7,7 @@ mod common;
 use std::cell::RefCell;
 use std::collections::BTreeSet;
 
+use common::paired::for_each_paired_job;
 use common::{
     ample, check_finished, check_order, choices, counts_of, for_each_away_job, for_each_job, read_pool, table_of_kind,
     told_words, Job,
@@ -25,7 +26,7 @@ struct Course<'a> {
     states: Vec<State>,
     /// The nodes that each of them has the pool keep.
     keeps: Vec<usize>,
-    /// Of all n! orders.
+    /// Of all orders that respect the pairs.
     least: u32,
 }
 
@@ -179,6 +180,14 @@ fn every_budget_of_days_that_end_away() {
     for_each_away_job(67, 1, 1, |job| check_budgets(job, every_budget));
     for_each_away_job(68, 2, 3, |job| check_budgets(job, every_budget));
     for_each_away_job(69, 3, 3, |job| check_budgets(job, every_budget));
+}
+
+/// Request A.6's pairs.
+#[test]
+fn every_budget_with_pairs() {
+    for_each_paired_job(121, 2, 2, |job| check_budgets(job, every_budget));
+    for_each_paired_job(122, 3, 3, |job| check_budgets(job, every_budget));
+    for_each_paired_job(123, 4, 1, |job| check_budgets(job, every_budget));
 }
 
 /// Every choice over a table of its own, at times with a starting order; some

@@ -2,6 +2,7 @@
 
 mod common;
 
+use common::paired::for_each_paired_job;
 use common::{ample, choices, counts_of, for_each_away_job, for_each_job, read_pool, table_of_kind, told_words, Job};
 use samples::{Random, KINDS};
 use witness::{plan_watched, State, WORDS};
@@ -69,6 +70,14 @@ fn sizes_of_days_that_end_away() {
     for_each_away_job(37, 1, 1, check_sizes);
     for_each_away_job(38, 2, 2, check_sizes);
     for_each_away_job(39, 3, 3, check_sizes);
+}
+
+/// Request A.6's pairs.
+#[test]
+fn sizes_with_pairs() {
+    for_each_paired_job(111, 2, 2, check_sizes);
+    for_each_paired_job(112, 3, 3, check_sizes);
+    for_each_paired_job(113, 4, 1, check_sizes);
 }
 
 /// Both ends occur, and a run that is finished isn't refused.

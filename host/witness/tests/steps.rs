@@ -3,6 +3,7 @@
 
 mod common;
 
+use common::paired::for_each_paired_job;
 use common::{ample, counts_of, for_each_away_job, for_each_job, Job};
 use witness::node::Node;
 use witness::State;
@@ -57,7 +58,9 @@ fn after(job: &Job, before: &State, b: usize) -> After {
     let mut branched = bare(&before.branched);
     branched.push(parent.clone());
     let stops = (1..=job.n as u32).filter(|s| !parent.contains(s));
-    let children: Vec<Order> = stops.map(|s| [&parent[..], &[s]].concat()).collect();
+    let extended = stops.map(|s| [&parent[..], &[s]].concat());
+    let children: Vec<Order> = extended.filter(|child| job.respects(child)).collect();
+    assert!(!children.is_empty(), "{job:?}");
     let (mut upper, mut best) = upper_of(before);
     let complete = children.iter().filter(|c| c.len() == job.n);
     if let Some(c) = complete.min_by_key(|c| job.cost(c)) {
@@ -139,6 +142,16 @@ fn steps_of_four_stops() {
 #[test]
 fn steps_of_five_stops() {
     for_each_job(15, 5, 1, check_run);
+}
+
+/// Request A.6's pairs, of days with either end.
+#[test]
+fn steps_with_pairs() {
+    for_each_paired_job(101, 1, 1, check_run);
+    for_each_paired_job(102, 2, 3, check_run);
+    for_each_paired_job(103, 3, 6, check_run);
+    for_each_paired_job(104, 4, 3, check_run);
+    for_each_paired_job(105, 5, 1, check_run);
 }
 
 /// Request A.5's days.
