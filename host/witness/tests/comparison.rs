@@ -1,20 +1,30 @@
 //! Demand 3 with request A.3's budgets: job A, given no less than job B,
 //! finishes in every pool that B finishes in and counts no more. Both end home
-//! or both end away (request A.5), the one as often as the other.
+//! or both end away (request A.5), the one as often as the other, and both have
+//! the same pairs (request A.6) or, half of the time, none.
 
 mod common;
 
+use common::paired::{order_with, some_pairs};
 use common::{away_choices, choices, for_each_table, table_of_kind, Job};
 use samples::Random;
 use witness::{Report, LARGEST_BUDGET, STOPPED};
 
 /// Two orders, the cheaper one first.
 fn two_orders(random: &mut Random, job: &Job) -> (Vec<u32>, Vec<u32>) {
-    let (x, y) = (random.order(job.n), random.order(job.n));
+    let [x, y] = [0, 1].map(|_| order_with(random, job.n, &job.pairs));
     if job.cost(&x) <= job.cost(&y) {
         (x, y)
     } else {
         (y, x)
+    }
+}
+
+/// None as often as some, which may be none too.
+fn maybe_pairs(random: &mut Random, n: usize) -> Vec<u8> {
+    match random.below(2) {
+        0 => Vec::new(),
+        _ => some_pairs(random, n),
     }
 }
 
@@ -24,7 +34,8 @@ fn pair(random: &mut Random, n: usize, table: &[u32]) -> (Job, Job) {
     let dominance = 2 * random.below(8);
     let plain = 2 * random.below(2);
     let bound = plain + random.below(2);
-    let mut b = Job::new(n, table, [selection, dominance, bound], &[]);
+    let pairs = maybe_pairs(random, n);
+    let mut b = Job::new(n, table, [selection, dominance, bound], &[]).paired(&pairs);
     let mut a = b.clone();
     let (upper_a, upper_b) = random.pick(&[(0, 0), (1, 0), (1, 1)]);
     a.rules += upper_a;
@@ -71,15 +82,16 @@ fn check_pair(a: &Job, b: &Job, least: u32) {
     }
 }
 
-/// Two jobs that share the table, where the day ends, and nothing else: where
-/// both finish, their costs are equal. How often they did.
+/// Two jobs that share the table, where the day ends, the pairs, and nothing
+/// else: where both finish, their costs are equal. How often they did.
 fn finish_both(random: &mut Random, n: usize, table: &[u32]) -> u32 {
     let choices = if random.below(2) == 0 { choices() } else { away_choices() };
+    let pairs = maybe_pairs(random, n);
     let mut finished = Vec::new();
     for _ in 0..2 {
         let choice = random.pick(&choices);
-        let start: Vec<u32> = if random.below(2) == 0 { Vec::new() } else { random.order(n) };
-        let job = Job::new(n, table, choice, &start).within(random.below(40));
+        let start = if random.below(2) == 0 { Vec::new() } else { order_with(random, n, &pairs) };
+        let job = Job::new(n, table, choice, &start).paired(&pairs).within(random.below(40));
         let (report, _) = job.run(1 + random.below(40) as usize);
         finished.extend((report.number == 0 && report.mark == 0).then_some(report.cost));
     }
@@ -94,10 +106,9 @@ fn finish_both(random: &mut Random, n: usize, table: &[u32]) -> u32 {
 
 fn check_pairs(seed: u64, n: usize, tables: usize, pairs: usize) {
     for_each_table(&mut Random(seed), n, tables, |random, table| {
-        let [home, away] = [0, 2].map(|bound| Job::new(n, table, [0, 0, bound], &[]).least_cost());
         for _ in 0..pairs {
             let (a, b) = pair(random, n, table);
-            check_pair(&a, &b, if a.is_away() { away } else { home });
+            check_pair(&a, &b, a.least_cost());
         }
     });
 }
@@ -131,6 +142,21 @@ fn costs_of_runs_that_finish() {
         for_each_table(&mut Random(28), n, 100, |random, table| both += finish_both(random, n, table));
     }
     assert!(both > 500, "{both}");
+}
+
+/// With other pairs than B's, A may come to another cost and count more.
+#[test]
+fn other_pairs_are_not_compared() {
+    let (mut costs, mut counts) = (0, 0);
+    for_each_table(&mut Random(30), 4, 20, |random, table| {
+        let (a, b) = pair(random, 4, table);
+        let pairs = some_pairs(random, 4);
+        let a = Job { start: order_with(random, 4, &pairs), ..a.paired(&pairs) };
+        let (of_a, of_b) = (a.run(65).0, b.run(65).0);
+        costs += (of_a.cost != of_b.cost) as u32;
+        counts += (of_a.branched > of_b.branched) as u32;
+    });
+    assert!(costs > 30 && counts > 10, "{costs} {counts}");
 }
 
 /// With a smaller budget than B's, A may be stopped where B finishes.

@@ -4,13 +4,30 @@
 mod common;
 
 use common::course::course;
+use common::paired::{all_choices, pairs_of, some_pairs};
 use common::{ample, for_each_table, Job};
 use samples::{folded, nearest, Random};
 use witness::{first_order, FirstOrder};
 
-/// By legs that have the charges in them.
-fn nearest_stops(job: &Job) -> Vec<u32> {
+/// By legs that have the charges in them, pairs or not.
+fn nearest_of_all(job: &Job) -> Vec<u32> {
     nearest(job.n, &folded(job.n, &job.table)).into_iter().map(u32::from).collect()
+}
+
+/// The same among the stops that the pairs allow.
+fn nearest_stops(job: &Job) -> Vec<u32> {
+    let mut order = Vec::new();
+    while order.len() < job.n {
+        let last = order.last().copied().unwrap_or(0);
+        let left = (1..=job.n as u32).filter(|stop| !order.contains(stop));
+        let allowed = left.filter(|&stop| job.respects(&[&order[..], &[stop]].concat()));
+        let next = allowed.min_by_key(|&stop| (job.leg(last, stop) + job.charges(&[stop]), stop)).unwrap();
+        order.push(next);
+    }
+    if job.pairs.is_empty() {
+        assert_eq!(order, nearest_of_all(job), "{job:?}");
+    }
+    order
 }
 
 /// With charges as often as without.
@@ -31,8 +48,8 @@ fn first(job: &Job) -> FirstOrder {
 /// What ranks an exchange, from the cost it leads to and its two positions.
 type Key = fn(usize, usize, usize) -> [usize; 3];
 
-/// The first order once more: of the exchanges that lower the cost, always the
-/// one with the lowest key.
+/// The first order once more: of the allowed exchanges that lower the cost,
+/// always the one with the lowest key.
 fn by_keys(job: &Job, key: Key) -> Vec<u32> {
     let mut order = nearest_stops(job);
     loop {
@@ -41,7 +58,7 @@ fn by_keys(job: &Job, key: Key) -> Vec<u32> {
             for p in (0..q).rev() {
                 let mut next = order.clone();
                 next.swap(p, q);
-                if job.cost(&next) < job.cost(&order) {
+                if job.respects(&next) && job.cost(&next) < job.cost(&order) {
                     lower.push((key(job.cost(&next) as usize, p, q), next));
                 }
             }
@@ -64,11 +81,12 @@ fn check_first_order(job: &Job) {
     sorted.sort();
     assert_eq!(sorted, (1..=job.n as u32).collect::<Vec<u32>>(), "{job:?}");
     assert_eq!(first.cost, job.cost(order), "{job:?}");
+    assert!(job.respects(order), "{job:?}");
     for q in 0..job.n {
         for p in 0..q {
             let mut next = order.to_vec();
             next.swap(p, q);
-            assert!(job.cost(&next) >= first.cost, "{p} {q} {job:?}");
+            assert!(!job.respects(&next) || job.cost(&next) >= first.cost, "{p} {q} {job:?}");
         }
     }
     assert!(first.cost <= job.cost(&nearest_stops(job)), "{job:?}");
@@ -108,6 +126,54 @@ fn days_that_end_away() {
             }
         });
     }
+}
+
+/// With pairs (request A.6), of days with either end: 1,536 tables of both
+/// sorts, each with the fewest pairs, the most, and some.
+#[test]
+fn days_with_pairs() {
+    let mut random = Random(57);
+    for n in 1..=16 {
+        for_each_table(&mut random, n, 8, |random, table| {
+            for table in [table, &few_free(random, n)] {
+                for pairs in [pairs_of(random, n, 0), pairs_of(random, n, n / 2), some_pairs(random, n)] {
+                    let bound = random.below(4);
+                    check_first_order(&Job { bound, ..over(n, table) }.paired(&pairs));
+                }
+            }
+        });
+    }
+}
+
+/// Pairs that turn the nearest stops elsewhere, that forbid a cheaper exchange,
+/// and that allow one, so that the tables above say something. The first order
+/// is the same however the pairs stand in their file, never below the least
+/// cost, and a starting order for every choice.
+#[test]
+fn pairs_matter() {
+    let mut random = Random(58);
+    let (mut turned, mut forbidden, mut exchanged) = (0, 0, 0);
+    for_each_table(&mut random, 5, 100, |random, table| {
+        let job = over(5, table).paired(&some_pairs(random, 5));
+        let (near, first) = (nearest_stops(&job), first(&job));
+        turned += (near != nearest_of_all(&job)) as u32;
+        exchanged += (!job.pairs.is_empty() && job.cost(&near) > first.cost) as u32;
+        let swapped = (0..25).map(|at| {
+            let mut next = first.order[..5].to_vec();
+            next.swap(at / 5, at % 5);
+            next
+        });
+        forbidden += swapped.into_iter().any(|next| job.cost(&next) < first.cost) as u32;
+        let other: Vec<u8> = job.pairs.chunks(2).rev().flatten().copied().collect();
+        assert_eq!(first_order(5, 0, table, &other), first, "{job:?}");
+        let least = job.least_cost();
+        assert!(first.cost >= least, "{job:?}");
+        let [selection, rules, bound] = random.pick(&all_choices());
+        let started = Job { selection, rules, bound: bound % 2, start: first.order[..5].to_vec(), ..job };
+        let (report, _) = started.run(ample(5));
+        assert_eq!((report.number, report.cost), (0, least), "{started:?}");
+    });
+    assert!(turned > 200 && forbidden > 50 && exchanged > 100, "{turned} {forbidden} {exchanged}");
 }
 
 /// How many exchanges sixteen stops take: never more than the nearest-stop

@@ -39,6 +39,20 @@ fn no_budget_in_a_file() {
     }
 }
 
+/// A file holds no pairs: it is the same whatever the pairs are, faulty ones and those that the starting order goes against
+/// among them, and its job comes without.
+#[test]
+fn no_pairs_in_a_file() {
+    let mut buffer = vec![0; LONGEST];
+    let job = Contents { start: vec![3, 1, 2], ..a() };
+    for pairs in [&[][..], &[3, 1], &[2, 3], &[1], &[4, 4], &[0; 18]] {
+        let length = write(&Request { pairs, ..job.request() }, &mut buffer).unwrap();
+        assert_eq!(buffer[..length], file(&job), "{pairs:?}");
+        assert!(read(&buffer[..length]).unwrap().request().pairs.is_empty());
+        assert!(output(&buffer[..length]).starts_with("cost 13\norder 1 2 3\n"));
+    }
+}
+
 /// One stop, a million out and 258 back, with its order.
 #[test]
 fn bytes_one_by_one() {

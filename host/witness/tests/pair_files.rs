@@ -4,6 +4,8 @@
 mod common;
 
 use common::call::{spoiled, Call};
+use samples::{level, T};
+use witness::{first_order, FirstOrder};
 
 /// Each fault of a pair file for three stops: an odd length; a pair too many
 /// for any day, be it empty otherwise; a stop 0 or 4, or far off, as pick-up or
@@ -101,6 +103,56 @@ fn number_11_between_5_and_6() {
             assert_eq!([number(&[1, 1, 2], pairs, words), number(&[1], pairs, words)], [5, 5]);
             assert_eq!([number(&[], pairs, words), number(&[2, 3, 1], pairs, words)], [11, 11]);
             assert_eq!(number(&[3, 2, 1], pairs, words), 11);
+        }
+    }
+}
+
+/// What a first order's call refuses by, with zeros beside it; 0 if it doesn't.
+fn first_number(n: u64, bound: u64, table: &[u32], pairs: &[u8]) -> u32 {
+    let first = first_order(n, bound, table, pairs);
+    let FirstOrder { number, .. } = first;
+    if number != 0 {
+        assert_eq!(first, FirstOrder { number, ..FirstOrder::default() });
+    }
+    number
+}
+
+/// With each bound that passes.
+#[test]
+fn number_11_of_first_orders() {
+    for bound in 0..=3 {
+        for pairs in FAULTY_PAIRS {
+            assert_eq!(first_number(3, bound, &T, pairs), 11, "{pairs:?}");
+        }
+        for pairs in [&[][..], &[1, 2], &[2, 1], &[1, 3], &[3, 1], &[2, 3], &[3, 2]] {
+            assert_eq!(first_number(3, bound, &T, pairs), 0, "{pairs:?}");
+        }
+        let eight: Vec<u8> = (1..=16).rev().collect();
+        assert_eq!(first_number(16, bound, &level(16, 1), &eight), 0);
+        assert_eq!(first_number(16, bound, &level(16, 1), &[&eight[..], &[1, 2]].concat()), 11);
+        assert_eq!(first_number(15, bound, &level(15, 1), &eight), 11);
+    }
+}
+
+/// With n at 3, 16 numbers, all legs 7, a bound up to 3 and a pair of two stops, nothing applies; otherwise the first of
+/// 1, 2, 3, 4 and 11 that does.
+#[test]
+fn number_11_is_the_last_of_first_orders() {
+    for n in [3, 0, 17, u64::MAX] {
+        for length in [16, 0, 15, 17] {
+            for leg in [7, 1_000_001] {
+                for bound in [0, 1, 2, 3, 4, u64::MAX] {
+                    for pairs in [&[3, 1][..], &[3], &[3, 4], &[3, 3], &[3, 1, 1, 2]] {
+                        let mut table = level(3, 7);
+                        table[1] = leg;
+                        table.resize(length, u32::MAX);
+                        let causes = [n != 3, length != 16, leg != 7, bound > 3, pairs != [3, 1]];
+                        let first = causes.iter().position(|&applies| applies);
+                        let told = first.map_or(0, |at| [1, 2, 3, 4, 11][at]);
+                        assert_eq!(first_number(n, bound, &table, pairs), told, "{n} {length} {leg} {bound} {pairs:?}");
+                    }
+                }
+            }
         }
     }
 }
