@@ -1,8 +1,9 @@
 //! Reads a job as plain text (see `jobtext`) from standard input and prints
 //! the report and the pool's words, six to a line. On the command line stands
-//! the number of records in the pool; behind it there may be `budget` and a
-//! number of branchings (without it the largest), then `trace`: the state at
-//! the start and after each step is printed first.
+//! the number of records in the pool; behind it there may be `pairs` and the
+//! bytes of a pair file (without it none), then `budget` and a number of
+//! branchings (without it the largest), then `trace`: the state at the start
+//! and after each step is printed first.
 
 use std::io::{Read, Write};
 use std::process::ExitCode;
@@ -27,6 +28,7 @@ fn main() -> ExitCode {
 /// What the command line asks for.
 struct Asked {
     records: usize,
+    pairs: Vec<u8>,
     budget: u64,
     traced: bool,
 }
@@ -35,23 +37,35 @@ impl Asked {
     fn parse(words: &[&str]) -> Option<Asked> {
         let (records, rest) = words.split_first()?;
         let records = number(records).filter(|&records| records <= MOST_RECORDS)?;
+        let (pairs, rest) = match rest {
+            ["pairs", rest @ ..] => leading_bytes(rest),
+            _ => (Vec::new(), rest),
+        };
         let (budget, rest) = match rest {
             ["budget", budget, rest @ ..] => (number(budget)?, rest),
             _ => (LARGEST_BUDGET, rest),
         };
         match rest {
-            [] => Some(Asked { records, budget, traced: false }),
-            ["trace"] => Some(Asked { records, budget, traced: true }),
+            [] => Some(Asked { records, pairs, budget, traced: false }),
+            ["trace"] => Some(Asked { records, pairs, budget, traced: true }),
             _ => None,
         }
     }
 }
 
+/// The bytes in front, and what stands behind them.
+fn leading_bytes<'a, 'b>(words: &'a [&'b str]) -> (Vec<u8>, &'a [&'b str]) {
+    let bytes: Vec<u8> = words.iter().map_while(|word| number(word)).collect();
+    let rest = &words[bytes.len()..];
+    (bytes, rest)
+}
+
 fn answer() -> Result<(), String> {
     let arguments: Vec<String> = std::env::args().skip(1).collect();
     let words: Vec<&str> = arguments.iter().map(String::as_str).collect();
-    let Some(Asked { records, budget, traced }) = Asked::parse(&words) else {
-        return Err(format!("usage: witness RECORDS [budget BRANCHINGS] [trace], with {MOST_RECORDS} records at most"));
+    let Some(Asked { records, pairs, budget, traced }) = Asked::parse(&words) else {
+        let usage = "usage: witness RECORDS [pairs BYTES..] [budget BRANCHINGS] [trace]";
+        return Err(format!("{usage}, with {MOST_RECORDS} records at most"));
     };
     let mut input = String::new();
     std::io::stdin().read_to_string(&mut input).map_err(|fault| fault.to_string())?;
@@ -59,7 +73,7 @@ fn answer() -> Result<(), String> {
     let job = Contents::from(&parsed.job);
     let mut pool = vec![0u32; records * WORDS];
     let mut lines = Vec::new();
-    let request = Request { budget, ..job.request() };
+    let request = Request { pairs: &pairs, budget, ..job.request() };
     let report = plan_watched(&request, &mut pool, &mut |state| {
         if traced {
             lines.push(state_text(state));

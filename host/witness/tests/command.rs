@@ -50,6 +50,16 @@ fn report_and_pool() {
     assert_eq!(run("6"), largest);
 }
 
+/// With 2 before 1: e and 2 branched, 3, 21 and 23 left. A file of one byte is refused.
+#[test]
+fn pairs() {
+    let nodes = "1 4 9 9 2 0\n2 3 15 15 1 0\n2 6 8 8 33 0\n";
+    assert_eq!(run("3 pairs 2 1 budget 2"), Ok(lines([0, 1, 0, 8], NO_STOPS, [2, 5, 0, 3, 3], nodes)));
+    assert_eq!(run("1 pairs 2"), Ok(lines([11, 0, 0, 0], NO_STOPS, [0; 5], "0 0 0 0 0 0\n")));
+    assert!(run("3 pairs 2 1").unwrap().starts_with("number 0\nmark 0\ncost 18\nfloor 0\norder 2 3 1 0"));
+    assert_eq!((run("6 pairs"), run("6 pairs budget 5 trace")), (run("6"), run("6 budget 5 trace")));
+}
+
 /// A trace has the start and as many steps as there are branchings.
 #[test]
 fn trace() {
@@ -65,7 +75,8 @@ fn faulty_arguments() {
     assert!(usage.starts_with("usage: "), "{usage}");
     let numbers = ["x", "+6", "1000001", "6 budget x", "6 budget +5", "6 budget -1", "6 budget 18446744073709551616"];
     let words = ["6 budget", "6 budget 5 traces", "6 trace budget 5", "6 5", "6 trace trace"];
-    for arguments in numbers.into_iter().chain(words) {
+    let pairs = ["6 pairs x", "6 pairs 2 256", "6 pairs -1", "6 budget 5 pairs 2 1", "6 pairs 2 1 pairs 2 1"];
+    for arguments in numbers.into_iter().chain(words).chain(pairs) {
         assert_eq!(run(arguments).unwrap_err(), usage, "{arguments}");
     }
 }
