@@ -1,32 +1,72 @@
 -- Calls that use no request's feature, a theorem for each type of specs/AsBefore.
 use mathlib.Core.Path.{_≡_, refl, sym, ap, ap₂, _∙_}
 use mathlib.Core.Bool.{Bool, false, not, _||_}
-use mathlib.Core.List.{List}
+use mathlib.Core.List.{List, []}
 use mathlib.Core.Logic.{_⊎_, inl, inr, _≢_}
 use Prim.Native.Nat.{ℕ, zero, suc, _≤_, _<_}
 use native.Mathlib.Omega.{arith}
 use lib.Dec.{T, ltb, eqb, eqb→eq, nltb→le}
 use borrow.Author.Tests.{lt-ltb, le-ltb, lt-leb}
-use Rattle.sizes.specs.Sizes.{dearestLeg}
+use Rattle.sizes.specs.Sizes.{dearestLeg, aboveEveryCost}
 use Rattle.lists.specs.Lists.{In, any, from}
 use Rattle.lists.proofs.Tests.{not-either, twice-not, ordered}
 use Rattle.lists.proofs.Members.{in-from, from-in}
-use Rattle.days.specs.Days.{Day}
+use Rattle.search.specs.Problem.{Problem}
+use Rattle.orders.specs.Orders.{Node, complete}
+use Rattle.orders.specs.Pairs.{pairsOf, respects}
+use Rattle.orders.proofs.Pairs.{no-pairs}
+use Rattle.days.specs.Days.{Day, problem}
 use Rattle.stops.specs.Tables.{entry, charge, rows}
 use Rattle.stops.specs.Bounds.{endsAway}
 use Rattle.stops.specs.Stops.{dayOn}
 use Rattle.stops.proofs.Charges.{uncharged-rows}
 use Rattle.answer.specs.Call.{Call}
-use Rattle.answer.specs.Checks.{cause₁, cause₂, cause₃, noSuchBound, cause₄, tableCause, jobCause, cause}
+use Rattle.answer.specs.Checks.{cause₁, cause₂, cause₃, noSuchBound, cause₄, cause₁₁, againstPairs, tableCause, jobCause, pairCause, poolCause, cause}
 use Rattle.answer.specs.Answer.{dayOf}
 use Rattle.answer.specs.Demands.{written}
-use Rattle.answer.specs.OnDay.{answerOn}
+use Rattle.answer.specs.OnDay.{answerBy, answerOn}
 use Rattle.answer.specs.Charges.{legDayOf}
 use Rattle.answer.specs.Away.{homeDayOf}
-use Rattle.answer.specs.AsBefore.{homeCause₄, homeCauseBehind, homeCause, EndsHome, EndsHomeAsBefore, NoCharges, Uncharged, UnchargedByLegs, legCause₃, legTableCause, TableCausesAsBefore, legCause, document01Day, AsDocument01, AcceptedBefore}
+use Rattle.answer.specs.AsBefore.{freely, answerFreely, NoPairsAsBefore, laterCause, homeCause₄, homeCauseBehind, homeCause, EndsHome, EndsHomeAsBefore, NoCharges, Uncharged, UnchargedByLegs, legCause₃, legTableCause, TableCausesAsBefore, legCause, document01Day, AsDocument01, AcceptedBefore}
 use Rattle.answer.proofs.Passes.{none-found, none-first, passes}
 use Rattle.answer.proofs.Charges.{none-passes, small-charges}
 use Rattle.answer.proofs.OnDay.{on-its-day}
+
+-- ---- no pairs
+
+-- the search is document 01's
+free-problem : (n : ℕ) (D : Day) → problem n [] D ≡ freely n D
+unfolding problem freely
+free-problem n D i = record {
+  root = [];
+  children = λ x. no-pairs n x i;
+  complete = complete n;
+  cost = D .cost;
+  dominates = D .dominates;
+  above = aboveEveryCost;
+}
+
+answer-free : (c : Call) → c .pairs ≡ [] → (D : Day) (k : ℕ) → answerOn D c k ≡ answerFreely D c k
+answer-free c none D k =
+    ap (λ (P : Problem Node). answerBy P D c k)
+    (ap (λ (bytes : List ℕ). problem (c .job .n) (pairsOf bytes) D) none ∙ free-problem (c .job .n) D)
+
+-- and so are the causes
+free-cause : (n : ℕ) (start : List ℕ) (later : ℕ) → pairCause n start [] later ≡ later
+unfolding pairCause againstPairs cause₁₁ respects
+free-cause n start later = refl
+
+later-cause : (c : Call) → c .pairs ≡ [] → laterCause c ≡ poolCause (c .pool)
+unfolding laterCause
+later-cause c none =
+    ap (λ (bytes : List ℕ). pairCause (c .job .n) (c .start) bytes (poolCause (c .pool))) none ∙ free-cause (c .job .n) (c .start) (poolCause (c .pool))
+
+pub no-pairs-as-before : NoPairsAsBefore written
+unfolding cause laterCause
+no-pairs-as-before c a e none =
+    e ∙ on-its-day c
+    ∙ ap (λ (later : ℕ). answerOn (dayOf c) c (jobCause (c .job) (c .table) (c .start) later)) (later-cause c none)
+    ∙ answer-free c none (dayOf c) (jobCause (c .job) (c .table) (c .start) (poolCause (c .pool)))
 
 -- ---- the day ends at home
 
@@ -42,7 +82,7 @@ same-bounds bound a b = go (ordered 4 bound) (ordered 2 bound)
 
 module _ (c : Call) (ends : EndsHome c) where
   same-cause : cause c ≡ homeCause c
-  unfolding cause jobCause cause₄ homeCause homeCauseBehind homeCause₄
+  unfolding cause jobCause cause₄ laterCause homeCause homeCauseBehind homeCause₄
   same-cause = rw (same-bounds (c .job .bound) (ends .0) (ends .1)) refl
 
   -- where the checks let it pass, its bound is 0 or 1
@@ -82,7 +122,7 @@ unfolding tableCause legTableCause
 table-causes-as-before n table none later = rw (same-cause₃ n table none) refl
 
 pub uncharged-by-legs : UnchargedByLegs written
-unfolding dayOf legDayOf cause jobCause
+unfolding dayOf legDayOf cause jobCause laterCause
 uncharged-by-legs c a e none =
     e ∙ on-its-day c
     ∙ ap₂ (λ (D : Day) (k : ℕ). answerOn D c k)
@@ -97,13 +137,16 @@ module _ (c : Call) (none : Uncharged c) where
   unfolding homeDayOf document01Day
   same-day = ap (dayOn (c .job .n)) (uncharged-rows (c .job .n) false (c .table) none)
 
-  leg-cause : homeCause c ≡ legCause c
+  leg-cause : c .pairs ≡ [] → homeCause c ≡ legCause c
   unfolding homeCause legCause
-  leg-cause = table-causes-as-before (c .job .n) (c .table) none _
+  leg-cause free =
+      ap (λ (later : ℕ). tableCause (c .job .n) (c .table) (homeCauseBehind c later)) (later-cause c free)
+      ∙ table-causes-as-before (c .job .n) (c .table) none _
 
 pub as-document-01 : AsDocument01 written
-as-document-01 c a e none ends =
-    ends-home-as-before c a e ends ∙ ap₂ (λ (D : Day) (k : ℕ). answerOn D c k) (same-day c none) (leg-cause c none)
+as-document-01 c a e none ends free =
+    ends-home-as-before c a e ends ∙ ap₂ (λ (D : Day) (k : ℕ). answerOn D c k) (same-day c none) (leg-cause c none free)
+    ∙ answer-free c free (document01Day c) (legCause c)
 
 -- a call that document 01's checks let pass has no charges, and a bound of document 01's
 module _ (c : Call) (e : legCause c ≡ 0) where
@@ -139,7 +182,7 @@ module _ (c : Call) (e : legCause c ≡ 0) where
       nltb→le 1 (c .job .bound) (not-either (ltb 3 (c .job .selection) || ltb 15 (c .job .rules)) (ltb 1 (c .job .bound)) (accepted-parts .1) .1)
 
 pub accepted-before : AcceptedBefore written
-accepted-before c a e passed =
+accepted-before c a e free passed =
     let h : c .job .bound ≤ 1 = accepted-bound c passed in
-    as-document-01 c a e (accepted-uncharged c passed) (λ f. omega (arith, f), λ f. omega (arith, f))
-    ∙ ap (answerOn (document01Day c) c) passed
+    as-document-01 c a e (accepted-uncharged c passed) (λ f. omega (arith, f), λ f. omega (arith, f)) free
+    ∙ ap (answerFreely (document01Day c) c) passed

@@ -8,7 +8,8 @@ use native.Mathlib.Omega.{arith}
 use borrow.Author.Tests.{le-ltb}
 use Rattle.orders.specs.Orders.{Node, Order}
 use Rattle.orders.proofs.Order.{partial-order}
-use Rattle.orders.proofs.Orders.{orders-in, in-orders}
+use Rattle.orders.specs.Pairs.{pairsOf}
+use Rattle.orders.proofs.Pairs.{in-ordersWith, ordersWith-in}
 use Rattle.days.specs.Days.{Day, problem}
 use Rattle.stops.specs.Tables.{entry, rows}
 use Rattle.stops.specs.Bounds.{endsAway}
@@ -18,14 +19,14 @@ use Rattle.stops.proofs.Away.{away-path, away-bound, away-dominates, away-cost,
 use Rattle.answer.specs.Call.{Call, callOf, Answer}
 use Rattle.answer.specs.Checks.{noSuchBound, cause₄, cause}
 use Rattle.answer.specs.Answer.{dayOf, problemOf, answer}
-use Rattle.answer.specs.Ends.{orderIn}
+use Rattle.answer.specs.Ends.{orderIn, AllowedOrder}
 use Rattle.answer.specs.Demands.{written, OneTable, EndAlike, AsClose}
 use Rattle.answer.specs.OnDay.{answerOn}
 use Rattle.answer.specs.Away.{homeDayOf, awayDayOf, EndsAway, LetsBoundsPass, FiguresAway, AnswersAway, BoundExactAway, ComparedEndAlike, CheapestWithoutLegHome, NoDearerAway, LegsHomeUnread}
 use Rattle.answer.proofs.Passes.{choices-pass, passes}
 use Rattle.answer.proofs.Instance.{closer-ends}
 use Rattle.answer.proofs.Bounds.{bound-is-cost}
-use Rattle.answer.proofs.Demand3.{cheapest-of-all}
+use Rattle.answer.proofs.Demand3.{allowed-too, cheapest-of-all}
 use Rattle.answer.proofs.OnDay.{on-its-day, figures-decide}
 use Rattle.answer.proofs.Charges.{number-0-passes}
 
@@ -82,9 +83,9 @@ cheapest-without-leg-home c a e ends h =
     let passed : cause c ≡ 0 = number-0-passes c (subst (λ (x : Answer). x .report .number ≡ 0) e (h .0)) in
     let best = cheapest-of-all c a e h in
     record {
-      is-order = best .has-order .is-order;
-      cost-is = best .has-order .cost-is-its ∙ own-cost c passed ends (orderIn c (a .report)) (best .has-order .is-order);
-      least = λ y m. subst (λ (v : ℕ). a .report .cost ≤ v) (own-cost c passed ends y (in-orders (c .job .n) y m)) (best .least y m);
+      is-allowed = best .has-order .is-allowed;
+      cost-is = best .has-order .cost-is-its ∙ own-cost c passed ends (orderIn c (a .report)) (best .has-order .is-allowed .order);
+      least = λ y m. subst (λ (v : ℕ). a .report .cost ≤ v) (own-cost c passed ends y (in-ordersWith (c .job .n) (pairsOf (c .pairs)) y m .order)) (best .least y m);
     }
 
 -- an order that ends at home costs its path and its leg home
@@ -97,14 +98,14 @@ unfolding homeDayOf dayOf
 home-days a b one home = λ i. dayOn (one .n i) (rows (one .n i) (sym home i) (one .table i))
 
 pub no-dearer-away : NoDearerAway written
-no-dearer-away a b x y p q one ends home hx hy =
+no-dearer-away a b x y p q one pairs ends home hx hy =
     let best = cheapest-without-leg-home a x p ends hx in
     let other = cheapest-of-all b y q hy .has-order in
     let order : Node = orderIn b (y .report) in
-    let own : Order (a .job .n) order = subst (λ (k : ℕ). Order k order) (sym (one .n)) (other .is-order) in
+    let own : AllowedOrder a order = allowed-too a b (sym (one .n)) pairs order (other .is-allowed) in
     omega (
       arith,
-      best .least order (orders-in (a .job .n) order own),
+      best .least order (ordersWith-in (a .job .n) (pairsOf (a .pairs)) order own),
       home-path-below a order,
       ap (λ (D : Day). D .cost order) (home-days a b one home),
       other .cost-is-its,
@@ -112,7 +113,7 @@ no-dearer-away a b x y p q one ends home hx hy =
 
 -- the call over another table
 abbrev over : Call → List ℕ → Call
-over c table = callOf (c .job) table (c .start) (c .budget) (c .pool)
+over c table = callOf (c .job) table (c .start) (c .pairs) (c .budget) (c .pool)
 
 unread-day :
     (c : Call) (table : List ℕ) → EndsAway c

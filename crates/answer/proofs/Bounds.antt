@@ -2,15 +2,15 @@
 use mathlib.Core.Path.{ap, sym}
 use native.Mathlib.Omega.{arith}
 use Rattle.days.specs.Days.{Day, problem, choices}
-use Rattle.days.proofs.Walk.{walk-closer}
+use Rattle.days.proofs.Walk.{bound-grows, walk-closer}
 use Rattle.answer.specs.Answer.{problemOf, choicesOf}
 use Rattle.answer.specs.Document01.{BoundNeverFalls, BoundExact, CloseNotBelowPlain}
 use Rattle.answer.proofs.Passes.{passes}
 use Rattle.answer.proofs.Instance.{one-day, closer-ends, call-walk, bound-laws}
 
 pub bound-never-falls : BoundNeverFalls
-unfolding problemOf problem
-bound-never-falls c e x y m = bound-laws c (passes c e) .grows x y m
+unfolding choicesOf choices
+bound-never-falls c e x y m = bound-grows (call-walk c) (c .job .bound) (passes c e .bound) x y m
 
 pub bound-is-cost : BoundExact
 unfolding problemOf problem

@@ -20,21 +20,22 @@ use Rattle.search.proofs.Plain.{tree, planOf, cutOf}
 use Rattle.search.proofs.Optimal.{active-below}
 use Rattle.search.proofs.Bounded.{Bounded, counts-bounded}
 use Rattle.search.proofs.Budget.{steps-within, halts-exactly}
-use Rattle.orders.specs.Orders.{Node, stops, size, Order, orders}
+use Rattle.orders.specs.Orders.{Node, size, Order}
+use Rattle.orders.specs.Pairs.{pairsOf}
 use Rattle.orders.proofs.Tree.{nodes-rise}
-use Rattle.orders.proofs.Order.{stops-order, order-complete, order-leads}
-use Rattle.orders.proofs.Orders.{orders-in, in-orders}
+use Rattle.orders.proofs.Order.{order-complete}
+use Rattle.orders.proofs.Pairs.{allowed-leads, leads-allowed, in-ordersWith, ordersWith-in}
 use Rattle.days.specs.Days.{problem, choices}
 use Rattle.records.specs.Records.{recordsIn}
 use Rattle.answer.specs.Call.{Call, Answer, refusal}
 use Rattle.answer.specs.declared.Report.{Report}
 use Rattle.answer.specs.Checks.{cause}
 use Rattle.answer.specs.Answer.{dayOf, problemOf, choicesOf, given, StateOf, stopsOf, costOf, floorOf, reportWith, ending}
-use Rattle.answer.specs.Ends.{ComesTo, StoppedAt, orderIn, HasOrder, Ended, planned, halted, filled, refused}
-use Rattle.answer.specs.Demands.{written}
+use Rattle.answer.specs.Ends.{ComesTo, StoppedAt, orderIn, AllowedOrder, HasOrder, Ended, planned, halted, filled, refused}
+use Rattle.answer.specs.Demands.{written, allowedOrders}
 use Rattle.answer.specs.Budget.{MarkedIff, StoppedAsWritten, OtherwiseZero, ExactBudget, WithinBudget, ShowsOrder, OrderOrZeros, FloorHolds, BestCost, BestExists, Between, NoRunReaches}
 use Rattle.answer.proofs.Passes.{Passes, passes}
-use Rattle.answer.proofs.Instance.{weight, call-weighs, root-light, call-lawful, bound-laws, selection-small, call-solvable, start-known, state-reached}
+use Rattle.answer.proofs.Instance.{weight, call-weighs, root-light, call-pairing, call-lawful, bound-laws, selection-small, call-solvable, start-known, state-reached}
 use Rattle.answer.proofs.Known.{BestKnown, unknown, known, best-known, order-reported}
 use Rattle.answer.proofs.Ends.{stopped-answer}
 use Rattle.answer.proofs.Demand1.{call-ends}
@@ -113,39 +114,46 @@ order-or-zeros c a e m =
         → (let r = reportWith 0 1 (costOf (problemOf c) best) floor (stopsOf best) s in
         (ShowsOrder r × HasOrder c r) ⊎ ((r .order ≡ replicate orderPlaces 0) × (r .cost ≡ 0)))
     at floor s best unknown = inr (refl, refl)
-    at floor s best (known x o) = inl (order-shows (c .job .n) stop x o, order-reported c 0 1 floor x s o)
+    at floor s best (known x o) = inl (order-shows (c .job .n) stop x (o .order), order-reported c 0 1 floor x s o)
 
 -- At every state of a run the floor is at most what any order costs, for some active node's bound is.
-floor-below : (c : Call) → cause c ≡ 0 → (s : State Node) → StateOf c s → (y : Node) → Order (c .job .n) y → floorOf c s ≤ dayOf c .cost y
+floor-below : (c : Call) → cause c ≡ 0 → (s : State Node) → StateOf c s → (y : Node) → AllowedOrder c y → floorOf c s ≤ dayOf c .cost y
 unfolding floorOf problemOf problem
 floor-below c passed s steps y o =
     let ok : Passes c = passes c passed in
     let (x, m, low) =
     active-below (tree (problemOf c)) (planOf (problemOf c) (choicesOf c)) (cutOf (choicesOf c)) (recordsIn (c .pool)) (size (c .job .n)) (c .job .n)
     (call-lawful c ok) (bound-laws c ok) (given (c .start)) (start-known c ok) (call-solvable c ok) s (state-reached c ok steps) y
-    (order-complete (c .job .n) y o) (order-leads (c .job .n) (problemOf c) (λ z. refl) y o) in
+    (order-complete (c .job .n) y (o .order)) (allowed-leads (call-pairing c ok) (problemOf c) (λ z. refl) y o) in
     omega (arith, least-le (choicesOf c .bound) (s .active) x m)
 
 pub floor-holds : FloorHolds written
 unfolding reportWith
 floor-holds c a e m y i =
     let f : StoppedAt c a = stopped-as-written c a e m in
-    rw (f .reported) (floor-below c (f .comes .passed) (f .comes .state) (f .comes .steps) y (in-orders (c .job .n) y i))
+    rw (f .reported) (floor-below c (f .comes .passed) (f .comes .state) (f .comes .steps) y (in-ordersWith (c .job .n) (pairsOf (c .pairs)) y i))
+
+-- from e an order is reached
+some-allowed : (c : Call) → cause c ≡ 0 → (x : Node) × AllowedOrder c x
+unfolding problemOf problem
+some-allowed c passed =
+    let ok : Passes c = passes c passed in
+    let (x, whole, leads, low) = call-solvable c ok in
+    (x, leads-allowed (call-pairing c ok) (problemOf c) (λ y. refl) x whole leads)
 
 pub best-exists : BestExists
-best-exists c = at (orders (c .job .n)) refl
+best-exists c passed = at (allowedOrders c) refl
   where
-    at : (xs : List Node) → orders (c .job .n) ≡ xs → (v : ℕ) × BestCost c v
+    at : (xs : List Node) → allowedOrders c ≡ xs → (v : ℕ) × BestCost c v
     at [] e =
-        absurd
-        (List·Memᴰ·not-nil
-        (subst (λ (l : List Node). In (stops (c .job .n)) l) e (orders-in (c .job .n) (stops (c .job .n)) (stops-order (c .job .n)))))
+        let (x, h) = some-allowed c passed in
+        absurd (List·Memᴰ·not-nil (subst (λ (l : List Node). In x l) e (ordersWith-in (c .job .n) (pairsOf (c .pairs)) x h)))
     at (y ∷ ys) e =
         let (x, m, q) = least-in (dayOf c .cost) y ys in (
           dayOf c .cost x,
           record {
             order = x;
-            is-order = in-orders (c .job .n) x (subst (λ (l : List Node). In x l) (sym e) m);
+            is-allowed = in-ordersWith (c .job .n) (pairsOf (c .pairs)) x (subst (λ (l : List Node). In x l) (sym e) m);
             costs = refl;
             least = λ z i. omega (arith, least-le (dayOf c .cost) (y ∷ ys) z (subst (λ (l : List Node). In z l) e i));
           },
@@ -155,14 +163,14 @@ pub best-between : Between written
 best-between c a e m v best = (floor, λ shows. at shows (order-or-zeros c a e m))
   where
     floor : a .report .floor ≤ v
-    floor = rw (best .costs) (floor-holds c a e m (best .order) (orders-in (c .job .n) (best .order) (best .is-order)))
+    floor = rw (best .costs) (floor-holds c a e m (best .order) (ordersWith-in (c .job .n) (pairsOf (c .pairs)) (best .order) (best .is-allowed)))
 
     at :
         ShowsOrder (a .report)
         → (ShowsOrder (a .report) × HasOrder c (a .report)) ⊎ ((a .report .order ≡ replicate orderPlaces 0) × (a .report .cost ≡ 0))
         → v ≤ a .report .cost
     at shows (inl (own, h)) =
-        rw (h .cost-is-its) (best .least (orderIn c (a .report)) (orders-in (c .job .n) (orderIn c (a .report)) (h .is-order)))
+        rw (h .cost-is-its) (best .least (orderIn c (a .report)) (ordersWith-in (c .job .n) (pairsOf (c .pairs)) (orderIn c (a .report)) (h .is-allowed)))
     at shows (inr z) = absurd (shows (ap (λ (l : List ℕ). getD l 0 0) (z .0)))
 
 -- A run branches no more nodes than there are, and of the most stops there are far fewer.

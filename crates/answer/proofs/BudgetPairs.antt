@@ -30,13 +30,14 @@ use Rattle.answer.proofs.Budget.{stopped-as-written, order-shows}
 
 -- a's job with another budget and another pool
 abbrev alongside : Call → ℕ → List ℕ → Call
-alongside a budget pool = record { job = a .job; table = a .table; start = a .start; budget = budget; pool = pool }
+alongside a budget pool = record { job = a .job; table = a .table; start = a .start; pairs = a .pairs; budget = budget; pool = pool }
 
 same-call : (a b : Call) → OneJob a b → b ≡ alongside a (b .budget) (b .pool)
 same-call a b one = λ i. record {
   job = sym (one .job) i;
   table = sym (one .table) i;
   start = sym (one .start) i;
+  pairs = sym (one .pairs) i;
   budget = b .budget;
   pool = b .pool;
 }
@@ -57,7 +58,7 @@ no-dearer-than-start c a e m has =
     at h [] q has = absurd (has refl)
     at h (s ∷ x) q has =
         let (y, now, low) = best-never-dearer (problemOf c) (choicesOf c) (recordsIn (c .pool)) (h .steps) (s ∷ x) (ap given q) in
-        rw now (order-shows (c .job .n) (passes c (h .passed) .some) y (known-order (rw now at (best-known c (h .passed) (h .steps)))), low)
+        rw now (order-shows (c .job .n) (passes c (h .passed) .some) y (known-order (rw now at (best-known c (h .passed) (h .steps))) .order), low)
 
 module _ (a : Call) (k : ℕ) (longer : a .budget ≤ k) (pool : List ℕ) where
   abbrev b : Call
@@ -83,7 +84,7 @@ module _ (a : Call) (k : ℕ) (longer : a .budget ≤ k) (pool : List ℕ) where
     order-no-dearer none e shows = absurd (shows refl)
     order-no-dearer (some x) e shows =
         let (y, now, low) = best-never-dearer (problemOf b) (choicesOf b) (recordsIn pool) after x e in
-        rw now (order-shows (a .job .n) (passes b (g .passed) .some) y (known-order (rw now at (best-known b (g .passed) (g .steps)))), low)
+        rw now (order-shows (a .job .n) (passes b (g .passed) .some) y (known-order (rw now at (best-known b (g .passed) (g .steps))) .order), low)
 
   stopped-no-worse :
       {x y : Answer} → StoppedAt a x → StoppedAt b y

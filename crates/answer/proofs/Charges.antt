@@ -13,7 +13,8 @@ use Rattle.lists.specs.Lists.{In, any, from, padded}
 use Rattle.lists.proofs.Tests.{compared, to-false}
 use Rattle.lists.proofs.Elements.{getD-small}
 use Rattle.lists.proofs.Members.{any-in, in-from}
-use Rattle.orders.proofs.Orders.{in-orders}
+use Rattle.orders.specs.Pairs.{pairsOf}
+use Rattle.orders.proofs.Pairs.{in-ordersWith}
 use Rattle.stops.specs.Tables.{entry, charge, flying, counted, rows}
 use Rattle.stops.specs.Bounds.{endsAway}
 use Rattle.stops.proofs.LegTable.{in-table}
@@ -139,7 +140,7 @@ shown-has c a e shows = go (call-ends c a e)
 pub order-shown-pays : OrderShownPays written
 order-shown-pays c a e shows =
     let (passed, has) = shown-has c a e shows in
-    has .cost-is-its ∙ order-pays c passed (orderIn c (a .report)) (has .is-order)
+    has .cost-is-its ∙ order-pays c passed (orderIn c (a .report)) (has .is-allowed .order)
 
 pub cheapest-by-legs : CheapestByLegs written
 cheapest-by-legs c a e h y m =
@@ -149,6 +150,6 @@ cheapest-by-legs c a e h y m =
       arith,
       best .least y m,
       best .has-order .cost-is-its,
-      order-pays c passed (orderIn c (a .report)) (best .has-order .is-order),
-      order-pays c passed y (in-orders (c .job .n) y m),
+      order-pays c passed (orderIn c (a .report)) (best .has-order .is-allowed .order),
+      order-pays c passed y (in-ordersWith (c .job .n) (pairsOf (c .pairs)) y m .order),
     )

@@ -11,7 +11,7 @@ use Rattle.search.specs.Run.{Outcome, finished, stopped, full, unfinished, run}
 use Rattle.orders.specs.Orders.{Node, nodes}
 use Rattle.records.specs.Records.{recordsIn, poolWords}
 use Rattle.answer.specs.Call.{Call, callOf, Answer}
-use Rattle.answer.specs.Checks.{cause₆, orLater, jobCause, cause}
+use Rattle.answer.specs.Checks.{cause₆, orLater, jobCause, pairCause, poolCause, cause}
 use Rattle.answer.specs.Answer.{dayOf, problemOf, choicesOf, given, outcome, floorOf, wordsOf, ending, respond, answer}
 use Rattle.answer.specs.Demands.{written}
 use Rattle.answer.specs.Document01.{ContentsPlayNoPart}
@@ -20,14 +20,15 @@ use Rattle.answer.proofs.Instance.{outcome-ends}
 module _ (c : Call) (pool : List ℕ) (long : length pool ≡ length (c .pool)) where
   -- the same job over the other pool
   abbrev other : Call
-  other = record { job = c .job; table = c .table; start = c .start; budget = c .budget; pool = pool }
+  other = record { job = c .job; table = c .table; start = c .start; pairs = c .pairs; budget = c .budget; pool = pool }
 
   same-cause : cause other ≡ cause c
-  unfolding cause cause₆ recordsIn
+  unfolding cause poolCause cause₆ recordsIn
   same-cause =
       ap
       (λ (m : ℕ).
-      jobCause (c .job) (c .table) (c .start) (orLater (eqb (m / recordWords) 0 || not (eqb (m % recordWords) 0)) 6 0))
+      jobCause (c .job) (c .table) (c .start)
+      (pairCause (c .job .n) (c .start) (c .pairs) (orLater (eqb (m / recordWords) 0 || not (eqb (m % recordWords) 0)) 6 0)))
       long
 
   same-outcome : outcome other ≡ outcome c

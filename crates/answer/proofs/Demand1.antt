@@ -41,7 +41,7 @@ call-ended c = go (call-came c)
         refused
         (record {
           some-cause = omega arith;
-          of-six = cause-small c;
+          of-seven = cause-small c;
           reported = ap (λ (a : Answer). a .report) q;
           pool-stays = ap (λ (a : Answer). a .pool) q;
         })
@@ -51,7 +51,7 @@ call-ended c = go (call-came c)
         let (steps, end) = finished-state c (f .state) (f .ran) in
         planned (ends-at c f steps (finish-holds c (f .state) (f .passed) steps end) refl)
         (answer-cheapest c
-        (ap (λ (a : Answer). a .report .number) (f .answered), ap (λ (a : Answer). a .report .mark) (f .answered)) .has-order .is-order)
+        (ap (λ (a : Answer). a .report .number) (f .answered), ap (λ (a : Answer). a .report .mark) (f .answered)) .has-order .is-allowed)
 
 pub call-ends : EveryCallEnds written
 call-ends c a e = subst (Ended c) (sym e) (call-ended c)

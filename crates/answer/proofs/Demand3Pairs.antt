@@ -16,27 +16,29 @@ use Rattle.search.proofs.PlainSelection.{lateBy, rankBy}
 use Rattle.search.proofs.Plain.{tree, planOf, cutOf, adds, finished-iff-done}
 use Rattle.search.proofs.Below.{Closer}
 use Rattle.search.proofs.Compare.{compare-runs}
-use Rattle.orders.specs.Orders.{Node, size, Order, nodes}
+use Rattle.orders.specs.Orders.{Node, size, nodes}
+use Rattle.orders.specs.Pairs.{pairsOf}
 use Rattle.days.specs.Days.{Day, problem, choices}
-use Rattle.days.proofs.Walk.{walk-closer}
+use Rattle.days.proofs.Walk.{walk-closer, problem-same}
 use Rattle.stops.specs.Bounds.{endsAway}
 use Rattle.records.specs.Records.{recordsIn}
 use Rattle.answer.specs.Call.{Call, Answer}
 use Rattle.answer.specs.Checks.{cause}
 use Rattle.answer.specs.Answer.{dayOf, problemOf, choicesOf, given, outcome, reportWith, ending, respond, answer}
-use Rattle.answer.specs.Ends.{Finishes}
+use Rattle.answer.specs.Ends.{Finishes, AllowedOrder}
 use Rattle.answer.specs.Demands.{written, AsClose, Favours, NoWorse, FavouredFinishes}
 use Rattle.answer.proofs.Passes.{Passes, passes}
 use Rattle.answer.proofs.Instance.{call-walk, one-day, closer-ends, order-cheap, call-lawful, bound-laws, call-manner, call-solvable, start-known, selection-small}
 use Rattle.answer.proofs.Ending.{Finished, finishes-finished}
 
 -- B over A's own n, table and selection
-abbrev alongside : Call → ℕ → ℕ → List ℕ → ℕ → List ℕ → Call
-alongside a rules bound start budget pool =
+abbrev alongside : Call → ℕ → ℕ → List ℕ → List ℕ → ℕ → List ℕ → Call
+alongside a rules bound start pairs budget pool =
     record {
       job = record { n = a .job .n; selection = a .job .selection; rules = rules; bound = bound };
       table = a .table;
       start = start;
+      pairs = pairs;
       budget = budget;
       pool = pool;
     }
@@ -48,9 +50,9 @@ same-rank P f g (suc zero) h = absurd (omega arith)
 same-rank P f g (suc (suc zero)) h = refl
 same-rank P f g (suc (suc (suc k))) h = refl
 
-module _ (a : Call) (ok : Passes a) (rules bound : ℕ) (first : List ℕ) (budget : ℕ) (pool : List ℕ) (favours : Favours a (alongside a rules bound first budget pool)) where
+module _ (a : Call) (ok : Passes a) (rules bound : ℕ) (first pairs : List ℕ) (budget : ℕ) (pool : List ℕ) (favours : Favours a (alongside a rules bound first pairs budget pool)) where
   abbrev b : Call
-  b = alongside a rules bound first budget pool
+  b = alongside a rules bound first pairs budget pool
 
   -- both end at home, or both away
   ends-alike : endsAway bound ≡ endsAway (a .job .bound)
@@ -110,13 +112,13 @@ module _ (a : Call) (ok : Passes a) (rules bound : ℕ) (first : List ℕ) (budg
   unfolding problemOf problem
   lower-start = go (a .start) first (ok .start) (favours .start)
     where
-      below : (x : Node) → (x ≡ []) ⊎ Order (a .job .n) x → upper (problemOf a) (given x) ≤ problemOf a .above
+      below : (x : Node) → (x ≡ []) ⊎ AllowedOrder a x → upper (problemOf a) (given x) ≤ problemOf a .above
       below [] o = omega arith
       below (s ∷ x) (inl e) = absurd (let z : _≡_ {A = ℕ} 0 1 = cc in omega arith)
-      below (s ∷ x) (inr o) = omega (arith, order-cheap a ok (s ∷ x) o)
+      below (s ∷ x) (inr o) = omega (arith, order-cheap a ok (s ∷ x) (o .order))
 
       go :
-          (x y : Node) → (x ≡ []) ⊎ Order (a .job .n) x → (y ≡ []) ⊎ ((x ≡ [] → ⊥) × (dayOf a .cost x ≤ dayOf a .cost y))
+          (x y : Node) → (x ≡ []) ⊎ AllowedOrder a x → (y ≡ []) ⊎ ((x ≡ [] → ⊥) × (dayOf a .cost x ≤ dayOf a .cost y))
           → upper (problemOf a) (given x) ≤ upper (problemOf a) (given y)
       go x [] o h = below x o
       go x (r ∷ y) o (inl e) = absurd (let z : _≡_ {A = ℕ} 0 1 = cc in omega arith)
@@ -140,9 +142,11 @@ module _ (a : Call) (ok : Passes a) (rules bound : ℕ) (first : List ℕ) (budg
   one-run =
       ap
       (λ (D : Day).
-      let P : Problem Node = problem (a .job .n) D in
+      let P : Problem Node = problem (a .job .n) (pairsOf pairs) D in
       run P (choices D (a .job .selection) rules bound budget) (recordsIn pool) (suc (nodes (a .job .n))) (start P (given first)))
       (one-day b a (record { n = refl; table = refl }) ends-alike)
+      ∙ ap (λ (P : Problem Node). run P other (recordsIn pool) (suc (nodes (a .job .n))) (start P (given first)))
+      (sym (problem-same (a .job .n) (pairsOf (a .pairs)) (pairsOf pairs) (dayOf a) (favours .pairs)))
 
   -- .. and over A's plan
   other-done :
@@ -179,12 +183,13 @@ module _ (a : Call) (ok : Passes a) (rules bound : ℕ) (first : List ℕ) (budg
         most,
       )
 
--- B is the call alongside A that has its rules, bound, starting order, budget and pool.
-same-call : (a b : Call) → Favours a b → b ≡ alongside a (b .job .rules) (b .job .bound) (b .start) (b .budget) (b .pool)
+-- B is the call alongside A that has its rules, bound, starting order, pairs, budget and pool.
+same-call : (a b : Call) → Favours a b → b ≡ alongside a (b .job .rules) (b .job .bound) (b .start) (b .pairs) (b .budget) (b .pool)
 same-call a b f = λ i. record {
   job = record { n = sym (f .n) i; selection = sym (f .selection) i; rules = b .job .rules; bound = b .job .bound };
   table = sym (f .table) i;
   start = b .start;
+  pairs = b .pairs;
   budget = b .budget;
   pool = b .pool;
 }
@@ -194,9 +199,9 @@ answers-no-worse :
 unfolding answer respond ending reportWith
 answers-no-worse a b f passed h =
     let fb : Finished b = finishes-finished b h in
-    let e : b ≡ alongside a (b .job .rules) (b .job .bound) (b .start) (b .budget) (b .pool) = same-call a b f in
+    let e : b ≡ alongside a (b .job .rules) (b .job .bound) (b .start) (b .pairs) (b .budget) (b .pool) = same-call a b f in
     let (d, ran, branched, generated, most) =
-    beside-finishes a (passes a passed) (b .job .rules) (b .job .bound) (b .start) (b .budget) (b .pool) (subst (Favours a) e f) (fb .state)
+    beside-finishes a (passes a passed) (b .job .rules) (b .job .bound) (b .start) (b .pairs) (b .budget) (b .pool) (subst (Favours a) e f) (fb .state)
     (ap outcome (sym e) ∙ fb .ran) in
     let answered : answer a ≡ ending a (finished d) = ap (respond a) passed ∙ ap (ending a) ran in
     subst (λ (x : Answer). NoWorse (x .report) (answer b .report)) (sym answered)

@@ -3,17 +3,18 @@
 --   Came, call-came                   a check refuses the call, or one of these. No run is left `unfinished`: its fuel is never used up
 --                                     (`outcome-ends`)
 --   finishes-finished, number-7       the number and the mark of a report say which
---   boundCause-small, cause-small    a cause of a table and a bound is one of four, and of a call one of six
+--   cause-small         a cause of a call is one of 1 to 6, or 11
 use mathlib.Core.Path.{_≡_, refl, ap, sym, _∙_}
 use mathlib.Core.Bool.{Bool, true, false}
 use mathlib.Core.List.{List}
+use mathlib.Core.Logic.{_⊎_, inl, inr}
 use Prim.Native.Nat.{ℕ, zero, suc, _≤_}
 use native.Mathlib.Omega.{arith}
 use Rattle.search.specs.Problem.{State}
 use Rattle.search.specs.Run.{Outcome, finished, stopped, full, unfinished}
 use Rattle.orders.specs.Orders.{Node}
 use Rattle.answer.specs.Call.{Call, Answer, refusal}
-use Rattle.answer.specs.Checks.{cause₁, cause₂, cause₃, noSuchBound, cause₄, cause₅, cause₆, orLater, tableCause, boundCause, jobCause, cause}
+use Rattle.answer.specs.Checks.{cause₁, cause₂, cause₃, noSuchBound, cause₄, cause₅, cause₁₁, againstPairs, cause₆, orLater, tableCause, firstCause, jobCause, pairCause, poolCause, cause}
 use Rattle.answer.specs.Answer.{outcome, reportWith, ending, respond, answer}
 use Rattle.answer.specs.Ends.{Finishes}
 use Rattle.answer.proofs.Instance.{outcome-ends}
@@ -57,26 +58,38 @@ call-came c = go (cause c) refl
     go zero e = ran e (outcome c) refl
     go (suc k) e = checked k e (ap (respond c) e ∙ ap (λ (m : ℕ). record { report = refusal m; pool = c .pool }) (sym e))
 
--- a cause of a table and a bound is one of four, and of a call one of six
-or-later : (b : Bool) (number later m : ℕ) → number ≤ m → later ≤ m → orLater b number later ≤ m
-or-later true number later m h k = h
+-- a cause of a table, a bound and pairs is one of 1 to 4, or 11, and of a call one of 1 to 6, or 11
+or-later : (b : Bool) (number later m : ℕ) → number ≤ m → (later ≤ m) ⊎ (later ≡ 11) → (orLater b number later ≤ m) ⊎ (orLater b number later ≡ 11)
+or-later true number later m h k = inl h
 or-later false number later m h k = k
 
-pub boundCause-small : (n bound : ℕ) (table : List ℕ) → boundCause n bound table ≤ 4
-unfolding tableCause boundCause
-boundCause-small n bound table =
+or-eleven : (b : Bool) (later m : ℕ) → later ≤ m → (orLater b 11 later ≤ m) ⊎ (orLater b 11 later ≡ 11)
+or-eleven true later m h = inr refl
+or-eleven false later m h = inl h
+
+pub firstCause-small : (n bound : ℕ) (table pairs : List ℕ) → (firstCause n bound table pairs ≤ 4) ⊎ (firstCause n bound table pairs ≡ 11)
+unfolding tableCause firstCause
+firstCause-small n bound table pairs =
     or-later (cause₁ n) 1 _ 4 (omega arith)
     (or-later (cause₂ n table) 2 _ 4 (omega arith)
-    (or-later (cause₃ n table) 3 _ 4 (omega arith) (or-later (noSuchBound bound) 4 0 4 (omega arith) (omega arith))))
+    (or-later (cause₃ n table) 3 _ 4 (omega arith)
+    (or-later (noSuchBound bound) 4 _ 4 (omega arith) (or-eleven (cause₁₁ n pairs) 0 4 (omega arith)))))
 
-pub cause-small : (c : Call) → cause c ≤ 6
-unfolding cause tableCause jobCause
+pub cause-small : (c : Call) → (cause c ≤ 6) ⊎ (cause c ≡ 11)
+unfolding cause tableCause jobCause pairCause poolCause
 cause-small c =
-    or-later (cause₁ (c .job .n)) 1 _ 6 (omega arith)
-    (or-later (cause₂ (c .job .n) (c .table)) 2 _ 6 (omega arith)
-    (or-later (cause₃ (c .job .n) (c .table)) 3 _ 6 (omega arith)
+    let n : ℕ = c .job .n in
+    or-later (cause₁ n) 1 _ 6 (omega arith)
+    (or-later (cause₂ n (c .table)) 2 _ 6 (omega arith)
+    (or-later (cause₃ n (c .table)) 3 _ 6 (omega arith)
     (or-later (cause₄ (c .job)) 4 _ 6 (omega arith)
-    (or-later (cause₅ (c .job .n) (c .start)) 5 _ 6 (omega arith) (or-later (cause₆ (c .pool)) 6 0 6 (omega arith) (omega arith))))))
+    (or-later (cause₅ n (c .start)) 5 _ 6 (omega arith)
+    (or-later (againstPairs n (c .start) (c .pairs)) 5 _ 6 (omega arith)
+    (or-eleven (cause₁₁ n (c .pairs)) (orLater (cause₆ (c .pool)) 6 0) 6 (six (cause₆ (c .pool)))))))))
+  where
+    six : (b : Bool) → orLater b 6 0 ≤ 6
+    six true = omega arith
+    six false = omega arith
 
 -- the number and the mark of the report
 module _ (c : Call) where
@@ -100,8 +113,12 @@ module _ (c : Call) where
   unfolding refusal ending reportWith
   number-7 h = go (call-came c)
     where
+      seven : cause c ≡ 7 → (cause c ≤ 6) ⊎ (cause c ≡ 11) → ⊥
+      seven z (inl k) = omega arith
+      seven z (inr k) = omega arith
+
       go : Came c → Filled c
-      go (checked k e q) = absurd (let z : cause c ≡ 7 = number-of 7 h q in omega (arith, cause-small c))
+      go (checked k e q) = absurd (seven (number-of 7 h q) (cause-small c))
       go (spent f) = absurd (let z : _≡_ {A = ℕ} 0 7 = number-of 7 h (f .answered) in omega arith)
       go (overran f) = f
       go (ended f) = absurd (let z : _≡_ {A = ℕ} 0 7 = number-of 7 h (f .answered) in omega arith)

@@ -16,7 +16,9 @@ use Rattle.search.proofs.Ends.{start-ends}
 use Rattle.search.proofs.Outcome.{finished-means, stopped-means, full-means, overflow-full, halt-stopped, finish-finished, steps-reached}
 use Rattle.orders.specs.Orders.{Node, size, Order, nodes}
 use Rattle.orders.proofs.Partial.{partial-root, partial-size}
-use Rattle.orders.proofs.Order.{order-complete, order-leads}
+use Rattle.orders.proofs.Order.{order-complete}
+use Rattle.orders.specs.Pairs.{pairsOf, Pairing, Allowed}
+use Rattle.orders.proofs.Pairs.{allowed-leads}
 use Rattle.days.specs.Days.{Closer, problem, choices}
 use Rattle.days.proofs.Walk.{Walk, walk-lawful, walk-bound, day-weighs, day-solvable}
 use Rattle.stops.specs.Tables.{rows}
@@ -29,7 +31,7 @@ use Rattle.records.specs.Records.{recordsIn}
 use Rattle.answer.specs.Call.{Call}
 use Rattle.answer.specs.Answer.{dayOf, problemOf, choicesOf, given, outcome, StateOf}
 use Rattle.answer.specs.Demands.{OneTable, EndAlike}
-use Rattle.answer.proofs.Passes.{Passes}
+use Rattle.answer.proofs.Passes.{Passes, pairs-pairing}
 
 -- a node weighs as much as there are nodes below it, itself included
 pub weight : Call → Node → ℕ
@@ -37,7 +39,7 @@ weight c x = nodes (c .job .n - size (c .job .n) x)
 
 pub call-weighs : (c : Call) → Weighs (problemOf c) (weight c)
 unfolding problemOf weight
-call-weighs c = day-weighs (c .job .n) (dayOf c)
+call-weighs c = day-weighs (c .job .n) (pairsOf (c .pairs)) (dayOf c)
 
 -- e weighs less than the fuel
 pub root-light : (c : Call) → weight c (problemOf c .root) < suc (nodes (c .job .n))
@@ -118,17 +120,20 @@ module _ (c : Call) (ok : Passes c) where
   unfolding dayOf
   order-cheap x o = order-below (rows (c .job .n) (endsAway (c .job .bound)) (c .table)) call-cheap (c .job .n) (ok .priced .few) x o
 
+  pub call-pairing : Pairing (c .job .n) (pairsOf (c .pairs))
+  call-pairing = pairs-pairing (ok .pairs)
+
   pub known-cheap : (x : Node) → Order (c .job .n) x → problemOf c .cost x < aboveEveryCost
   unfolding problemOf problem
   known-cheap = order-cheap
 
   pub call-lawful : Lawful (tree (problemOf c)) (size (c .job .n)) (c .job .n)
   unfolding problemOf
-  call-lawful = walk-lawful (call-walk c) (ok .some)
+  call-lawful = walk-lawful (call-walk c) (pairsOf (c .pairs)) (ok .some)
 
   pub bound-laws : BoundLaws (tree (problemOf c)) (choicesOf c .bound)
   unfolding problemOf choicesOf choices
-  bound-laws = walk-bound (call-walk c) (c .job .bound) (ok .bound)
+  bound-laws = walk-bound (call-walk c) (pairsOf (c .pairs)) (c .job .bound) (ok .bound)
 
   pub selection-small : choicesOf c .selection ≤ 3
   unfolding choicesOf choices
@@ -139,16 +144,17 @@ module _ (c : Call) (ok : Passes c) where
 
   pub call-solvable : Solvable (problemOf c)
   unfolding problemOf
-  call-solvable = day-solvable (c .job .n) (dayOf c) order-cheap
+  call-solvable = day-solvable (c .job .n) (pairsOf (c .pairs)) (dayOf c) call-pairing (λ x a. order-cheap x (a .order))
 
   pub start-known : KnownIn (problemOf c) (given (c .start))
   unfolding problemOf problem
   start-known = go (c .start) (ok .start)
     where
-      go : (x : List ℕ) → (x ≡ []) ⊎ Order (c .job .n) x → KnownIn (problemOf c) (given x)
+      go : (x : List ℕ) → (x ≡ []) ⊎ Allowed (c .job .n) (pairsOf (c .pairs)) x → KnownIn (problemOf c) (given x)
       go [] h = unknown
       go (s ∷ x) (inl e) = absurd (let z : _≡_ {A = ℕ} 0 1 = cc in omega arith)
-      go (s ∷ x) (inr o) = known (s ∷ x) (order-complete (c .job .n) (s ∷ x) o) (order-leads (c .job .n) (problemOf c) (λ y. refl) (s ∷ x) o)
+      go (s ∷ x) (inr a) =
+          known (s ∷ x) (order-complete (c .job .n) (s ∷ x) (a .order)) (allowed-leads call-pairing (problemOf c) (λ y. refl) (s ∷ x) a)
 
   pub state-reached : {s : State Node} → StateOf c s → Reaches c s
   state-reached steps = steps-reached (problemOf c) (choicesOf c) (recordsIn (c .pool)) selection-small steps

@@ -1,8 +1,9 @@
 -- Causes 1 to 5 and the cause of a call.
 --   First, table-causes, job-first    a cause from 1 to 3, or to 5, stands whatever comes later; where there is none, what comes later is the
 --                                     answer
---   job-refuses         a call with one of causes 1 to 5 has that cause, whatever its pool
---   job-passes          a call with none has cause 6 or no cause
+--   job-refuses         a call with one of causes 1 to 5 has that cause, whatever its pairs and its pool
+--   pair-refuses        a call with none of them whose pairs have a cause has that cause, whatever its pool
+--   call-passes         a call with neither has cause 6 or no cause
 use mathlib.Core.Path.{_≡_, refl, sym, _∙_}
 use mathlib.Core.Bool.{Bool, true, false}
 use mathlib.Core.List.{List}
@@ -11,7 +12,7 @@ use Prim.Native.Nat.{ℕ, suc}
 use native.Mathlib.Omega.{arith}
 use Rattle.answer.specs.Call.{callOf}
 use Rattle.answer.specs.declared.Job.{Job}
-use Rattle.answer.specs.Checks.{cause₁, cause₂, cause₃, cause₄, cause₅, cause₆, orLater, tableCause, jobCause, cause}
+use Rattle.answer.specs.Checks.{cause₁, cause₂, cause₃, cause₄, cause₅, cause₁₁, againstPairs, orLater, tableCause, jobCause, pairCause, poolCause, cause}
 
 -- f has a number of its own, which is not 0, or answers with what comes later
 pub record First (f : ℕ → ℕ) : Type 0 where
@@ -36,15 +37,27 @@ job-first job table start =
     (first-or (cause₂ (job .n) table) 1
     (first-or (cause₃ (job .n) table) 2 (first-or (cause₄ job) 3 (first-or (cause₅ (job .n) start) 4 first-later))))
 
-module _ (job : Job) (table start : List ℕ) (budget : ℕ) (pool : List ℕ) where
-  -- the number of cause 6, which is looked at last
-  abbrev later : ℕ
-  later = orLater (cause₆ pool) 6 0
+pair-first : (n : ℕ) (start pairs : List ℕ) → First (pairCause n start pairs)
+unfolding pairCause
+pair-first n start pairs = first-or (againstPairs n start pairs) 4 (first-or (cause₁₁ n pairs) 10 first-later)
 
-  pub job-refuses : (k : ℕ) → k ≡ jobCause job table start 0 → k ≢ 0 → k ≡ cause (callOf job table start budget pool)
+module _ (job : Job) (table start pairs : List ℕ) (budget : ℕ) (pool : List ℕ) where
+  pub job-refuses : (k : ℕ) → k ≡ jobCause job table start 0 → k ≢ 0 → k ≡ cause (callOf job table start pairs budget pool)
   unfolding cause callOf
-  job-refuses k e h = e ∙ job-first job table start .own (λ z. h (e ∙ z)) later
+  job-refuses k e h = e ∙ job-first job table start .own (λ z. h (e ∙ z)) (pairCause (job .n) start pairs (poolCause pool))
 
-  pub job-passes : (k : ℕ) → k ≡ jobCause job table start 0 → k ≡ 0 → cause (callOf job table start budget pool) ≡ later
+  pub job-passes :
+      (k : ℕ) → k ≡ jobCause job table start 0 → k ≡ 0
+      → cause (callOf job table start pairs budget pool) ≡ pairCause (job .n) start pairs (poolCause pool)
   unfolding cause callOf
-  job-passes k e z = job-first job table start .none (sym e ∙ z) later
+  job-passes k e z = job-first job table start .none (sym e ∙ z) (pairCause (job .n) start pairs (poolCause pool))
+
+  pub pair-refuses :
+      (k : ℕ) → k ≡ jobCause job table start 0 → k ≡ 0 → (j : ℕ) → j ≡ pairCause (job .n) start pairs 0 → j ≢ 0
+      → j ≡ cause (callOf job table start pairs budget pool)
+  pair-refuses k e z j f h = f ∙ pair-first (job .n) start pairs .own (λ y. h (f ∙ y)) (poolCause pool) ∙ sym (job-passes k e z)
+
+  pub call-passes :
+      (k : ℕ) → k ≡ jobCause job table start 0 → k ≡ 0 → (j : ℕ) → j ≡ pairCause (job .n) start pairs 0 → j ≡ 0
+      → cause (callOf job table start pairs budget pool) ≡ poolCause pool
+  call-passes k e z j f y = job-passes k e z ∙ pair-first (job .n) start pairs .none (sym f ∙ y) (poolCause pool)

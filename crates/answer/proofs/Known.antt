@@ -1,6 +1,6 @@
--- At every state of a call's run the order known, if one is, is an order of the n stops (`best-known`), and a report with it has that order and
--- its cost (`order-reported`).
-use mathlib.Core.Path.{_≡_, refl, sym, ap}
+-- At every state of a call's run the order known, if one is, is an order of the n stops that respects the pairs (`best-known`), and a report with it has
+-- that order and its cost (`order-reported`).
+use mathlib.Core.Path.{_≡_, refl, sym, ap, subst}
 use mathlib.Core.Option.{Option, none, some}
 use Prim.Native.Nat.{ℕ, _-_}
 use lib.ListN.{length, take, replicate}
@@ -12,22 +12,23 @@ use Rattle.search.proofs.Laws.{KnownIn, unknown as unknownIn, known as knownIn}
 use Rattle.search.proofs.Plain.{tree, planOf, cutOf}
 use Rattle.search.proofs.Optimal.{reached-known}
 use Rattle.orders.specs.Orders.{Node, size, Order}
-use Rattle.orders.proofs.Order.{leads-order, order-length}
+use Rattle.orders.proofs.Order.{order-length}
+use Rattle.orders.proofs.Pairs.{leads-allowed}
 use Rattle.days.specs.Days.{problem}
 use Rattle.records.specs.Records.{recordsIn}
 use Rattle.answer.specs.Call.{Call}
 use Rattle.answer.specs.Checks.{cause}
 use Rattle.answer.specs.Answer.{dayOf, problemOf, choicesOf, given, StateOf, reportWith}
-use Rattle.answer.specs.Ends.{HasOrder}
+use Rattle.answer.specs.Ends.{AllowedOrder, HasOrder}
 use Rattle.answer.proofs.Passes.{Passes, passes}
-use Rattle.answer.proofs.Instance.{call-lawful, bound-laws, start-known, state-reached}
+use Rattle.answer.proofs.Instance.{call-pairing, call-lawful, bound-laws, start-known, state-reached}
 
 pub data BestKnown (c : Call) : Option Node → Type 0 where
   unknown : BestKnown c none
-  known : (x : Node) → Order (c .job .n) x → BestKnown c (some x)
+  known : (x : Node) → AllowedOrder c x → BestKnown c (some x)
 
-pub known-order : {c : Call} {x : Node} → BestKnown c (some x) → Order (c .job .n) x
-known-order (known x o) = o
+pub known-order : {c : Call} {x : Node} → BestKnown c (some x) → AllowedOrder c x
+known-order (known x a) = a
 
 pub best-known : (c : Call) → cause c ≡ 0 → {s : State Node} → StateOf c s → BestKnown c (s .best)
 unfolding problemOf problem
@@ -39,7 +40,7 @@ best-known c passed {s} steps =
   where
     at : (best : Option Node) → KnownIn (problemOf c) best → BestKnown c best
     at best unknownIn = unknown
-    at best (knownIn x whole leads) = known x (leads-order (c .job .n) (problemOf c) (λ y. refl) x whole leads)
+    at best (knownIn x whole leads) = known x (leads-allowed (call-pairing c (passes c passed)) (problemOf c) (λ y. refl) x whole leads)
 
 -- a report's first n places hold its order
 padded-front : (n : ℕ) (x : Node) → Order n x → take n (padded orderPlaces x) ≡ x
@@ -47,9 +48,9 @@ unfolding padded
 padded-front n x o = take-at x (replicate (orderPlaces - length x) 0) n (order-length n x o)
 
 pub order-reported :
-    (c : Call) (number mark floor : ℕ) (x : Node) (s : State Node) → Order (c .job .n) x
+    (c : Call) (number mark floor : ℕ) (x : Node) (s : State Node) → AllowedOrder c x
     → HasOrder c (reportWith number mark (dayOf c .cost x) floor x s)
 unfolding reportWith
-order-reported c number mark floor x s o =
-    let front : take (c .job .n) (padded orderPlaces x) ≡ x = padded-front (c .job .n) x o in
-    record { is-order = rw front o; zeros-past-n = ap (padded orderPlaces) (sym front); cost-is-its = ap (dayOf c .cost) (sym front) }
+order-reported c number mark floor x s a =
+    let front : take (c .job .n) (padded orderPlaces x) ≡ x = padded-front (c .job .n) x (a .order) in
+    record { is-allowed = subst (AllowedOrder c) (sym front) a; zeros-past-n = ap (padded orderPlaces) (sym front); cost-is-its = ap (dayOf c .cost) (sym front) }

@@ -17,3 +17,4 @@ pub mod OnDay
 pub mod Charges
 pub mod Away
 pub mod AsBefore
+pub mod Pairs

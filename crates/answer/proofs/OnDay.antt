@@ -19,21 +19,23 @@ use Rattle.search.proofs.Mapped.{Maps, ValidBest, ValidState}
 use Rattle.search.proofs.MappedRun.{start-valid}
 use Rattle.search.proofs.SameRun.{EndsValid, same-run}
 use Rattle.orders.specs.Orders.{Node, setOf, mask, size, complete, Partial, Order, nodes}
+use Rattle.orders.specs.Pairs.{pairsOf, Allowed}
 use Rattle.orders.proofs.Partial.{partial-root, partial-child}
+use Rattle.orders.proofs.Pairs.{kids-extend}
 use Rattle.orders.proofs.Order.{order-partial, order-complete, partial-order}
 use Rattle.days.specs.Days.{Day, problem, choices}
 use Rattle.records.specs.Records.{orderWord, record-of, poolWords, recordsIn}
 use Rattle.answer.specs.Call.{Call}
 use Rattle.answer.specs.Checks.{cause}
 use Rattle.answer.specs.Answer.{dayOf, problemOf, choicesOf, given, stopsOf, costOf, outcome, floorOf, reportWith, wordsOf, ending, respond, answer}
-use Rattle.answer.specs.OnDay.{problemOn, choicesOn, outcomeOn, wordsOn, floorOn, endingOn, answerOn, OnItsDay, SameFigures, FiguresDecide}
+use Rattle.answer.specs.OnDay.{choicesOn, outcomeOf, wordsOn, floorOn, endingBy, answerBy, problemOn, answerOn, OnItsDay, SameFigures, FiguresDecide}
 use Rattle.answer.proofs.Passes.{Passes, passes}
 
 pub on-its-day : OnItsDay
 unfolding answer respond ending outcome problemOf choicesOf floorOf wordsOf
 on-its-day c = go (cause c)
   where
-    at : (o : Outcome Node) → ending c o ≡ endingOn (dayOf c) c o
+    at : (o : Outcome Node) → ending c o ≡ endingBy (problemOf c) (dayOf c) c o
     at (finished s) = refl
     at (stopped s) = refl
     at (full s) = refl
@@ -55,13 +57,13 @@ module _ (c : Call) (ok : Passes c) (D E : Day) (same : SameFigures (c .job .n) 
   complete-cost : (x : Node) → Partial n x → T (complete n x) → D .cost x ≡ E .cost x
   complete-cost x p whole = same .orders-cost x (partial-order n x p whole)
 
-  day-maps : Maps (λ x. x) (Partial (c .job .n)) (problemOn E c) (problemOn D c) (choicesOn E c) (choicesOn D c)
+  day-maps : Maps (λ x. x) (Partial (c .job .n)) (problemOn E c) (problemOn D c) (choicesOn (problemOn E c) E c) (choicesOn (problemOn D c) D c)
   unfolding problem choices
   day-maps = record {
     root = refl;
     root-valid = partial-root n;
     children = λ x p. sym (map-id _);
-    children-valid = partial-child n;
+    children-valid = λ x y p m. partial-child n x y p (kids-extend n (pairsOf (c .pairs)) x y m);
     complete = λ x p. refl;
     cost = complete-cost;
     dominates = same .dominances;
@@ -76,13 +78,13 @@ module _ (c : Call) (ok : Passes c) (D E : Day) (same : SameFigures (c .job .n) 
   unfolding problem
   given-valid = go (c .start) (ok .start)
     where
-      go : (x : List ℕ) → (x ≡ []) ⊎ Order n x → ValidBest (Partial (c .job .n)) (problemOn E c) (given x)
+      go : (x : List ℕ) → (x ≡ []) ⊎ Allowed n (pairsOf (c .pairs)) x → ValidBest (Partial (c .job .n)) (problemOn E c) (given x)
       go [] h = tt
       go (s ∷ x) (inl e) = absurd (let z : _≡_ {A = ℕ} 0 1 = cc in omega arith)
-      go (s ∷ x) (inr o) = (order-partial n (s ∷ x) o, order-complete n (s ∷ x) o)
+      go (s ∷ x) (inr o) = (order-partial n (s ∷ x) (o .order), order-complete n (s ∷ x) (o .order))
 
   -- the run over D is the one over E, and ends at partial orders
-  same-outcome : (outcomeOn D c ≡ outcomeOn E c) × EndsValid day-maps (recordsIn (c .pool)) (outcomeOn E c)
+  same-outcome : (outcomeOf (problemOn D c) D c ≡ outcomeOf (problemOn E c) E c) × EndsValid day-maps (recordsIn (c .pool)) (outcomeOf (problemOn E c) E c)
   unfolding start problem
   same-outcome =
       same-run day-maps (recordsIn (c .pool)) (suc (nodes n)) (start (problemOn E c) (given (c .start)))
@@ -106,11 +108,11 @@ module _ (c : Call) (ok : Passes c) (D E : Day) (same : SameFigures (c .job .n) 
         go none h = refl
         go (some x) h = sym (complete-cost x (h .0) (h .1))
 
-    same-floor : floorOn E c s ≡ floorOn D c s
+    same-floor : floorOn (problemOn E c) E c s ≡ floorOn (problemOn D c) D c s
     unfolding choices
     same-floor =
-        sym (ap (least (choicesOn D c .bound)) (sym (map-id (s .active)))
-        ∙ least-map (λ x. x) (choicesOn E c .bound) (choicesOn D c .bound) (s .active) (λ x m. same .bounds (c .job .bound) x (valid .active x m)))
+        sym (ap (least (choicesOn (problemOn D c) D c .bound)) (sym (map-id (s .active)))
+        ∙ least-map (λ x. x) (choicesOn (problemOn E c) E c .bound) (choicesOn (problemOn D c) D c .bound) (s .active) (λ x m. same .bounds (c .job .bound) x (valid .active x m)))
 
     held-valid : (x : Node) → In x (held (c .job .rules) s) → Partial n x
     unfolding held
@@ -124,7 +126,7 @@ module _ (c : Call) (ok : Passes c) (D E : Day) (same : SameFigures (c .job .n) 
         go true k = either (List·Memᴰ·append-cases (s .active) k)
         go false k = valid .active x k
 
-    same-words : wordsOn E c s ≡ wordsOn D c s
+    same-words : wordsOn (problemOn E c) E c s ≡ wordsOn (problemOn D c) D c s
     unfolding poolWords record-of
     same-words =
         ap (padded (length (c .pool)))
@@ -134,7 +136,7 @@ module _ (c : Call) (ok : Passes c) (D E : Day) (same : SameFigures (c .job .n) 
         ap₂ (λ (path bound : ℕ). size n x ∷ mask (setOf n x) ∷ path ∷ bound ∷ orderWord (take wordStops x) ∷ orderWord (drop wordStops x) ∷ [])
         (sym (same .paths x p)) (sym (same .bounds (c .job .bound) x p))))
 
-  same-ending : (o : Outcome Node) → EndsValid day-maps (recordsIn (c .pool)) o → endingOn E c o ≡ endingOn D c o
+  same-ending : (o : Outcome Node) → EndsValid day-maps (recordsIn (c .pool)) o → endingBy (problemOn E c) E c o ≡ endingBy (problemOn D c) D c o
   same-ending (finished s) v = λ i. record {
     report = reportWith 0 0 (same-upper s v i) 0 (stopsOf (s .best)) s;
     pool = same-words s v i;
@@ -147,7 +149,7 @@ module _ (c : Call) (ok : Passes c) (D E : Day) (same : SameFigures (c .job .n) 
   same-ending (unfinished s) v = refl
 
   same-answer : answerOn E c 0 ≡ answerOn D c 0
-  same-answer = same-ending (outcomeOn E c) (same-outcome .1) ∙ ap (endingOn D c) (sym (same-outcome .0))
+  same-answer = same-ending (outcomeOf (problemOn E c) E c) (same-outcome .1) ∙ ap (endingBy (problemOn D c) D c) (sym (same-outcome .0))
 
 pub figures-decide : FiguresDecide
 figures-decide c e D same = on-its-day c ∙ ap (answerOn (dayOf c) c) e ∙ same-answer c (passes c e) D (dayOf c) same

@@ -1,6 +1,7 @@
--- What it means that checks 1 to 3 let a table pass (`TablePasses`), checks 1 to 5 a job (`JobPasses`), and every check a call (`Passes`).
+-- What it means that checks 1 to 3 let a table pass (`TablePasses`), checks 1 to 5 a job (`JobPasses`), check 11 pairs (`PairsPass`), and every check a
+-- call (`Passes`).
 use mathlib.Core.Path.{_≡_, refl}
-use mathlib.Core.Bool.{Bool, true, false, not, _||_}
+use mathlib.Core.Bool.{Bool, true, false, not, _&&_, _||_}
 use mathlib.Core.List.{List, [], _∷_}
 use mathlib.Core.Logic.{_⊎_, inl, inr, _≢_}
 use Prim.Native.Nat.{ℕ, suc, _*_, _%_, _≤_}
@@ -8,22 +9,26 @@ use native.Mathlib.Omega.{arith}
 use lib.Dec.{T, T-not, not-T, ltb, eqb, nltb→le, eqb→eq}
 use lib.ListN.{length}
 use borrow.Author.Tests.{le-ltb}
-use Rattle.lists.specs.Lists.{In, any, from}
-use Rattle.lists.proofs.Tests.{neq, not-either, twice-not}
-use Rattle.lists.proofs.Members.{in-any, from-in}
-use Rattle.orders.specs.Orders.{Order, isOrder}
-use Rattle.orders.proofs.Order.{isOrder-order}
+use Rattle.lists.specs.Lists.{In, any, all, from, Distinct}
+use Rattle.lists.proofs.Tests.{neq, not-either, twice-not, to-false, either}
+use Rattle.lists.proofs.Members.{in-any, all-in, from-in}
+use Rattle.orders.specs.Orders.{stops, flown, count, Order, isOrder}
+use Rattle.orders.specs.Pairs.{pairsOf, Pairing, respects, Allowed}
+use Rattle.orders.proofs.Sets.{in-stops, flown-in}
+use Rattle.orders.proofs.Order.{isOrder-order, count-distinct}
+use Rattle.orders.proofs.PairFile.{file-pairing}
 use Rattle.stops.specs.Tables.{charge}
 use Rattle.stops.specs.Code.{Priced}
-use Rattle.sizes.specs.Sizes.{mostStops, dearestLeg, dearestCharge, recordWords}
+use Rattle.sizes.specs.Sizes.{mostStops, dearestLeg, dearestCharge, recordWords, mostPairBytes}
 use Rattle.records.specs.Records.{recordsIn}
 use Rattle.answer.specs.Call.{Call}
 use Rattle.answer.specs.declared.Job.{Job}
-use Rattle.answer.specs.Checks.{cause₁, cause₂, cause₃, noSuchBound, cause₄, cause₅, cause₆, isEmpty, orLater, tableCause, boundCause, jobCause, cause}
+use Rattle.answer.specs.Checks.{cause₁, cause₂, cause₃, noSuchBound, cause₄, cause₅, cause₁₁, againstPairs, cause₆, isEmpty, orLater, tableCause, firstCause, jobCause, pairCause, poolCause, cause}
 use Rattle.answer.specs.Cases
 use Rattle.answer.specs.BudgetCases
 use Rattle.answer.specs.ChargeCases
 use Rattle.answer.specs.AwayCases
+use Rattle.answer.specs.PairCases
 
 pub record TablePasses (n : ℕ) (table : List ℕ) : Type 0 where
   pub some : 1 ≤ n
@@ -36,13 +41,21 @@ pub record JobPasses (job : Job) (table order : List ℕ) : Type 0 where
   pub bound : job .bound ≤ 3
   pub start : (order ≡ []) ⊎ Order (job .n) order
 
+-- whole pairs, few of them, of the stops 1 to n, and none of these twice
+pub record PairsPass (n : ℕ) (bytes : List ℕ) : Type 0 where
+  pub whole : length bytes % 2 ≡ 0
+  pub few : length bytes ≤ mostPairBytes
+  pub only : (s : ℕ) → In s bytes → (1 ≤ s) × (s ≤ n)
+  pub once : Distinct bytes
+
 pub record Passes (c : Call) : Type 0 where
   pub some : 1 ≤ c .job .n
   pub priced : Priced (c .job .n) (c .table)
   pub selection : c .job .selection ≤ 3
   pub rules : c .job .rules ≤ 15
   pub bound : c .job .bound ≤ 3
-  pub start : (c .start ≡ []) ⊎ Order (c .job .n) (c .start)
+  pub start : (c .start ≡ []) ⊎ Allowed (c .job .n) (pairsOf (c .pairs)) (c .start)
+  pub pairs : PairsPass (c .job .n) (c .pairs)
   pub pool : 1 ≤ recordsIn (c .pool)
   pub whole : length (c .pool) % recordWords ≡ 0
 
@@ -98,9 +111,32 @@ choices-pass job h =
     let (r, s) = not-either (ltb 3 (job .selection)) (ltb 15 (job .rules)) p in
     (nltb→le 3 (job .selection) r, nltb→le 15 (job .rules) s, bound-passes (job .bound) q)
 
-start-passes : (n : ℕ) (x : List ℕ) → T (not (cause₅ n x)) → (x ≡ []) ⊎ Order n x
+pub start-passes : (n : ℕ) (x : List ℕ) → T (not (cause₅ n x)) → (x ≡ []) ⊎ Order n x
 unfolding cause₅
 start-passes n x h = start-given n x (twice-not (isEmpty x || isOrder n x) h)
+
+pub pairs-pass : (n : ℕ) (bytes : List ℕ) → T (not (cause₁₁ n bytes)) → PairsPass n bytes
+unfolding cause₁₁
+pairs-pass n bytes h =
+    let only = all (flown (stops n)) bytes in
+    let once = all (λ s. eqb (count s bytes) 1) bytes in
+    let (p, o) = not-either (eqb (length bytes % 2) 1 || ltb mostPairBytes (length bytes) || not only) (not once) h in
+    let (q, m) = not-either (eqb (length bytes % 2) 1 || ltb mostPairBytes (length bytes)) (not only) p in
+    let (w, f) = not-either (eqb (length bytes % 2) 1) (ltb mostPairBytes (length bytes)) q in
+    record {
+      whole = even (length bytes) (neq (length bytes % 2) 1 w);
+      few = nltb→le mostPairBytes (length bytes) f;
+      only = λ s i. in-stops n s (flown-in (stops n) s (all-in (flown (stops n)) bytes (twice-not only m) s i));
+      once =
+          count-distinct bytes
+          (λ s i. let e : count s bytes ≡ 1 = eqb→eq (count s bytes) 1 (all-in (λ r. eqb (count r bytes) 1) bytes (twice-not once o) s i) in omega arith);
+    }
+  where
+    even : (k : ℕ) → k % 2 ≢ 1 → k % 2 ≡ 0
+    even k h = omega (arith, h)
+
+pub pairs-pairing : {n : ℕ} {bytes : List ℕ} → PairsPass n bytes → Pairing n (pairsOf bytes)
+pairs-pairing {n} {bytes} p = file-pairing n bytes (p .only) (p .once)
 
 pool-passes : (pool : List ℕ) → T (not (cause₆ pool)) → (1 ≤ recordsIn pool) × (length pool % recordWords ≡ 0)
 unfolding cause₆
@@ -128,15 +164,19 @@ table-passed n table later e =
     } in
     (passed, e₃)
 
--- where none of causes 1 to 4 applies to a table and a bound
-pub bound-passed : (n bound : ℕ) (table : List ℕ) → boundCause n bound table ≡ 0 → TablePasses n table
-unfolding boundCause
-bound-passed n bound table e = table-passed n table _ e .0
+-- where none of causes 1 to 4 and 11 applies to a table, a bound and pairs
+pub first-passed : (n bound : ℕ) (table pairs : List ℕ) → firstCause n bound table pairs ≡ 0 → TablePasses n table × PairsPass n pairs
+unfolding firstCause
+first-passed n bound table pairs e =
+    let (p, e₃) = table-passed n table _ e in
+    let (h₄, e₄) = none-first (noSuchBound bound) 3 _ e₃ in
+    (p, pairs-pass n pairs (none-first (cause₁₁ n pairs) 10 0 e₄ .0))
 
 -- a bound that there is has no cause
-pub known-bound : (n bound : ℕ) (table : List ℕ) → bound ≤ 3 → boundCause n bound table ≡ tableCause n table 0
-unfolding boundCause noSuchBound
-known-bound n bound table h = rw (le-ltb 3 bound h) refl
+pub known-bound :
+    (n bound : ℕ) (table pairs : List ℕ) → bound ≤ 3 → firstCause n bound table pairs ≡ tableCause n table (orLater (cause₁₁ n pairs) 11 0)
+unfolding firstCause noSuchBound
+known-bound n bound table pairs h = rw (le-ltb 3 bound h) refl
 
 pub job-passed :
     (job : Job) (table order : List ℕ) (later : ℕ) → jobCause job table order later ≡ 0 → JobPasses job table order × (later ≡ 0)
@@ -155,18 +195,54 @@ job-passed job table order later e =
     } in
     (passed, e₅)
 
+pub no-cause-5 : (job : Job) (table order : List ℕ) → jobCause job table order 0 ≡ 0 → cause₅ (job .n) order ≡ false
+unfolding jobCause
+no-cause-5 job table order e =
+    let (p, e₃) = table-passed (job .n) table (orLater (cause₄ job) 4 (orLater (cause₅ (job .n) order) 5 0)) e in
+    let (h₄, e₄) = none-first (cause₄ job) 3 (orLater (cause₅ (job .n) order) 5 0) e₃ in
+    to-false (cause₅ (job .n) order) (none-first (cause₅ (job .n) order) 4 0 e₄ .0)
+
+-- where the pairs have no cause, they pass and the starting order respects them
+pub pair-passed :
+    (n : ℕ) (start pairs : List ℕ) (later : ℕ) → pairCause n start pairs later ≡ 0
+    → PairsPass n pairs × T (respects (pairsOf pairs) start) × (later ≡ 0)
+unfolding pairCause againstPairs
+pair-passed n start pairs later e =
+    let (h₅, e₅) = none-first (not (cause₁₁ n pairs) && not (respects (pairsOf pairs) start)) 4 _ e in
+    let (h₁₁, e₁₁) = none-first (cause₁₁ n pairs) 10 later e₅ in
+    (pairs-pass n pairs h₁₁, kept (cause₁₁ n pairs) (respects (pairsOf pairs) start) h₁₁ h₅, e₁₁)
+  where
+    kept : (a b : Bool) → T (not a) → T (not (not a && not b)) → T b
+    kept true b h k = absurd h
+    kept false true h k = tt
+    kept false false h k = absurd k
+
+allowed-start : (n : ℕ) (pairs x : List ℕ) → (x ≡ []) ⊎ Order n x → T (respects (pairsOf pairs) x) → (x ≡ []) ⊎ Allowed n (pairsOf pairs) x
+allowed-start n pairs x (inl e) h = inl e
+allowed-start n pairs x (inr o) h = inr (record { order = o; respected = h })
+
+-- a starting order that passed is an order
+pub start-order : {c : Call} → Passes c → (c .start ≡ []) ⊎ Order (c .job .n) (c .start)
+start-order {c} ok = go (ok .start)
+  where
+    go : (c .start ≡ []) ⊎ Allowed (c .job .n) (pairsOf (c .pairs)) (c .start) → (c .start ≡ []) ⊎ Order (c .job .n) (c .start)
+    go (inl e) = inl e
+    go (inr a) = inr (a .order)
+
 pub passes : (c : Call) → cause c ≡ 0 → Passes c
-unfolding cause
+unfolding cause poolCause
 passes c e =
-    let (p, e₅) = job-passed (c .job) (c .table) (c .start) (orLater (cause₆ (c .pool)) 6 0) e in
-    let (h₆, e₆) = none-first (cause₆ (c .pool)) 5 0 e₅ in
+    let (p, e₅) = job-passed (c .job) (c .table) (c .start) (pairCause (c .job .n) (c .start) (c .pairs) (poolCause (c .pool))) e in
+    let (q, r, e₁₁) = pair-passed (c .job .n) (c .start) (c .pairs) (poolCause (c .pool)) e₅ in
+    let (h₆, e₆) = none-first (cause₆ (c .pool)) 5 0 e₁₁ in
     record {
       some = p .legs .some;
       priced = p .legs .priced;
       selection = p .selection;
       rules = p .rules;
       bound = p .bound;
-      start = p .start;
+      start = allowed-start (c .job .n) (c .pairs) (c .start) (p .start) r;
+      pairs = q;
       pool = pool-passes (c .pool) h₆ .0;
       whole = pool-passes (c .pool) h₆ .1;
     }

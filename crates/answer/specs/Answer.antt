@@ -1,5 +1,5 @@
 -- The one function from what a caller hands in to the report and the pool's words afterwards: `answer`.
--- Document 01, "The report", "The pool" and "Causes and numbers"; document 02, A.3 and A.5.
+-- Document 01, "The report", "The pool" and "Causes and numbers"; document 02, A.3, A.5 and A.6.
 use mathlib.Core.List.{List, [], _∷_}
 use mathlib.Core.Option.{Option, none, some}
 use Prim.Native.Nat.{ℕ, zero, suc}
@@ -8,6 +8,7 @@ use Rattle.lists.specs.Lists.{padded, least}
 use Rattle.search.specs.Problem.{Problem, Choices, State, upper, start}
 use Rattle.search.specs.Run.{Outcome, finished, stopped, full, unfinished, run, Steps}
 use Rattle.orders.specs.Orders.{Node, nodes}
+use Rattle.orders.specs.Pairs.{pairsOf}
 use Rattle.days.specs.Days.{Day, problem, choices}
 use Rattle.stops.specs.Tables.{rows}
 use Rattle.stops.specs.Bounds.{endsAway}
@@ -22,8 +23,9 @@ use Rattle.answer.specs.Checks.{cause}
 unfoldable pub dayOf : Call → Day
 dayOf c = dayOn (c .job .n) (rows (c .job .n) (endsAway (c .job .bound)) (c .table))
 
+-- its search, in which only children that respect the pairs are generated (request A.6)
 unfoldable pub problemOf : Call → Problem Node
-problemOf c = problem (c .job .n) (dayOf c)
+problemOf c = problem (c .job .n) (pairsOf (c .pairs)) (dayOf c)
 
 unfoldable pub choicesOf : Call → Choices Node
 choicesOf c = choices (dayOf c) (c .job .selection) (c .job .rules) (c .job .bound) (c .budget)
@@ -94,7 +96,7 @@ ending c (full s) = record { report = fullReport c s; pool = wordsOf c s }
 -- never comes, and has no number in document 01
 ending c (unfinished s) = record { report = refusal 255; pool = c .pool }
 
--- A refusal by 1 to 6 leaves the pool as it was.
+-- A refusal by 1 to 6 or 11 leaves the pool as it was.
 unfoldable pub respond : Call → ℕ → Answer
 respond c zero = ending c (outcome c)
 respond c (suc k) = record { report = refusal (suc k); pool = c .pool }

@@ -1,26 +1,56 @@
 -- A call that uses no request's feature is answered as before the request: a type for each, over any planner; proofs/ has a theorem for each.
+--   freely, answerFreely, NoPairsAsBefore    without request A.6: no pairs
 --   homeCause, EndsHomeAsBefore      without request A.5: no day that ends away
 --   NoCharges, Uncharged, UnchargedByLegs    without request A.4: no landing charge
 --   legCause₃, legTableCause, TableCausesAsBefore    the causes that look at a table, by document 01
---   legCause, AsDocument01, AcceptedBefore           without either, an answer is document 01's, within whatever budget
+--   legCause, AsDocument01, AcceptedBefore           without any of them, an answer is document 01's, within whatever budget
 use mathlib.Core.Path.{_≡_}
 use mathlib.Core.Bool.{Bool, false, not, _||_}
-use mathlib.Core.List.{List}
+use mathlib.Core.List.{List, []}
 use mathlib.Core.Logic.{_≢_}
 use Prim.Native.Nat.{ℕ, suc, _≤_}
 use lib.Dec.{ltb, eqb}
-use Rattle.sizes.specs.Sizes.{dearestLeg}
+use Rattle.sizes.specs.Sizes.{dearestLeg, aboveEveryCost}
 use Rattle.lists.specs.Lists.{any, from}
+use Rattle.search.specs.Problem.{Problem}
+use Rattle.orders.specs.Orders.{Node, complete, extensions}
 use Rattle.days.specs.Days.{Day}
 use Rattle.stops.specs.Tables.{entry, charge, legRows}
 use Rattle.stops.specs.Stops.{dayOn}
 use Rattle.answer.specs.Call.{Call, Answer}
 use Rattle.answer.specs.declared.Job.{Job}
-use Rattle.answer.specs.Checks.{cause₁, cause₂, cause₄, cause₅, cause₆, orLater, tableCause}
+use Rattle.answer.specs.Checks.{cause₁, cause₂, cause₄, cause₅, orLater, tableCause, jobCause, pairCause, poolCause}
+use Rattle.answer.specs.Answer.{dayOf}
 use Rattle.answer.specs.Demands.{Planner}
-use Rattle.answer.specs.OnDay.{answerOn}
+use Rattle.answer.specs.OnDay.{answerBy, answerOn}
 use Rattle.answer.specs.Charges.{legDayOf}
 use Rattle.answer.specs.Away.{homeDayOf}
+
+-- NO PAIRS (request A.6)
+
+-- document 01's search: a node is extended by each stop that it leaves
+unfoldable pub freely : ℕ → Day → Problem Node
+freely n D = record {
+  root = [];
+  children = extensions n;
+  complete = complete n;
+  cost = D .cost;
+  dominates = D .dominates;
+  above = aboveEveryCost;
+}
+
+abbrev pub answerFreely : Day → Call → ℕ → Answer
+answerFreely D c = answerBy (freely (c .job .n) D) D c
+
+-- With no pairs the search is that one, and the causes are those of the job and of the pool.
+abbrev pub NoPairsAsBefore : Planner → Type 0
+NoPairsAsBefore P =
+    (c : Call) (a : Answer) → P c a → c .pairs ≡ []
+    → a ≡ answerFreely (dayOf c) c (jobCause (c .job) (c .table) (c .start) (poolCause (c .pool)))
+
+-- the causes behind 5
+unfoldable pub laterCause : Call → ℕ
+laterCause c = pairCause (c .job .n) (c .start) (c .pairs) (poolCause (c .pool))
 
 -- THE DAY ENDS AT HOME (request A.5)
 
@@ -28,12 +58,12 @@ use Rattle.answer.specs.Away.{homeDayOf}
 unfoldable pub homeCause₄ : Job → Bool
 homeCause₄ job = ltb 3 (job .selection) || ltb 15 (job .rules) || ltb 1 (job .bound)
 
--- causes 4 to 6 with it; and all six
-unfoldable pub homeCauseBehind : Call → ℕ
-homeCauseBehind c = orLater (homeCause₄ (c .job)) 4 (orLater (cause₅ (c .job .n) (c .start)) 5 (orLater (cause₆ (c .pool)) 6 0))
+-- causes 4 and 5 with it; and all
+unfoldable pub homeCauseBehind : Call → ℕ → ℕ
+homeCauseBehind c later = orLater (homeCause₄ (c .job)) 4 (orLater (cause₅ (c .job .n) (c .start)) 5 later)
 
 unfoldable pub homeCause : Call → ℕ
-homeCause c = tableCause (c .job .n) (c .table) (homeCauseBehind c)
+homeCause c = tableCause (c .job .n) (c .table) (homeCauseBehind c (laterCause c))
 
 -- neither of the request's two bounds
 abbrev pub EndsHome : Call → Type 0
@@ -67,22 +97,22 @@ UnchargedByLegs P =
     (c : Call) (a : Answer) → P c a → Uncharged c
     → a
     ≡ answerOn (legDayOf c) c
-    (legTableCause (c .job .n) (c .table)
-    (orLater (cause₄ (c .job)) 4 (orLater (cause₅ (c .job .n) (c .start)) 5 (orLater (cause₆ (c .pool)) 6 0))))
+    (legTableCause (c .job .n) (c .table) (orLater (cause₄ (c .job)) 4 (orLater (cause₅ (c .job .n) (c .start)) 5 (laterCause c))))
 
 -- DOCUMENT 01
 
 -- its causes 1 to 6, and its day: by the legs alone, from home and back
 unfoldable pub legCause : Call → ℕ
-legCause c = legTableCause (c .job .n) (c .table) (homeCauseBehind c)
+legCause c = legTableCause (c .job .n) (c .table) (homeCauseBehind c (poolCause (c .pool)))
 
 unfoldable pub document01Day : Call → Day
 document01Day c = dayOn (c .job .n) (legRows (c .job .n) false (c .table))
 
--- With all charges 0 and a day that ends at home, every answer is document 01's.
+-- With all charges 0, a day that ends at home and no pairs, every answer is document 01's.
 abbrev pub AsDocument01 : Planner → Type 0
-AsDocument01 P = (c : Call) (a : Answer) → P c a → Uncharged c → EndsHome c → a ≡ answerOn (document01Day c) c (legCause c)
+AsDocument01 P =
+    (c : Call) (a : Answer) → P c a → Uncharged c → EndsHome c → c .pairs ≡ [] → a ≡ answerFreely (document01Day c) c (legCause c)
 
--- So a call that document 01's checks let pass is answered as before.
+-- So a call without pairs that document 01's checks let pass is answered as before.
 abbrev pub AcceptedBefore : Planner → Type 0
-AcceptedBefore P = (c : Call) (a : Answer) → P c a → legCause c ≡ 0 → a ≡ answerOn (document01Day c) c 0
+AcceptedBefore P = (c : Call) (a : Answer) → P c a → c .pairs ≡ [] → legCause c ≡ 0 → a ≡ answerFreely (document01Day c) c 0

@@ -13,7 +13,7 @@ use mathlib.Core.Logic.{_↔_}
 use Prim.Native.Nat.{ℕ, _≤_}
 use lib.Dec.{T}
 use Rattle.lists.specs.Lists.{In}
-use Rattle.orders.specs.Orders.{Node, complete, Partial, Order, orders}
+use Rattle.orders.specs.Orders.{Node, complete, Partial}
 use Rattle.days.specs.Days.{Day}
 use Rattle.stops.specs.Tables.{entry, rows}
 use Rattle.stops.specs.Bounds.{endsAway}
@@ -23,8 +23,8 @@ use Rattle.answer.specs.Call.{Call, callOf, Answer}
 use Rattle.answer.specs.declared.Job.{Job}
 use Rattle.answer.specs.Checks.{cause₄, cause}
 use Rattle.answer.specs.Answer.{dayOf, choicesOf}
-use Rattle.answer.specs.Ends.{Finishes, orderIn}
-use Rattle.answer.specs.Demands.{Planner, OneTable, EndAlike, Favours}
+use Rattle.answer.specs.Ends.{Finishes, orderIn, AllowedOrder}
+use Rattle.answer.specs.Demands.{Planner, OneTable, EndAlike, SamePairs, allowedOrders, Favours}
 use Rattle.answer.specs.OnDay.{answerOn, SameFigures}
 
 -- the day of a call's table that ends at home, charges included
@@ -68,17 +68,17 @@ ComparedEndAlike = (a b : Call) → Favours a b → EndAlike a b
 
 -- A finished run shows an order that is cheapest without the leg home, and that cost.
 pub record CheapestAway (c : Call) (a : Answer) : Type 0 where
-  pub is-order : Order (c .job .n) (orderIn c (a .report))
+  pub is-allowed : AllowedOrder c (orderIn c (a .report))
   pub cost-is : a .report .cost ≡ homeDayOf c .path (orderIn c (a .report))
-  pub least : (y : Node) → In y (orders (c .job .n)) → a .report .cost ≤ homeDayOf c .path y
+  pub least : (y : Node) → In y (allowedOrders c) → a .report .cost ≤ homeDayOf c .path y
 
 abbrev pub CheapestWithoutLegHome : Planner → Type 0
 CheapestWithoutLegHome P = (c : Call) (a : Answer) → P c a → EndsAway c → Finishes (a .report) → CheapestAway c a
 
--- Over one table, ending away is never dearer than ending at home.
+-- Over one table and with the same pairs, ending away is never dearer than ending at home.
 abbrev pub NoDearerAway : Planner → Type 0
 NoDearerAway P =
-    (a b : Call) (x y : Answer) → P a x → P b y → OneTable a b → EndsAway a → endsAway (b .job .bound) ≡ false
+    (a b : Call) (x y : Answer) → P a x → P b y → OneTable a b → SamePairs a b → EndsAway a → endsAway (b .job .bound) ≡ false
     → Finishes (x .report) → Finishes (y .report) → x .report .cost ≤ y .report .cost
 
 -- Where the day ends away, what the table says of flying home (its legs to place 0, and home's charge) plays no part beyond check 3: with others
@@ -86,6 +86,6 @@ NoDearerAway P =
 abbrev pub LegsHomeUnread : Planner → Type 0
 LegsHomeUnread P =
     (c : Call) (table : List ℕ) →
-    let d = callOf (c .job) table (c .start) (c .budget) (c .pool) in
+    let d = callOf (c .job) table (c .start) (c .pairs) (c .budget) (c .pool) in
     (x y : Answer) → P c x → P d y → EndsAway c → cause c ≡ cause d
     → ((i j : ℕ) → i ≤ c .job .n → 1 ≤ j → j ≤ c .job .n → entry (c .job .n) (c .table) i j ≡ entry (c .job .n) table i j) → x ≡ y

@@ -1,6 +1,6 @@
 -- What request A.3 says of a budget of branchings, a type for each of its sentences and in its order, as in `Demands`; proofs/ has a theorem for
 -- each, of the written run, and crate `planner` one of what the code returns. That costs of two finished runs are equal and how A is held
--- against B are `OneCost` and `Favours` of `Demands`.
+-- against B are `OneCost` and `Favours` of `Demands`. Since request A.6 its orders are those that respect the pairs.
 --   MarkedIff, OtherwiseZero, StoppedAsWritten    when the mark comes, and what stands beside it
 --   ExactBudget, WithinBudget                     how many nodes are branched
 --   OrderOrZeros, NoDearerThanStart               the order shown
@@ -14,12 +14,13 @@ use Prim.Native.Nat.{ℕ, _≤_, _<_}
 use lib.ListN.{replicate, getD}
 use Rattle.sizes.specs.Sizes.{orderPlaces, noBudget}
 use Rattle.lists.specs.Lists.{In}
-use Rattle.orders.specs.Orders.{Node, Order, orders}
+use Rattle.orders.specs.Orders.{Node}
 use Rattle.answer.specs.Call.{Call, Answer}
 use Rattle.answer.specs.declared.Report.{Report}
 use Rattle.answer.specs.Answer.{dayOf}
-use Rattle.answer.specs.Ends.{BudgetIsSpent, ComesTo, StoppedAt, HasOrder}
-use Rattle.answer.specs.Demands.{Planner}
+use Rattle.answer.specs.Checks.{cause}
+use Rattle.answer.specs.Ends.{BudgetIsSpent, ComesTo, StoppedAt, AllowedOrder, HasOrder}
+use Rattle.answer.specs.Demands.{Planner, allowedOrders}
 
 -- Mark 1 comes when, and only when, the run comes to a state where the finish test does not hold and the budget is spent; so a spent budget is
 -- looked at before the pool.
@@ -61,18 +62,18 @@ NoDearerThanStart P =
 -- Every order costs at least the floor.
 abbrev pub FloorHolds : Planner → Type 0
 FloorHolds P =
-    (c : Call) (a : Answer) → P c a → a .report .mark ≡ 1 → (y : Node) → In y (orders (c .job .n)) → a .report .floor ≤ dayOf c .cost y
+    (c : Call) (a : Answer) → P c a → a .report .mark ≡ 1 → (y : Node) → In y (allowedOrders c) → a .report .floor ≤ dayOf c .cost y
 
 -- v is what the best of all orders costs.
 pub record BestCost (c : Call) (v : ℕ) : Type 0 where
   pub order : Node
-  pub is-order : Order (c .job .n) order
+  pub is-allowed : AllowedOrder c order
   pub costs : v ≡ dayOf c .cost order
-  pub least : (y : Node) → In y (orders (c .job .n)) → v ≤ dayOf c .cost y
+  pub least : (y : Node) → In y (allowedOrders c) → v ≤ dayOf c .cost y
 
--- Some order is the best of all.
+-- Some order is the best of all, where the checks let the pairs pass.
 abbrev pub BestExists : Type 0
-BestExists = (c : Call) → (v : ℕ) × BestCost c v
+BestExists = (c : Call) → cause c ≡ 0 → (v : ℕ) × BestCost c v
 
 -- The floor is at most what that best one costs; an order that is shown costs at least as much.
 abbrev pub Between : Planner → Type 0
@@ -85,6 +86,7 @@ pub record OneJob (a b : Call) : Type 0 where
   pub job : a .job ≡ b .job
   pub table : a .table ≡ b .table
   pub start : a .start ≡ b .start
+  pub pairs : a .pairs ≡ b .pairs
 
 -- Two of its runs, both stopped: with the larger budget the floor is as high or higher; and where the other shows an order, so does this one, as
 -- cheap or cheaper.

@@ -9,11 +9,11 @@ use Rattle.answer.specs.declared.Report.{Report}
 use Rattle.answer.specs.Cases.{call, found, refused, computed, Case, reports, answers, Holds, AllHold, tableT, order123}
 
 -- the call with a budget
-abbrev within : ℕ → Call → Call
-within budget c = record { job = c .job; table = c .table; start = c .start; budget = budget; pool = c .pool }
+abbrev pub within : ℕ → Call → Call
+within budget c = record { job = c .job; table = c .table; start = c .start; pairs = c .pairs; budget = budget; pool = c .pool }
 
 -- the report of a stopped run: the floor, and for the rest what a finished one would have
-abbrev soFar : ℕ → Report → Report
+abbrev pub soFar : ℕ → Report → Report
 soFar floor r = record {
   number = 0;
   mark = 1;
@@ -28,7 +28,7 @@ soFar floor r = record {
 }
 
 -- no order
-abbrev none : List ℕ
+abbrev pub none : List ℕ
 none = replicate orderPlaces 0
 
 -- case b (FIFO, no rules, plain), which branches ten nodes

@@ -11,6 +11,7 @@ use Rattle.search.specs.Selection.{selectBy, select, finishes}
 use Rattle.search.specs.Step.{children₁, best₂, over₃, children₃, rest₃, dominated₄, children₄, dominated₅, children₅, dominated₆, rest₆, active₇, step}
 use Rattle.search.specs.Run.{held, fitting, decide, next, run}
 use Rattle.orders.specs.Orders.{Node, mask, count, isOrder}
+use Rattle.orders.specs.Pairs.{respects, waits, ready, children}
 use Rattle.days.specs.Days.{problem, choices}
 use Rattle.stops.specs.Bounds.{endsAway}
 use Rattle.stops.specs.Examples.{computedDay}
@@ -19,15 +20,16 @@ use Rattle.sizes.specs.Sizes.{tableNumbers, orderPlaces, recordWords, noBudget}
 use Rattle.lists.specs.Lists.{padded}
 use Rattle.answer.specs.Call.{Call, Answer, refusal}
 use Rattle.answer.specs.declared.Report.{Report}
-use Rattle.answer.specs.Checks.{cause₁, cause₂, cause₃, noSuchBound, cause₄, cause₅, cause₆, tableCause, jobCause, cause}
+use Rattle.answer.specs.Checks.{cause₁, cause₂, cause₃, noSuchBound, cause₄, cause₅, cause₁₁, againstPairs, cause₆, tableCause, jobCause, pairCause, poolCause, cause}
 use Rattle.answer.specs.Answer.{dayOf, problemOf, choicesOf, outcome, floorOf, reportWith, wordsOf, ending, respond, answer}
 
--- a call by its parts, with the number of the pool's records, and with a budget that no run reaches
+-- a call by its parts, with the number of the pool's records, with no pairs and with a budget that no run reaches
 abbrev pub call : ℕ → List ℕ → ℕ → ℕ → ℕ → List ℕ → ℕ → Call
 call n table selection rules bound start records = record {
   job = record { n = n; selection = selection; rules = rules; bound = bound };
   table = table;
   start = start;
+  pairs = [];
   budget = noBudget;
   pool = replicate (recordWords * records) 7;
 }
@@ -64,7 +66,7 @@ refused number branched generated eliminated active most = record {
 
 -- the answer, with every definition that it rests on open: a proof that says `unfolding computed` computes it
 unfoldable pub computed : Call → Answer
-unfolding start selectBy select finishes children₁ best₂ over₃ children₃ rest₃ dominated₄ children₄ dominated₅ children₅ dominated₆ rest₆ active₇ step held fitting decide next run count isOrder computedDay problem choices mask record-of padded poolWords recordsIn refusal cause₁ cause₂ cause₃ noSuchBound cause₄ cause₅ cause₆ tableCause jobCause cause endsAway dayOf problemOf choicesOf outcome floorOf reportWith wordsOf ending respond answer
+unfolding start selectBy select finishes children₁ best₂ over₃ children₃ rest₃ dominated₄ children₄ dominated₅ children₅ dominated₆ rest₆ active₇ step held fitting decide next run count isOrder respects waits ready children computedDay problem choices mask record-of padded poolWords recordsIn refusal cause₁ cause₂ cause₃ noSuchBound cause₄ cause₅ cause₁₁ againstPairs cause₆ tableCause jobCause pairCause poolCause cause endsAway dayOf problemOf choicesOf outcome floorOf reportWith wordsOf ending respond answer
 computed c = answer c
 
 pub data Case : Type 0 where

@@ -14,7 +14,7 @@ use Prim.Native.Nat.{ℕ, suc, _+_, _*_, _≤_}
 use lib.ListN.{length}
 use Rattle.sizes.specs.Sizes.{dearestLeg, dearestCharge}
 use Rattle.lists.specs.Lists.{In, sum, from}
-use Rattle.orders.specs.Orders.{Node, complete, Partial, Order, orders}
+use Rattle.orders.specs.Orders.{Node, complete, Partial, Order}
 use Rattle.days.specs.Days.{Day}
 use Rattle.stops.specs.Tables.{entry, charge, flying, counted, inRows, legRows, landing}
 use Rattle.stops.specs.Bounds.{endsAway, isClose}
@@ -24,7 +24,7 @@ use Rattle.answer.specs.Checks.{cause₃, cause}
 use Rattle.answer.specs.Answer.{dayOf}
 use Rattle.answer.specs.Ends.{Finishes, orderIn}
 use Rattle.answer.specs.Budget.{ShowsOrder}
-use Rattle.answer.specs.Demands.{Planner}
+use Rattle.answer.specs.Demands.{Planner, allowedOrders}
 use Rattle.answer.specs.OnDay.{SameFigures}
 
 -- the day by the legs alone
@@ -93,4 +93,4 @@ OrderShownPays P =
 abbrev pub CheapestByLegs : Planner → Type 0
 CheapestByLegs P =
     (c : Call) (a : Answer) → P c a → Finishes (a .report)
-    → (y : Node) → In y (orders (c .job .n)) → legDayOf c .cost (orderIn c (a .report)) ≤ legDayOf c .cost y
+    → (y : Node) → In y (allowedOrders c) → legDayOf c .cost (orderIn c (a .report)) ≤ legDayOf c .cost y

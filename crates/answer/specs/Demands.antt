@@ -1,9 +1,9 @@
 -- What the letter demands of a planner, a type for each of its sentences and in its order. A proof of a sentence is a theorem whose type is the
 -- sentence's name: of the written run (`written`) in proofs/ of this crate, of what the code of `plan` returns in proofs/ of crate `planner`.
--- What document 01 says beside the run's definition is in `Document01`, what requests A.3, A.4 and A.5 add in `Budget`, `Charges` and `Away`; what demands
+-- What document 01 says beside the run's definition is in `Document01`, what requests A.3 to A.6 add in `Budget`, `Charges`, `Away` and `Pairs`; what demands
 -- 1 and 2 say of files is in crate `job_format`.
 use mathlib.Core.Path.{_≡_}
-use mathlib.Core.List.{[]}
+use mathlib.Core.List.{List, []}
 use mathlib.Core.Logic.{_⊎_, _≢_, _↔_}
 use Prim.Native.Nat.{ℕ, _+_, _≤_}
 use lib.Dec.{T}
@@ -11,6 +11,7 @@ use lib.ListN.{length}
 use Rattle.lists.specs.Lists.{In, Distinct}
 use Rattle.search.specs.Step.{on}
 use Rattle.orders.specs.Orders.{Node, Order, orders, factorial}
+use Rattle.orders.specs.Pairs.{Pair, pairsOf, Allowed, ordersWith}
 use Rattle.days.specs.Days.{Closer}
 use Rattle.stops.specs.Bounds.{endsAway}
 use Rattle.answer.specs.Call.{Call, Answer}
@@ -61,7 +62,8 @@ CountsBalance P = (c : Call) (a : Answer) → P c a → a .report .generated ≡
 abbrev pub FullIff : Planner → Type 0
 FullIff P = (c : Call) (a : Answer) → P c a → (a .report .number ≡ 7) ↔ ComesTo c NextDoesNotFit
 
--- DEMAND 3, the first half: two runs over one table that finish. Since request A.5, both end at home or both end away.
+-- DEMAND 3, the first half: two runs over one table that finish. Since request A.5, both end at home or both end away; since A.6 both have the same
+-- pairs.
 
 pub record OneTable (a b : Call) : Type 0 where
   pub n : a .job .n ≡ b .job .n
@@ -70,16 +72,24 @@ pub record OneTable (a b : Call) : Type 0 where
 abbrev pub EndAlike : Call → Call → Type 0
 EndAlike a b = endsAway (a .job .bound) ≡ endsAway (b .job .bound)
 
+-- the same pairs, in whatever sequence their files have them
+abbrev pub SamePairs : Call → Call → Type 0
+SamePairs a b = (p : Pair) → In p (pairsOf (a .pairs)) ↔ In p (pairsOf (b .pairs))
+
 -- They report equal costs.
 abbrev pub OneCost : Planner → Type 0
 OneCost P =
-    (a b : Call) (x y : Answer) → P a x → P b y → OneTable a b → EndAlike a b → Finishes (x .report) → Finishes (y .report)
+    (a b : Call) (x y : Answer) → P a x → P b y → OneTable a b → EndAlike a b → SamePairs a b → Finishes (x .report) → Finishes (y .report)
     → x .report .cost ≡ y .report .cost
 
--- The cost is that of the order reported with it, and each of the n! orders of the stops costs at least as much.
+-- of the n! orders of a call's stops those that respect its pairs
+abbrev pub allowedOrders : Call → List Node
+allowedOrders c = ordersWith (c .job .n) (pairsOf (c .pairs))
+
+-- The cost is that of the order reported with it, and each of the orders of the stops that respect the pairs costs at least as much.
 pub record Cheapest (c : Call) (r : Report) : Type 0 where
   pub has-order : HasOrder c r
-  pub least : (y : Node) → In y (orders (c .job .n)) → r .cost ≤ dayOf c .cost y
+  pub least : (y : Node) → In y (allowedOrders c) → r .cost ≤ dayOf c .cost y
 
 abbrev pub CheapestOfAll : Planner → Type 0
 CheapestOfAll P = (c : Call) (a : Answer) → P c a → Finishes (a .report) → Cheapest c (a .report)
@@ -93,6 +103,14 @@ pub record AllOrders (n : ℕ) : Type 0 where
 abbrev pub OrdersAreAll : Type 0
 OrdersAreAll = (n : ℕ) → AllOrders n
 
+-- Of these n! entries, those that respect the pairs make the list that the demand speaks of: none twice, none missing, and no other order.
+pub record AllAllowed (n : ℕ) (pairs : List Pair) : Type 0 where
+  pub once : Distinct (ordersWith n pairs)
+  pub just-these : (x : Node) → In x (ordersWith n pairs) ↔ Allowed n pairs x
+
+abbrev pub AllowedAreAll : Type 0
+AllowedAreAll = (n : ℕ) (pairs : List Pair) → AllAllowed n pairs
+
 -- DEMAND 3, the second half: two jobs A and B over one table.
 
 -- A has B's bound or, under selections 2 and 3 (FIFO and LIFO), one that is closer: close (1) than plain (0); or, where both end away (request A.5),
@@ -100,7 +118,7 @@ OrdersAreAll = (n : ℕ) → AllOrders n
 abbrev pub AsClose : Job → Job → Type 0
 AsClose a b = (a .bound ≡ b .bound) ⊎ ((2 ≤ a .selection) × Closer (a .bound) (b .bound))
 
--- A stands to B as the letter asks, and request A.3 of the budgets.
+-- A stands to B as the letter asks, request A.3 of the budgets, and request A.6 of the pairs.
 pub record Favours (a b : Call) : Type 0 where
   -- one table
   pub n : a .job .n ≡ b .job .n
@@ -119,6 +137,8 @@ pub record Favours (a b : Call) : Type 0 where
   pub pool : length (b .pool) ≤ length (a .pool)
   -- and a budget that is
   pub budget : b .budget ≤ a .budget
+  -- the same pairs
+  pub pairs : SamePairs a b
 
 -- what A's report owes to B's
 pub record NoWorse (a b : Report) : Type 0 where

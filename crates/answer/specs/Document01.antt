@@ -13,7 +13,7 @@ use lib.ListN.{length}
 use Rattle.lists.specs.Lists.{In}
 use Rattle.search.specs.Problem.{State, upper}
 use Rattle.search.specs.Selection.{chosen, select, empty, finishes}
-use Rattle.orders.specs.Orders.{Node, complete, children}
+use Rattle.orders.specs.Orders.{Node, complete, extensions}
 use Rattle.days.specs.Days.{Closer}
 use Rattle.answer.specs.Call.{Call, callOf, Answer}
 use Rattle.answer.specs.Checks.{cause}
@@ -36,7 +36,7 @@ BranchedAreSteps P = (c : Call) (a : Answer) → P c a → (end : ComesTo c Ends
 -- it, leaves the same words.
 abbrev pub ContentsPlayNoPart : Planner → Type 0
 ContentsPlayNoPart P =
-    (c : Call) (pool : List ℕ) (x y : Answer) → P c x → P (callOf (c .job) (c .table) (c .start) (c .budget) pool) y → length pool ≡ length (c .pool)
+    (c : Call) (pool : List ℕ) (x y : Answer) → P c x → P (callOf (c .job) (c .table) (c .start) (c .pairs) (c .budget) pool) y → length pool ≡ length (c .pool)
     → (x .report ≡ y .report) × (cause c ≡ 0 → x .pool ≡ y .pool)
 
 -- At every state of every run each generated node was branched, was eliminated or is active.
@@ -76,7 +76,7 @@ TestsAgree =
 -- A bound never falls when a node is extended, ..
 abbrev pub BoundNeverFalls : Type 0
 BoundNeverFalls =
-    (c : Call) → cause c ≡ 0 → (x y : Node) → In y (children (c .job .n) x) → choicesOf c .bound x ≤ choicesOf c .bound y
+    (c : Call) → cause c ≡ 0 → (x y : Node) → In y (extensions (c .job .n) x) → choicesOf c .bound x ≤ choicesOf c .bound y
 
 -- .. equals the order's cost at a complete node, ..
 abbrev pub BoundExact : Type 0

@@ -1,11 +1,11 @@
 -- How a call's run ends: what the demands (`Demands`) and request A.3 (`Budget`) speak of. Document 01, "One run", "The pool", "The report"
--- and "Causes and numbers"; document 02, A.3.
+-- and "Causes and numbers"; document 02, A.3 and A.6.
 --   Finishes                           what a report of a finished run says
 --   made                               how many steps a run made
 --   FinishTestHolds, BudgetIsSpent, NextDoesNotFit, Ends    what ends a run at a state
 --   ComesTo, EndsAt                    the run of a call comes to such a state; an answer is that of such a state
 --   FinishedAt, StoppedAt, FullAt      an answer with number 0 and mark 0, with 0 and mark 1, with 7
---   RefusedAt, Ended                   an answer with 1 to 6; one of the four
+--   RefusedAt, Ended                   an answer with 1 to 6 or 11; one of the four
 --   orderIn, HasOrder                  the order of a report, and that it has one
 use mathlib.Core.Path.{_≡_}
 use mathlib.Core.List.{List}
@@ -18,7 +18,8 @@ use Rattle.lists.specs.Lists.{padded}
 use Rattle.search.specs.Problem.{Problem, Choices, State}
 use Rattle.search.specs.Selection.{chosen, select, finishes}
 use Rattle.search.specs.Run.{Steps, none, more, Halts, Overflows}
-use Rattle.orders.specs.Orders.{Node, Order}
+use Rattle.orders.specs.Orders.{Node}
+use Rattle.orders.specs.Pairs.{pairsOf, Allowed}
 use Rattle.records.specs.Records.{recordsIn}
 use Rattle.answer.specs.Call.{Call, Answer, refusal}
 use Rattle.answer.specs.declared.Report.{Report}
@@ -80,10 +81,10 @@ StoppedAt c a = EndsAt c a BudgetIsSpent stoppedReport
 abbrev pub FullAt : Call → Answer → Type 0
 FullAt c a = EndsAt c a NextDoesNotFit fullReport
 
--- Numbers 1 to 6: the first cause that applies and zeros; the pool is as it was.
+-- Numbers 1 to 6 and, since request A.6, 11: the first cause that applies and zeros; the pool is as it was.
 pub record RefusedAt (c : Call) (a : Answer) : Type 0 where
   pub some-cause : 1 ≤ cause c
-  pub of-six : cause c ≤ 6
+  pub of-seven : (cause c ≤ 6) ⊎ (cause c ≡ 11)
   pub reported : a .report ≡ refusal (cause c)
   pub pool-stays : a .pool ≡ c .pool
 
@@ -91,15 +92,19 @@ pub record RefusedAt (c : Call) (a : Answer) : Type 0 where
 abbrev pub orderIn : Call → Report → Node
 orderIn c r = take (c .job .n) (r .order)
 
--- A report has an order of the n stops, zeros past n, and that order's own cost.
+-- an order of the n stops that respects the pairs (request A.6)
+abbrev pub AllowedOrder : Call → Node → Type 0
+AllowedOrder c x = Allowed (c .job .n) (pairsOf (c .pairs)) x
+
+-- A report has an order of the n stops that respects the pairs, zeros past n, and that order's own cost.
 pub record HasOrder (c : Call) (r : Report) : Type 0 where
-  pub is-order : Order (c .job .n) (orderIn c r)
+  pub is-allowed : AllowedOrder c (orderIn c r)
   pub zeros-past-n : r .order ≡ padded orderPlaces (orderIn c r)
   pub cost-is-its : r .cost ≡ dayOf c .cost (orderIn c r)
 
--- How a call can end: with an order of the n stops, stopped by the budget, with a full pool, or refused by a check.
+-- How a call can end: with an order of the n stops that respects the pairs, stopped by the budget, with a full pool, or refused by a check.
 pub data Ended (c : Call) (a : Answer) : Type 0 where
-  planned : FinishedAt c a → Order (c .job .n) (orderIn c (a .report)) → Ended c a
+  planned : FinishedAt c a → AllowedOrder c (orderIn c (a .report)) → Ended c a
   halted : StoppedAt c a → Ended c a
   filled : FullAt c a → Ended c a
   refused : RefusedAt c a → Ended c a

@@ -10,7 +10,9 @@ pub mod Budget
 pub mod BudgetCases
 pub mod ChargeCases
 pub mod AwayCases
+pub mod PairCases
 pub mod OnDay
 pub mod Charges
 pub mod Away
+pub mod Pairs
 pub mod AsBefore

@@ -1,6 +1,7 @@
 -- The answer to a call over any day, to compare days with. A table comes into an answer by its day and by the checks alone (`OnItsDay`), and a day by
 -- the figures of its nodes (`FiguresDecide`). proofs/ has a theorem for each type.
---   answerOn D c number    what a call is answered over a day D, where the checks say `number`
+--   answerBy P D c number  what a call is answered by a search P over a day D, where the checks say `number`
+--   answerOn D c number    and by the search that respects the call's pairs
 --   SameFigures n A B      of the partial orders of n stops, two days say the same
 use mathlib.Core.Path.{_≡_}
 use mathlib.Core.List.{List, []}
@@ -10,22 +11,20 @@ use Rattle.lists.specs.Lists.{least}
 use Rattle.search.specs.Problem.{Problem, Choices, State, upper, start}
 use Rattle.search.specs.Run.{Outcome, finished, stopped, full, unfinished, run}
 use Rattle.orders.specs.Orders.{Node, Partial, Order, nodes}
+use Rattle.orders.specs.Pairs.{pairsOf}
 use Rattle.days.specs.Days.{Day, problem, choices}
 use Rattle.records.specs.Records.{poolWords, recordsIn}
 use Rattle.answer.specs.Call.{Call, Answer, refusal}
 use Rattle.answer.specs.Checks.{cause}
 use Rattle.answer.specs.Answer.{dayOf, given, stopsOf, costOf, reportWith, answer}
 
--- It is made as `answer` is, with D in place of the call's own day.
-module _ (D : Day) (c : Call) where
-  abbrev pub problemOn : Problem Node
-  problemOn = problem (c .job .n) D
-
+-- It is made as `answer` is, with any problem in place of the call's own and any day in place of its own.
+module _ (P : Problem Node) (D : Day) (c : Call) where
   abbrev pub choicesOn : Choices Node
   choicesOn = choices D (c .job .selection) (c .job .rules) (c .job .bound) (c .budget)
 
-  abbrev pub outcomeOn : Outcome Node
-  outcomeOn = run problemOn choicesOn (recordsIn (c .pool)) (suc (nodes (c .job .n))) (start problemOn (given (c .start)))
+  abbrev pub outcomeOf : Outcome Node
+  outcomeOf = run P choicesOn (recordsIn (c .pool)) (suc (nodes (c .job .n))) (start P (given (c .start)))
 
   abbrev pub wordsOn : State Node → List ℕ
   wordsOn s = poolWords (c .job .n) D (c .job .bound) (c .job .rules) (length (c .pool)) s
@@ -33,15 +32,22 @@ module _ (D : Day) (c : Call) where
   abbrev pub floorOn : State Node → ℕ
   floorOn s = least (choicesOn .bound) (s .active)
 
-  abbrev pub endingOn : Outcome Node → Answer
-  endingOn (finished s) = record { report = reportWith 0 0 (upper problemOn (s .best)) 0 (stopsOf (s .best)) s; pool = wordsOn s }
-  endingOn (stopped s) = record { report = reportWith 0 1 (costOf problemOn (s .best)) (floorOn s) (stopsOf (s .best)) s; pool = wordsOn s }
-  endingOn (full s) = record { report = reportWith 7 0 0 0 [] s; pool = wordsOn s }
-  endingOn (unfinished s) = record { report = refusal 255; pool = c .pool }
+  abbrev pub endingBy : Outcome Node → Answer
+  endingBy (finished s) = record { report = reportWith 0 0 (upper P (s .best)) 0 (stopsOf (s .best)) s; pool = wordsOn s }
+  endingBy (stopped s) = record { report = reportWith 0 1 (costOf P (s .best)) (floorOn s) (stopsOf (s .best)) s; pool = wordsOn s }
+  endingBy (full s) = record { report = reportWith 7 0 0 0 [] s; pool = wordsOn s }
+  endingBy (unfinished s) = record { report = refusal 255; pool = c .pool }
 
-  abbrev pub answerOn : ℕ → Answer
-  answerOn zero = endingOn outcomeOn
-  answerOn (suc k) = record { report = refusal (suc k); pool = c .pool }
+  abbrev pub answerBy : ℕ → Answer
+  answerBy zero = endingBy outcomeOf
+  answerBy (suc k) = record { report = refusal (suc k); pool = c .pool }
+
+-- over a day, with the call's own pairs
+abbrev pub problemOn : Day → Call → Problem Node
+problemOn D c = problem (c .job .n) (pairsOf (c .pairs)) D
+
+abbrev pub answerOn : Day → Call → ℕ → Answer
+answerOn D c = answerBy (problemOn D c) D c
 
 abbrev pub OnItsDay : Type 0
 OnItsDay = (c : Call) → answer c ≡ answerOn (dayOf c) c (cause c)

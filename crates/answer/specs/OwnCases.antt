@@ -229,7 +229,7 @@ h : List ℕ
 h = 0 ∷ 3 ∷ 5 ∷ 0 ∷ []
 
 abbrev partRecord : Call
-partRecord = record { job = record { n = 1; selection = 0; rules = 0; bound = 0 }; table = h; start = []; budget = 0; pool = replicate 7 7 }
+partRecord = record { job = record { n = 1; selection = 0; rules = 0; bound = 0 }; table = h; start = []; pairs = []; budget = 0; pool = replicate 7 7 }
 
 each-cause :
     map cause

@@ -1,7 +1,7 @@
 -- Causes 1 to 5, test by test: what each test of the code decides of its cause, and what the causes make up.
 --   table-first, table-second, table-third, table-right    the answer of `table_cause`, by causes 1 to 3
 --   table-refuses, table-passes                            what it says of a job with this table
---   bound-refused, bound-alone                             and of a bound with it
+--   first-refused, first-left                              and of a bound and pairs with it
 use mathlib.Core.Path.{_≡_, refl, sym, _∙_}
 use mathlib.Core.Bool.{Bool, true, false, not, or-true}
 use mathlib.Core.List.{List, [], _∷_}
@@ -17,7 +17,7 @@ use Rattle.lists.proofs.Tests.{both-false}
 use Rattle.orders.specs.Orders.{isOrder}
 use Rattle.stops.specs.Tables.{charge}
 use Rattle.answer.specs.declared.Job.{Job}
-use Rattle.answer.specs.Checks.{cause₁, cause₂, cause₃, noSuchBound, cause₄, cause₅, isEmpty, orLater, tableCause, boundCause, jobCause}
+use Rattle.answer.specs.Checks.{cause₁, cause₂, cause₃, noSuchBound, cause₄, cause₅, cause₁₁, againstPairs, isEmpty, orLater, tableCause, firstCause, jobCause, pairCause}
 use Rattle.answer.proofs.JobCause.{table-causes}
 
 -- ---- causes 1 to 3
@@ -127,13 +127,17 @@ module _ (job : Job) (table start : List ℕ) (k : ℕ) (e : k ≡ tableCause (j
   unfolding jobCause
   table-passes z = table-causes (job .n) table .none (sym e ∙ z) (later job start)
 
--- ---- a bound alone
+-- ---- a bound and pairs alone
 
-module _ (n bound : ℕ) (table : List ℕ) (k : ℕ) (e : k ≡ tableCause n table 0) where
-  pub bound-refused : k ≢ 0 → k ≡ boundCause n bound table
-  unfolding boundCause
-  bound-refused h = e ∙ table-causes n table .own (λ z. h (e ∙ z)) (orLater (noSuchBound bound) 4 0)
+-- causes 4 and 11 alone
+abbrev pub laterFirst : ℕ → ℕ → List ℕ → ℕ
+laterFirst n bound pairs = orLater (noSuchBound bound) 4 (orLater (cause₁₁ n pairs) 11 0)
 
-  pub bound-alone : k ≡ 0 → boundCause n bound table ≡ orLater (noSuchBound bound) 4 0
-  unfolding boundCause
-  bound-alone z = table-causes n table .none (sym e ∙ z) (orLater (noSuchBound bound) 4 0)
+module _ (n bound : ℕ) (table pairs : List ℕ) (k : ℕ) (e : k ≡ tableCause n table 0) where
+  pub first-refused : k ≢ 0 → k ≡ firstCause n bound table pairs
+  unfolding firstCause
+  first-refused h = e ∙ table-causes n table .own (λ z. h (e ∙ z)) (laterFirst n bound pairs)
+
+  pub first-left : k ≡ 0 → firstCause n bound table pairs ≡ laterFirst n bound pairs
+  unfolding firstCause
+  first-left z = table-causes n table .none (sym e ∙ z) (laterFirst n bound pairs)

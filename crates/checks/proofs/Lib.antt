@@ -1,2 +1,3 @@
 pub mod OrderLaws
 pub mod CauseLaws
+pub mod PairLaws

@@ -1,14 +1,19 @@
-// Checks 1 to 5, which look at a job, its table and its starting order: `job_cause`. What it answers is `jobCause` of crate `answer`
-// (specs/Checks), whose proofs/JobCause ties that to the cause of a call with a pool. `bound_cause` is for a caller with a bound
-// alone, `wrong_n` for one that knows n alone. They are public for the crates above and not for hosts; they ask nothing.
+// Checks 1 to 5, which look at a job, its table and its starting order: `job_cause`; and those of the pairs that are given with it (request A.6):
+// `pair_cause`. What they answer is `jobCause` and `pairCause` of crate `answer` (specs/Checks), whose proofs/JobCause ties these to the cause of a
+// call with a pool. `first_cause` is for a caller with a bound and pairs alone, `wrong_n` for one that knows n alone. They are public for the crates above
+// and not for hosts; of them only `pair_cause` asks something, which `job_cause` has seen to.
 ghost use mathlib.Core.Path.{_≡_};
+ghost use mathlib.Core.Bool.{false};
 ghost use Prim.Native.Nat.{_≤_};
 ghost use Rattle.sizes.specs.Sizes.{mostStops};
-ghost use Rattle.answer.specs.Checks.{cause₁, noSuchBound, cause₄, cause₅, tableCause, boundCause, jobCause};
+ghost use Rattle.answer.specs.Checks.{cause₁, noSuchBound, cause₄, cause₅, cause₁₁, tableCause, firstCause, jobCause, pairCause};
 
 mod order;
+mod pair_file;
 
 use crate::order::is_order;
+use crate::pair_file::against;
+use crate::pair_file::wrong_pairs;
 use answer::Job;
 use sizes::MOST_STOPS;
 use stops::table::small;
@@ -51,9 +56,9 @@ fn unknown_bound(bound: u32) -> bool
     3 < bound
 }
 
-// The number of the first of causes 1 to 4 that applies to a table and a bound, 0 if none does.
-pub fn bound_cause(n: u32, bound: u32, table: &[u32]) -> u32
-    ensures { λ r. ⌜ r ≡ boundCause n bound (now (table .entry)) ⌝ }
+// The number of the first of causes 1 to 4 and 11 that applies to a table, a bound and pairs, 0 if none does.
+pub fn first_cause(n: u32, bound: u32, table: &[u32], pairs: &[u8]) -> u32
+    ensures { λ r. ⌜ r ≡ firstCause n bound (now (table .entry)) (now (pairs .entry)) ⌝ }
 {
     let number = table_cause(n, table);
     if number != 0 {
@@ -61,6 +66,9 @@ pub fn bound_cause(n: u32, bound: u32, table: &[u32]) -> u32
     }
     if unknown_bound(bound) {
         return 4;
+    }
+    if wrong_pairs(n, pairs) {
+        return 11;
     }
     0
 }
@@ -101,6 +109,21 @@ pub fn job_cause(job: Job, table: &[u32], start: &[u8]) -> u32
         return 4;
     }
     if wrong_start(job.n, start) {
+        return 5;
+    }
+    0
+}
+
+// The number of the first cause that applies to pairs (request A.6), 0 if none does: 11 if they do not pass, 5 if they do and the starting order goes
+// against them.
+pub fn pair_cause(n: u32, start: &[u8], pairs: &[u8]) -> u32
+    requires { ⌜ (n ≤ mostStops) × (cause₅ n (now start) ≡ false) ⌝ }
+    ensures { λ r. ⌜ r ≡ pairCause n (now (start .entry)) (now (pairs .entry)) 0 ⌝ }
+{
+    if wrong_pairs(n, pairs) {
+        return 11;
+    }
+    if against(n, start, pairs) {
         return 5;
     }
     0

@@ -7,7 +7,7 @@ ghost use Rattle.lists.specs.Lists.{all};
 ghost use Rattle.orders.specs.Orders.{stops, flown, count, isOrder};
 
 // How often stop s stands in x.
-fn times(x: &[u8], s: u32) -> usize
+pub fn times(x: &[u8], s: u32) -> usize
     ensures { λ r. ⌜ r ≡ count s (now (x .entry)) ⌝ }
 {
     let mut times = 0;
@@ -37,7 +37,7 @@ fn each_once(n: u32, x: &[u8]) -> bool
 }
 
 // Whether nothing but 1 to n stands in x.
-fn only_stops(n: u32, x: &[u8]) -> bool
+pub fn only_stops(n: u32, x: &[u8]) -> bool
     requires { ⌜ n ≤ mostStops ⌝ }
     ensures { λ r. ⌜ r ≡ all (flown (stops n)) (now (x .entry)) ⌝ }
 {

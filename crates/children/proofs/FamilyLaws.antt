@@ -16,7 +16,9 @@ use Rattle.lists.specs.Lists.{In}
 use Rattle.lists.proofs.Map.{map-same}
 use Rattle.lists.proofs.Tests.{compared}
 use Rattle.orders.specs.Orders.{left, extend}
+use Rattle.orders.specs.Pairs.{ready}
 use Rattle.orders.proofs.Sets.{size-extend}
+use Rattle.orders.proofs.Pairs.{in-ready}
 use Rattle.stops.specs.Code.{emptyRecord, extended, stopsIn, First}
 use Rattle.stops.specs.declared.node_record.Record.{Record}
 use Rattle.stops.proofs.SetBits.{stopsIn-zero, stopsIn-range}
@@ -25,7 +27,7 @@ use Rattle.records.specs.Code.{encode, inSlot, slots}
 use Rattle.records.proofs.Mask.{mask-stops, rest-small, rest-left, ones-set, mask-extend}
 use Rattle.records.proofs.SlotLaws.{in-slots}
 use Rattle.rivals.specs.Code.{Siblings}
-use Rattle.children.specs.Code.{Table, Rows, Encoded, encodeOf, restOf, bounded, childOf, childrenOf, Born}
+use Rattle.children.specs.Code.{Table, Rows, Encoded, encodeOf, restOf, pairsBy, bounded, childOf, childrenOf, Born}
 use Rattle.children.specs.declared.setting.Setting.{Setting}
 
 module _ {d : Setting} {t : Table} {b : Record} (rows : Rows d t) (e : Encoded d t b) where
@@ -52,13 +54,13 @@ module _ {d : Setting} {t : Table} {b : Record} (rows : Rows d t) (e : Encoded d
     pub born-slots : slots born kids ≡ childrenOf d t b
     unfolding slots childrenOf
     born-slots =
-        map-same (inSlot kids) (childOf d t b) (stopsIn born) (k .each) ∙ ap (λ (m : ℕ). map (childOf d t b) (stopsIn m)) (k .stops)
+        map-same (inSlot kids) (childOf d t b) (stopsIn born) (k .each) ∙ ap (map (childOf d t b)) (k .stops)
 
     -- each has one stop more than b, and its set holds b's
     pub born-siblings : (limit : ℕ) → Siblings (record { size = b .size + 1; base = b .set; limit = limit }) born kids
     unfolding childOf bounded extended restOf
     born-siblings limit = record {
-      slotted = record { small = rw (k .stops) (rest-small (d .n) (rows .few) (b .set)); room = k .room };
+      slotted = record { small = k .small; room = k .room };
       sizes = λ s i. ap (λ (x : Record). x .size) (k .each s i) ∙ one-more s (left-by s i);
       sets = λ s i. ap (λ (x : Record). x .set) (k .each s i);
       holds = λ s i.
@@ -66,7 +68,7 @@ module _ {d : Setting} {t : Table} {b : Record} (rows : Rows d t) (e : Encoded d
     }
       where
         left-by : (s : ℕ) → In s (stopsIn born) → In s (stopsIn (restOf d b))
-        left-by s i = subst (λ (m : ℕ). In s (stopsIn m)) (k .stops) i
+        left-by s i = in-ready (pairsBy d) (stopsIn (restOf d b)) s (subst (λ (l : List ℕ). In s l) (k .stops) i) .0
 
     pub born-size : (x : Record) → In x (slots born kids) → x .size ≡ b .size + 1
     born-size x i =

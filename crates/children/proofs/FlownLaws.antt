@@ -19,8 +19,8 @@ use Rattle.lists.proofs.Members.{in-head}
 use Rattle.lists.proofs.Parts.{in-getD}
 use Rattle.lists.proofs.Distinct.{append-apart}
 use Rattle.orders.specs.Orders.{Node, Partial, Order, flown, left, extend}
-use Rattle.orders.proofs.Sets.{left-in, flown-in, extend-child}
-use Rattle.orders.proofs.Partial.{partial-root, partial-child}
+use Rattle.orders.proofs.Sets.{left-in, flown-in}
+use Rattle.orders.proofs.Partial.{partial-root, partial-extend}
 use Rattle.orders.proofs.Order.{order-complete, order-length}
 use Rattle.days.proofs.Walk.{bound-exact}
 use Rattle.stops.specs.Stops.{dayOn}
@@ -77,7 +77,7 @@ module _ {n : ℕ} (few : n ≤ mostStops) {y : Node} (o : Order n y) {k : ℕ} 
 
   pub flown-more : Flown n y (k + 1) (extended x next 0)
   flown-more = record {
-    partial = rw more (partial-child n (take k y) (extend (take k y) next) (f .partial) (extend-child n (take k y) next next-left));
+    partial = rw more (partial-extend n (take k y) next (f .partial) next-left);
     words = rw (f .words, more) (built-more n few (take k y) (f .partial) next next-left);
   }
     where

@@ -1,15 +1,17 @@
 -- The run on records is the written run: the problem of a setting and a table's rows on records (`Code`) is its problem on nodes, each node
 -- encoded as its record.
 use mathlib.Core.Path.{_≡_, refl, sym, _∙_, ap}
-use mathlib.Core.List.{[], map, map-map}
+use mathlib.Core.List.{List, [], map, map-map}
 use Prim.Native.Nat.{ℕ, _+_, _-_, _^_}
 use native.Mathlib.Omega.{arith}
 use Rattle.lists.specs.Lists.{In}
 use Rattle.lists.proofs.Map.{map-same}
 use Rattle.search.proofs.Mapped.{Maps}
-use Rattle.orders.specs.Orders.{Node, Partial, extend, setOf, left, mask, size, complete, children}
+use Rattle.orders.specs.Orders.{Node, Partial, extend, setOf, left, mask, size, complete}
+use Rattle.orders.specs.Pairs.{ready, children}
 use Rattle.orders.proofs.Sets.{empty-set}
 use Rattle.orders.proofs.Partial.{partial-root, partial-child, partial-size}
+use Rattle.orders.proofs.Pairs.{in-ready, kids-extend}
 use Rattle.days.specs.Days.{Day, problem, choices}
 use Rattle.days.specs.Code.{Reckoning}
 use Rattle.days.proofs.Walk.{Walk, bound-exact}
@@ -21,7 +23,7 @@ use Rattle.stops.proofs.SetBits.{stopsIn-all}
 use Rattle.records.proofs.Mask.{stops-left}
 use Rattle.records.proofs.Encode.{encode-last, encode-extend}
 use Rattle.records.proofs.EncodeLaws.{encode-child, encode-dominates}
-use Rattle.children.specs.Code.{Table, Rows, problemOf, choicesOf, encodeOf, restOf, bounded, childOf, childrenOf, rootOf, recProblem, recChoices}
+use Rattle.children.specs.Code.{Table, Rows, problemOf, choicesOf, encodeOf, restOf, pairsBy, bounded, childOf, childrenOf, rootOf, recProblem, recChoices}
 use Rattle.children.specs.declared.setting.Setting.{Setting}
 
 module _ {d : Setting} {t : Table} (rows : Rows d t) where
@@ -79,12 +81,13 @@ module _ {d : Setting} {t : Table} (rows : Rows d t) where
     unfolding restOf encodeOf encode
     encode-rest = stops-left n (rows .few) x
 
-    encode-children : childrenOf d t (encodeOf d t x) ≡ map (encodeOf d t) (children n x)
+    encode-children : childrenOf d t (encodeOf d t x) ≡ map (encodeOf d t) (children n (pairsBy d) x)
     unfolding childrenOf children
     encode-children =
-        ap (map (childOf d t (encodeOf d t x))) encode-rest
-        ∙ map-same (childOf d t (encodeOf d t x)) (λ s. encodeOf d t (extend x s)) (left n x) encode-kid
-        ∙ sym (map-map (encodeOf d t) (extend x) (left n x))
+        let next : List ℕ = ready (pairsBy d) (left n x) in
+        ap (λ (rest : List ℕ). map (childOf d t (encodeOf d t x)) (ready (pairsBy d) rest)) encode-rest
+        ∙ map-same (childOf d t (encodeOf d t x)) (λ s. encodeOf d t (extend x s)) next (λ s m. encode-kid s (in-ready (pairsBy d) (left n x) s m .0))
+        ∙ sym (map-map (encodeOf d t) (extend x) next)
 
   pub record-maps : Maps (encodeOf d t) (Partial (d .n)) (problemOf d t) (recProblem d t) (choicesOf d t) (recChoices d)
   unfolding problemOf problem recProblem choicesOf choices recChoices complete encodeOf encode
@@ -92,7 +95,7 @@ module _ {d : Setting} {t : Table} (rows : Rows d t) where
     root = encode-root;
     root-valid = partial-root n;
     children = encode-children;
-    children-valid = partial-child n;
+    children-valid = λ x y p m. partial-child n x y p (kids-extend n (pairsBy d) x y m);
     complete = λ x p. refl;
     cost = λ x p whole. bound-exact walk k (rows .bound) x whole;
     dominates = λ w x p q. encode-dominates walk (place-last t) (rows .few) k w x p q;

@@ -1,7 +1,8 @@
 -- A setting and a table's rows as a problem on records, and what the functions of this crate compute. `proofs/` shows that it is the
 -- problem of their day, node by node. These definitions are the code's own: a reader of the promise needs none of them.
 --   Rows                              what a run asks of both
---   settingOf, jobOf                  the setting of a call, and the job of a setting
+--   settingBy, settingOf              the setting of a job with pairs and a budget, and that of a call
+--   pairsBy                           the pairs of a setting
 --   problemOf, choicesOf, encodeOf    the problem and the caller's choices on nodes, and the record of a node
 --   childrenOf, rootOf                the children of a record, in ascending stop order, and the record of e
 --   recProblem, recChoices            the same problem and choices on records
@@ -22,10 +23,12 @@ use Rattle.lists.specs.Lists.{In, keep, dropAt}
 use Rattle.search.specs.Problem.{Problem, Choices}
 use Rattle.search.specs.Step.{on, learn}
 use Rattle.orders.specs.Orders.{Node, Partial}
+use Rattle.orders.specs.Pairs.{Pair, Pairing, ready}
 use Rattle.days.specs.Days.{problem, choices}
 use Rattle.stops.specs.Stops.{dayOn}
 use Rattle.stops.specs.Code.{emptyRecord, extended, lastStop, recDominates, stopsIn, reckonOn, Cheap}
 use Rattle.stops.specs.declared.node_record.Record.{Record}
+use Rattle.pairs.specs.Code.{precedenceOf, pairsIn}
 use Rattle.records.specs.Code.{encode, inSlot}
 use Rattle.passes.specs.Code.{isWithin}
 use Rattle.rivals.specs.Code.{isFree}
@@ -38,22 +41,33 @@ use Rattle.children.specs.declared.spot.Spot.{Spot}
 abbrev pub Table : Type 0
 Table = List (List ℕ)
 
+abbrev pub settingBy : Job → List ℕ → ℕ → Setting
+settingBy job pairs budget = record {
+  n = job .n;
+  selection = job .selection;
+  rules = job .rules;
+  bound = job .bound;
+  budget = budget;
+  precedence = precedenceOf pairs;
+}
+
 abbrev pub settingOf : Call → Setting
-settingOf c =
-    record { n = c .job .n; selection = c .job .selection; rules = c .job .rules; bound = c .job .bound; budget = c .budget }
+settingOf c = settingBy (c .job) (c .pairs) (c .budget)
 
-abbrev pub jobOf : Setting → Job
-jobOf d = record { n = d .n; selection = d .selection; rules = d .rules; bound = d .bound }
+-- the pairs of a setting (request A.6)
+abbrev pub pairsBy : Setting → List Pair
+pairsBy d = pairsIn (d .precedence)
 
--- one stop to as many as there may be, no leg too dear, and a bound that there is
+-- one stop to as many as there may be, no leg too dear, a bound that there is, and pairs with which every day can be flown
 pub record Rows (d : Setting) (t : Table) : Type 0 where
   pub some : 1 ≤ d .n
   pub few : d .n ≤ mostStops
   pub cheap : Cheap t
   pub bound : d .bound ≤ 3
+  pub pairing : Pairing (d .n) (pairsBy d)
 
 unfoldable pub problemOf : Setting → Table → Problem Node
-problemOf d t = problem (d .n) (dayOn (d .n) t)
+problemOf d t = problem (d .n) (pairsBy d) (dayOn (d .n) t)
 
 unfoldable pub choicesOf : Setting → Table → Choices Node
 choicesOf d t = choices (dayOn (d .n) t) (d .selection) (d .rules) (d .bound) (d .budget)
@@ -77,7 +91,7 @@ childOf d t b s =
     (extended b s (reckonOn t .further (lastStop b) s))
 
 unfoldable pub childrenOf : Setting → Table → Record → List Record
-childrenOf d t b = map (childOf d t b) (stopsIn (restOf d b))
+childrenOf d t b = map (childOf d t b) (ready (pairsBy d) (stopsIn (restOf d b)))
 
 unfoldable pub rootOf : Setting → Table → Record
 rootOf d t = bounded (reckonOn t .ahead (d .bound) 0 (stopsIn (2 ^ d .n - 1))) emptyRecord
@@ -109,7 +123,8 @@ pub record Kid (d : Setting) (t : Table) (b : Record) (place rest s : ℕ) : Typ
   pub stop : In s (stopsIn rest)
 
 pub record Born (d : Setting) (t : Table) (b : Record) (born : ℕ) (kids : List Record) : Type 0 where
-  pub stops : born ≡ restOf d b
+  pub small : born < 2 ^ mostStops
+  pub stops : stopsIn born ≡ ready (pairsBy d) (stopsIn (restOf d b))
   pub each : (s : ℕ) → In s (stopsIn born) → inSlot kids s ≡ childOf d t b s
   pub room : mostStops ≤ length kids
 

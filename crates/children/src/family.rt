@@ -6,6 +6,7 @@ ghost use Rattle.sizes.specs.Sizes.{mostStops};
 ghost use Rattle.records.specs.Code.{records};
 ghost use Rattle.children.specs.Code.{Rows, Encoded, Kid, childOf, rootOf, Born};
 use crate::setting::Setting;
+use pairs::ready;
 use records::slot;
 use records::store;
 use sizes::PLACES;
@@ -43,18 +44,19 @@ fn child(
     x
 }
 
-// Writes each child of b to the slot of its stop in kids, and gives the set of these stops: all that b leaves.
+// Writes each child of b to the slot of its stop in kids, and gives the set of these stops: those that b leaves and that need not wait (request A.6).
 pub fn family(setting: Setting, t: [[u32; PLACES]; PLACES], b: Record, kids: &mut [u32]) -> u32
     requires { ⌜ Rows setting t × (Encoded setting t b × (mostStops ≤ length (records (now kids)))) ⌝ }
     ensures { λ r. ⌜ Born setting t b r (records (now (kids .exit))) ⌝ }
 {
     let place = b.last();
     let rest = (1u32 << setting.n) - 1 - b.set;
-    let mut left = rest;
+    let born = ready(setting.precedence, rest);
+    let mut left = born;
     while left != 0 {
         let s = next(left);
         left = later(left);
         store(kids, slot(s), child(setting, &t, b, place, rest, s));
     }
-    rest
+    born
 }

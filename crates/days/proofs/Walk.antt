@@ -4,12 +4,13 @@
 --   bound-exact, walk-bound        the laws of a bound: it never falls, is the cost of an order, and is fair to dominance
 --   walk-closer                    a closer bound is at least the other
 --   day-weighs                     a node weighs more than its children together, so that a run ends
---   day-solvable                   where every order is cheaper than "above every cost", one is known to be
+--   day-solvable                   where every order is cheaper than "above every cost", one that respects the pairs is known to be
+--   problem-same                   of the pairs only which there are plays a part
 -- A node's like has the same set, is at the same place and has no more path cost: whatever completes the one completes the other, at the
 -- same further cost.
 use mathlib.Core.Path.{_≡_, refl, sym, ap, _∙_, subst}
 use mathlib.Core.List.{List, []}
-use mathlib.Core.Logic.{_⊎_, inl, inr}
+use mathlib.Core.Logic.{_⊎_, inl, inr, _↔_}
 use Prim.Native.Nat.{ℕ, _+_, _-_, _≤_, _<_}
 use native.Mathlib.Omega.{arith}
 use lib.Dec.{T, eqb}
@@ -18,11 +19,12 @@ use Rattle.sizes.specs.Sizes.{aboveEveryCost}
 use Rattle.lists.specs.Lists.{In, without, Distinct}
 use Rattle.search.proofs.Laws.{Leads, stay, down, Good, Lawful, BoundLaws, Weighs, Solvable}
 use Rattle.search.proofs.Plain.{tree}
-use Rattle.orders.specs.Orders.{Node, stops, setOf, left, size, complete, extend, children, Order, nodes}
-use Rattle.orders.proofs.Sets.{distinct-left, left-extend, child-extends, extend-child, set-same-left, set-extend-same}
+use Rattle.orders.specs.Orders.{Node, stops, setOf, left, size, complete, extend, extensions, nodes}
+use Rattle.orders.specs.Pairs.{Pair, Pairing, Allowed, ready, children}
+use Rattle.orders.proofs.Sets.{distinct-left, left-extend, in-extensions, set-same-left, set-extend-same}
 use Rattle.orders.proofs.Tree.{complete-size, complete-left, tree-sized, tree-weighs}
 use Rattle.orders.proofs.Partial.{partial-root, partial-size}
-use Rattle.orders.proofs.Order.{stops-order, order-complete, order-leads}
+use Rattle.orders.proofs.Pairs.{in-children, children-in, in-ready, kids-extend, kids-few, descends, leads-allowed, children-same}
 use Rattle.days.specs.Days.{Day, Closer, problem}
 use Rattle.days.specs.Code.{Reckoning}
 
@@ -83,21 +85,22 @@ module _ {n most : ℕ} {D : Day} {R : Reckoning} (walk : Walk n most D R) where
   alike-bound k h w x a =
       rw (walk .bound-ahead k h w, walk .bound-ahead k h x, a .place, set-same-left n w x (a .stops)) (omega (arith, a .cheaper))
 
-  -- What is reached from x has its like among what is reached from w: a child of x is x extended by a stop that it leaves; w leaves
-  -- the same stops; and w extended by that stop is like that child.
-  leads-alike : {w x y : Node} → Alike n D R w x → Leads (problem n D) x y → (z : Node) × Leads (problem n D) w z × Alike n D R z y
+  -- What is reached from x has its like among what is reached from w: a child of x is x extended by a stop that it leaves and that need not wait; w
+  -- leaves the same stops, and the same need not wait; and w extended by that stop is like that child.
+  leads-alike : (pairs : List Pair) {w x y : Node} → Alike n D R w x → Leads (problem n pairs D) x y → (z : Node) × Leads (problem n pairs D) w z × Alike n D R z y
   unfolding problem
-  leads-alike {w} a stay = (w, stay, a)
-  leads-alike {w} {x} a (down {c} m l) =
-      let (s, i, e) = child-extends n x c m in
-      let k : Alike n D R (extend w s) c = subst (λ (z : Node). Alike n D R (extend w s) z) (sym e) (alike-extend w x s i a) in
-      let (z, j, b) = leads-alike k l in
-      (z, down (extend-child n w s (rw (set-same-left n w x (a .stops)) i)) j, b)
+  leads-alike pairs {w} a stay = (w, stay, a)
+  leads-alike pairs {w} {x} a (down {c} m l) =
+      let (s, i, e) = in-children n pairs x c m in
+      let left-too : In s (left n x) = in-ready pairs (left n x) s i .0 in
+      let k : Alike n D R (extend w s) c = subst (λ (z : Node). Alike n D R (extend w s) z) (sym e) (alike-extend w x s left-too a) in
+      let (z, j, b) = leads-alike pairs k l in
+      (z, down (children-in n pairs w s (subst (λ (rest : List ℕ). In s (ready pairs rest)) (sym (set-same-left n w x (a .stops))) i)) j, b)
 
-  alike-good : (v : ℕ) (w x : Node) → Alike n D R w x → Good (problem n D) v x → Good (problem n D) v w
+  alike-good : (pairs : List Pair) (v : ℕ) (w x : Node) → Alike n D R w x → Good (problem n pairs D) v x → Good (problem n pairs D) v w
   unfolding problem
-  alike-good v w x a g =
-      let (z, l, b) = leads-alike a (g .leads) in
+  alike-good pairs v w x a g =
+      let (z, l, b) = leads-alike pairs a (g .leads) in
       record {
         leaf = z;
         leads = l;
@@ -105,20 +108,20 @@ module _ {n most : ℕ} {D : Day} {R : Reckoning} (walk : Walk n most D R) where
         cheap = omega (arith, alike-cost z (g .leaf) b, g .cheap);
       }
 
-  pub walk-lawful : 1 ≤ n → Lawful (tree (problem n D)) (size n) n
+  pub walk-lawful : (pairs : List Pair) → 1 ≤ n → Lawful (tree (problem n pairs D)) (size n) n
   unfolding problem
-  walk-lawful h = record {
-    sized = tree-sized n (problem n D) (λ x. refl) (λ x. refl);
+  walk-lawful pairs h = record {
+    sized = tree-sized n (problem n pairs D) (kids-extend n pairs) (kids-few n pairs) (λ x. refl);
     unfinished = λ t. omega (arith, complete-size n [] t, partial-size n [] (partial-root n));
-    swap = λ v w x d g. alike-good v w x (walk .dominator-alike w x d) g;
+    swap = λ v w x d g. alike-good pairs v w x (walk .dominator-alike w x d) g;
     trans = λ w x y d e. walk .alike-dominates w y (alike-trans (walk .dominator-alike w x d) (walk .dominator-alike x y e));
     level = λ w x d. omega (arith, alike-size (walk .dominator-alike w x d));
     rises = λ u v k. k;
   }
 
   -- bounds
-  bound-grows : (k : ℕ) → k ≤ most → (b c : Node) → In c (children n b) → D .bound k b ≤ D .bound k c
-  bound-grows k h b c m = let (s, i, e) = child-extends n b c m in rw e (go s i)
+  pub bound-grows : (k : ℕ) → k ≤ most → (b c : Node) → In c (extensions n b) → D .bound k b ≤ D .bound k c
+  bound-grows k h b c m = let (s, i, e) = in-extensions n b c m in rw e (go s i)
     where
       go : (s : ℕ) → In s (left n b) → D .bound k b ≤ D .bound k (extend b s)
       go s i =
@@ -136,10 +139,10 @@ module _ {n most : ℕ} {D : Day} {R : Reckoning} (walk : Walk n most D R) where
       ∙ ap (λ (rest : List ℕ). D .path x + R .ahead k (R .place x) rest) (complete-left n x t)
       ∙ sym (walk .cost-ahead k h x)
 
-  pub walk-bound : (k : ℕ) → k ≤ most → BoundLaws (tree (problem n D)) (D .bound k)
+  pub walk-bound : (pairs : List Pair) (k : ℕ) → k ≤ most → BoundLaws (tree (problem n pairs D)) (D .bound k)
   unfolding problem
-  walk-bound k h = record {
-    grows = bound-grows k h;
+  walk-bound pairs k h = record {
+    grows = λ b c m. bound-grows k h b c (kids-extend n pairs b c m);
     exact = bound-exact k h;
     fair = λ w x d. alike-bound k h w x (walk .dominator-alike w x d);
   }
@@ -153,16 +156,28 @@ module _ {n most : ℕ} {D : Day} {R : Reckoning} (walk : Walk n most D R) where
       rw (walk .bound-ahead j i x, walk .bound-ahead k (omega (arith, closer-above j k h)) x)
       (omega (arith, walk .ahead-closer j k h (R .place x) (left n x)))
 
-pub day-weighs : (n : ℕ) (D : Day) → Weighs (problem n D) (λ x. nodes (n - size n x))
+pub day-weighs : (n : ℕ) (pairs : List Pair) (D : Day) → Weighs (problem n pairs D) (λ x. nodes (n - size n x))
 unfolding problem
-day-weighs n D = tree-weighs n (problem n D) (λ x. refl) (λ x. refl)
+day-weighs n pairs D = tree-weighs n (problem n pairs D) (kids-extend n pairs) (kids-few n pairs) (λ x. refl)
 
--- the stops in ascending order are an order
-pub day-solvable : (n : ℕ) (D : Day) → ((x : Node) → Order n x → D .cost x < aboveEveryCost) → Solvable (problem n D)
+-- from e an order is reached
+pub day-solvable :
+    (n : ℕ) (pairs : List Pair) (D : Day) → Pairing n pairs → ((x : Node) → Allowed n pairs x → D .cost x < aboveEveryCost)
+    → Solvable (problem n pairs D)
 unfolding problem
-day-solvable n D below = (
-  stops n,
-  order-complete n (stops n) (stops-order n),
-  order-leads n (problem n D) (λ x. refl) (stops n) (stops-order n),
-  below (stops n) (stops-order n),
-)
+day-solvable n pairs D ok below =
+    let P = problem n pairs D in
+    let (y, whole, leads) = descends ok P (λ x. refl) [] in
+    (y, whole, leads, below y (leads-allowed ok P (λ x. refl) y whole leads))
+
+pub problem-same :
+    (n : ℕ) (ps qs : List Pair) (D : Day) → ((p : Pair) → In p ps ↔ In p qs) → problem n ps D ≡ problem n qs D
+unfolding problem
+problem-same n ps qs D same i = record {
+  root = [];
+  children = λ x. children-same ps qs same n x i;
+  complete = complete n;
+  cost = D .cost;
+  dominates = D .dominates;
+  above = aboveEveryCost;
+}

@@ -1,13 +1,14 @@
--- What a day reckons with, and the search for its cheapest order: document 01, "Nodes" and "One run". The stops of a table are a day
+-- What a day reckons with, and the search for its cheapest order: document 01, "Nodes" and "One run"; document 02, A.6. The stops of a table are a day
 -- (crate `stops`).
 use mathlib.Core.Path.{_≡_}
 use mathlib.Core.Bool.{Bool}
-use mathlib.Core.List.{[]}
+use mathlib.Core.List.{List, []}
 use mathlib.Core.Logic.{_⊎_}
 use Prim.Native.Nat.{ℕ}
 use Rattle.sizes.specs.Sizes.{aboveEveryCost}
 use Rattle.search.specs.Problem.{Problem, Choices}
-use Rattle.orders.specs.Orders.{Node, complete, children}
+use Rattle.orders.specs.Orders.{Node, complete}
+use Rattle.orders.specs.Pairs.{Pair, children}
 
 pub record Day : Type 0 where
   -- the path cost of a node
@@ -24,11 +25,11 @@ pub record Day : Type 0 where
 abbrev pub Closer : ℕ → ℕ → Type 0
 Closer j k = ((j ≡ 1) × (k ≡ 0)) ⊎ ((j ≡ 3) × (k ≡ 2))
 
--- the search for the cheapest order of n stops
-unfoldable pub problem : ℕ → Day → Problem Node
-problem n D = record {
+-- the search for the cheapest order of n stops that respects some pairs (request A.6)
+unfoldable pub problem : ℕ → List Pair → Day → Problem Node
+problem n pairs D = record {
   root = [];
-  children = children n;
+  children = children n pairs;
   complete = complete n;
   cost = D .cost;
   dominates = D .dominates;

@@ -3,16 +3,17 @@
 --   cheapest-in, cheapest-least      so it is one of them, and none is cheaper
 --   cheapest-stays                   where it is no cheaper than the first, it is the first
 --   cheapest-append                  of joined lists: of the second, from what the first comes to
-use mathlib.Core.Path.{_≡_, refl, ap}
-use mathlib.Core.Bool.{cond}
+--   cheapest-keep                    of the elements that pass a test: of all, where those that do not are dear enough
+use mathlib.Core.Path.{_≡_, refl, sym, ap, subst}
+use mathlib.Core.Bool.{Bool, true, false, cond}
 use mathlib.Core.List.{List, [], _∷_, _++_, List·Memᴰ·tail, List·Memᴰ·cases-cons, List·Memᴰ·not-nil, Memᴰ·append-right}
 use mathlib.Core.Logic.{_⊎_, inl, inr}
 use Prim.Native.Nat.{ℕ, _≤_, _<_}
 use native.Mathlib.Omega.{arith}
-use lib.Dec.{ltb}
+use lib.Dec.{T, ltb}
 use borrow.Author.Tests.{lt-ltb, le-ltb}
-use Rattle.lists.specs.Lists.{In}
-use Rattle.lists.proofs.Tests.{ordered}
+use Rattle.lists.specs.Lists.{In, put, keep}
+use Rattle.lists.proofs.Tests.{to-true, ordered}
 use Rattle.lists.proofs.Members.{in-head}
 use Rattle.first_answer.specs.Nearest.{cheapest}
 use Rattle.first_answer.specs.Request.{FirstCheapest}
@@ -124,3 +125,27 @@ module _ {A : Type 0} (f : A → ℕ) where
   pub cheapest-append : (x : A) (xs ys : List A) → cheapest f x (xs ++ ys) ≡ cheapest f (cheapest f x xs) ys
   cheapest-append x [] ys = refl
   cheapest-append x (y ∷ xs) ys = cheapest-append (cond (ltb (f y) (f x)) y x) xs ys
+
+  -- an element that does not pass costs `top`, and what is cheapest so far costs no more
+  pub cheapest-keep :
+      (test : A → Bool) (top : ℕ) (x : A) (xs : List A) → T (test x) → f x ≤ top
+      → cheapest f x (keep test xs) ≡ cheapest (λ y. cond (test y) (f y) top) x xs
+  cheapest-keep test top x [] a h = refl
+  cheapest-keep test top x (y ∷ ys) a h =
+      rw (to-true (test x) a) (go (test y) refl (cheapest-keep test top x ys a h) (cheapest-keep test top y ys))
+    where
+      priced : A → ℕ
+      priced z = cond (test z) (f z) top
+
+      Same : A → Type 0
+      Same z = cheapest f z (keep test ys) ≡ cheapest priced z ys
+
+      nearer : (f x ≤ f y) ⊎ (f y < f x) → Same x → (f y ≤ top → Same y) → Same (cond (ltb (f y) (f x)) y x)
+      nearer (inl k) stays takes = rw (le-ltb (f y) (f x) k) stays
+      nearer (inr k) stays takes = rw (lt-ltb (f y) (f x) k) (takes (omega arith))
+
+      go :
+          (b : Bool) → test y ≡ b → Same x → (T (test y) → f y ≤ top → Same y)
+          → cheapest f x (put b y (keep test ys)) ≡ cheapest priced (cond (ltb (cond b (f y) top) (f x)) y x) ys
+      go false e stays takes = rw (le-ltb top (f x) h) stays
+      go true e stays takes = nearer (ordered (f x) (f y)) stays (takes (subst T (sym e) tt))

@@ -1,7 +1,7 @@
 -- Laws of the exchanges of a node, and of the best of them.
 --   exchanges-are, exchanges-in     each exchanges the stops at two positions p < q, and all of these are there
 --   bestExchange-least              no allowed exchange is cheaper than the best
---   bestExchange-order              the best exchange of an order is an order
+--   bestExchange-order, bestExchange-allowed    the best exchange of an order is an order, and of what is allowed it is allowed
 use mathlib.Core.Path.{_≡_, sym, subst}
 use mathlib.Core.Bool.{Bool}
 use mathlib.Core.List.{List·Memᴰ·tail, List·Memᴰ·cases-cons}
@@ -39,15 +39,16 @@ module _ (x : Node) where
       (map-in (exchanged x p) (from-in (suc p) (length x - suc p) q h (omega arith)))
 
 module _ (L : Legs) (allowed : Node → Bool) (x : Node) where
-  bestExchange-is : (bestExchange L allowed x ≡ x) ⊎ Exchanges x (bestExchange L allowed x)
+  -- the best exchange is x, or one of the allowed exchanges
+  bestExchange-is : (bestExchange L allowed x ≡ x) ⊎ (Exchanges x (bestExchange L allowed x) × T (allowed (bestExchange L allowed x)))
   unfolding bestExchange
   bestExchange-is = go (List·Memᴰ·cases-cons (cheapest-in (cost L) x (keep allowed (exchanges x))))
     where
       go :
           (bestExchange L allowed x ≡ x) ⊎ In (bestExchange L allowed x) (keep allowed (exchanges x))
-          → (bestExchange L allowed x ≡ x) ⊎ Exchanges x (bestExchange L allowed x)
+          → (bestExchange L allowed x ≡ x) ⊎ (Exchanges x (bestExchange L allowed x) × T (allowed (bestExchange L allowed x)))
       go (inl e) = inl e
-      go (inr m) = inr (exchanges-are x (bestExchange L allowed x) (in-keep allowed (exchanges x) (bestExchange L allowed x) m .0))
+      go (inr m) = let (i, a) = in-keep allowed (exchanges x) (bestExchange L allowed x) m in inr (exchanges-are x (bestExchange L allowed x) i, a)
 
   pub bestExchange-least :
       (p q : ℕ) → p < q → q < length x → T (allowed (exchanged x p q)) → cost L (bestExchange L allowed x) ≤ cost L (exchanged x p q)
@@ -59,6 +60,17 @@ module _ (L : Legs) (allowed : Node → Bool) (x : Node) where
   pub bestExchange-order : (n : ℕ) → Order n x → Order n (bestExchange L allowed x)
   bestExchange-order n o = go bestExchange-is
     where
-      go : (bestExchange L allowed x ≡ x) ⊎ Exchanges x (bestExchange L allowed x) → Order n (bestExchange L allowed x)
+      go :
+          (bestExchange L allowed x ≡ x) ⊎ (Exchanges x (bestExchange L allowed x) × T (allowed (bestExchange L allowed x)))
+          → Order n (bestExchange L allowed x)
       go (inl e) = subst (Order n) (sym e) o
-      go (inr (p, q, h, k, e)) = subst (Order n) (sym e) (exchanged-order x p q (omega arith) k n o)
+      go (inr ((p, q, h, k, e), a)) = subst (Order n) (sym e) (exchanged-order x p q (omega arith) k n o)
+
+  pub bestExchange-allowed : T (allowed x) → T (allowed (bestExchange L allowed x))
+  bestExchange-allowed h = go bestExchange-is
+    where
+      go :
+          (bestExchange L allowed x ≡ x) ⊎ (Exchanges x (bestExchange L allowed x) × T (allowed (bestExchange L allowed x)))
+          → T (allowed (bestExchange L allowed x))
+      go (inl e) = subst (λ (y : Node). T (allowed y)) (sym e) h
+      go (inr (i, a)) = a

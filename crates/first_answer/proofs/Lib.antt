@@ -4,3 +4,4 @@ pub mod Exchanged
 pub mod Exchanges
 pub mod Settled
 pub mod First
+pub mod FirstPairs

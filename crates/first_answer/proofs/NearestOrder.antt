@@ -1,86 +1,96 @@
 -- What the nearest-stop order is.
---   nextStops-left          a stop that may be flown next is one that the node leaves
---   toNearest-child         a node flown on to the nearest of such stops is one of its children
---   nearest-partial         the nearest-stop order is a partial order
---   nearest-order           and an order, where no partial order that leaves a stop is without one that may be flown next
---   onward-free             where every node is allowed, the next stop is the nearest of those that a node leaves
---   nearest-free            and the nearest-stop order is an order
-use mathlib.Core.Path.{_≡_, refl, ap, sym, _∙_}
-use mathlib.Core.Bool.{Bool}
-use mathlib.Core.List.{List, [], _∷_}
+--   toNearest-next          a node flown on to the nearest of the stops that may be flown next is one of its extensions, and allowed
+--   nearest-order           the nearest-stop order is an order, and allowed, where no allowed partial order that leaves a stop is without one that
+--                           may be flown next
+--   nextStops-ready         with pairs (request A.6), these are the stops that need not wait
+--   nearest-allowed         so that there always is one, and the nearest-stop order is an order that respects them
+use mathlib.Core.Path.{_≡_, refl, ap, sym, subst, _∙_}
+use mathlib.Core.Bool.{Bool, not}
+use mathlib.Core.List.{List, [], _∷_, List·Memᴰ·not-nil}
 use mathlib.Core.Logic.{_≢_}
 use Prim.Native.Nat.{ℕ, zero, suc, _+_, _≤_, _<_}
 use native.Mathlib.Omega.{arith}
 use lib.Dec.{T}
 use lib.ListN.{length, length-append}
 use Rattle.lists.specs.Lists.{In}
-use Rattle.lists.proofs.Members.{in-keep}
-use Rattle.lists.proofs.Keep.{keep-all}
-use Rattle.orders.specs.Orders.{Node, Partial, Order, left, last, extend, children}
-use Rattle.orders.proofs.Sets.{size-left, extend-child}
+use Rattle.lists.proofs.Members.{in-keep, in-head}
+use Rattle.lists.proofs.Keep.{keep-same}
+use Rattle.orders.specs.Orders.{Node, Partial, Order, left, last, extend, extensions}
+use Rattle.orders.specs.Pairs.{Pair, Pairing, respects, Allowed, waits, ready}
+use Rattle.orders.proofs.Sets.{size-left, extensions-in}
 use Rattle.orders.proofs.Partial.{partial-root, partial-child, partial-size}
 use Rattle.orders.proofs.Order.{full-order}
+use Rattle.orders.proofs.Pairs.{respects-root, ready-respects, ready-some}
 use Rattle.stops.specs.Legs.{Legs}
 use Rattle.first_answer.specs.Nearest.{cheapest, toNearest, nextStops, onward, nearest}
 use Rattle.first_answer.proofs.Cheapest.{cheapest-in}
 
 module _ (n : ℕ) (L : Legs) (allowed : Node → Bool) where
-  nextStops-left : (x : Node) (s : ℕ) → In s (nextStops n allowed x) → In s (left n x)
+  -- a stop that may be flown behind x
+  abbrev Next : Node → ℕ → Type 0
+  Next x s = In s (left n x) × T (allowed (extend x s))
+
+  nextStops-next : (x : Node) (s : ℕ) → In s (nextStops n allowed x) → Next x s
   unfolding nextStops
-  nextStops-left x s m = in-keep (λ r. allowed (extend x r)) (left n x) s m .0
+  nextStops-next x s m = in-keep (λ r. allowed (extend x r)) (left n x) s m
 
-  toNearest-child :
-      (x : Node) (s : ℕ) (ss : List ℕ) → ((r : ℕ) → In r (s ∷ ss) → In r (left n x)) → In (toNearest L x (s ∷ ss)) (children n x)
-  toNearest-child x s ss h =
-      extend-child n x (cheapest (L .leg (last x)) s ss) (h (cheapest (L .leg (last x)) s ss) (cheapest-in (L .leg (last x)) s ss))
+  toNearest-next :
+      (x : Node) (s : ℕ) (ss : List ℕ) → ((r : ℕ) → In r (s ∷ ss) → Next x r)
+      → In (toNearest L x (s ∷ ss)) (extensions n x) × T (allowed (toNearest L x (s ∷ ss)))
+  toNearest-next x s ss h =
+      let r : ℕ = cheapest (L .leg (last x)) s ss in
+      let (l, a) = h r (cheapest-in (L .leg (last x)) s ss) in
+      (extensions-in n x r l, a)
 
-  onward-partial : (k : ℕ) (x : Node) → Partial n x → Partial n (onward n L allowed k x)
-  onward-partial zero x p = p
-  onward-partial (suc k) x p = onward-partial k (toNearest L x (nextStops n allowed x)) (go (nextStops n allowed x) (nextStops-left x))
-    where
-      go : (stops : List ℕ) → ((r : ℕ) → In r stops → In r (left n x)) → Partial n (toNearest L x stops)
-      go [] h = p
-      go (s ∷ ss) h = partial-child n x (toNearest L x (s ∷ ss)) p (toNearest-child x s ss h)
-
-  nearest-partial : Partial n (nearest n L allowed)
-  unfolding nearest
-  nearest-partial = onward-partial n [] (partial-root n)
-
-  -- some stop may always be flown next
+  -- from an allowed partial order that leaves a stop, some stop may be flown next
   abbrev Ways : Type 0
-  Ways = (x : Node) → Partial n x → length x < n → nextStops n allowed x ≢ []
+  Ways = (x : Node) → Partial n x → T (allowed x) → length x < n → nextStops n allowed x ≢ []
+
+  -- what onward leads to from x, k stops more
+  record Flown (x : Node) (k : ℕ) (y : Node) : Type 0 where
+    partial : Partial n y
+    passes : T (allowed y)
+    long : length y ≡ length x + k
 
   module _ (ways : Ways) where
-    onward-length : (k : ℕ) (x : Node) → Partial n x → length x + k ≤ n → length (onward n L allowed k x) ≡ length x + k
-    onward-length zero x p h = omega arith
-    onward-length (suc k) x p h = go (nextStops n allowed x) (nextStops-left x) (ways x p (omega arith)) (λ y. onward-length k y)
+    onward-flown : (k : ℕ) (x : Node) → Partial n x → T (allowed x) → length x + k ≤ n → Flown x k (onward n L allowed k x)
+    onward-flown zero x p a h = record { partial = p; passes = a; long = omega arith }
+    onward-flown (suc k) x p a h = go (nextStops n allowed x) (nextStops-next x) (ways x p a (omega arith)) (λ y. onward-flown k y)
       where
         go :
-            (stops : List ℕ) → ((r : ℕ) → In r stops → In r (left n x)) → stops ≢ []
-            → ((y : Node) → Partial n y → length y + k ≤ n → length (onward n L allowed k y) ≡ length y + k)
-            → length (onward n L allowed k (toNearest L x stops)) ≡ length x + suc k
+            (stops : List ℕ) → ((r : ℕ) → In r stops → Next x r) → stops ≢ []
+            → ((y : Node) → Partial n y → T (allowed y) → length y + k ≤ n → Flown y k (onward n L allowed k y))
+            → Flown x (suc k) (onward n L allowed k (toNearest L x stops))
         go [] among some again = absurd (some refl)
         go (s ∷ ss) among some again =
             let y : Node = toNearest L x (s ∷ ss) in
             let one : length y ≡ length x + 1 = length-append x (cheapest (L .leg (last x)) s ss ∷ []) in
-            omega (arith, again y (partial-child n x y p (toNearest-child x s ss among)) (omega arith))
+            let (child, passes) = toNearest-next x s ss among in
+            let f = again y (partial-child n x y p child) passes (omega arith) in
+            record { partial = f .partial; passes = f .passes; long = omega (arith, f .long) }
 
-    nearest-order : Order n (nearest n L allowed)
+    pub nearest-order : T (allowed []) → Order n (nearest n L allowed) × T (allowed (nearest n L allowed))
     unfolding nearest
-    nearest-order = full-order n (onward n L allowed n []) nearest-partial (omega (arith, onward-length n [] (partial-root n) (omega arith)))
+    nearest-order first =
+        let f = onward-flown n [] (partial-root n) first (omega arith) in
+        (full-order n (onward n L allowed n []) (f .partial) (omega (arith, f .long)), f .passes)
 
--- where every node is allowed, every stop that a node leaves may be flown next
-module _ (n : ℕ) (L : Legs) (allowed : Node → Bool) (free : (x : Node) → T (allowed x)) where
-  nextStops-all : (x : Node) → nextStops n allowed x ≡ left n x
-  unfolding nextStops
-  nextStops-all x = keep-all (λ s. allowed (extend x s)) (left n x) (λ s m. free (extend x s))
+module _ (n : ℕ) {pairs : List Pair} (ok : Pairing n pairs) where
+  pub nextStops-ready : (x : Node) → T (respects pairs x) → nextStops n (respects pairs) x ≡ ready pairs (left n x)
+  unfolding nextStops ready
+  nextStops-ready x h = keep-same (λ s. respects pairs (extend x s)) (λ s. not (waits pairs (left n x) s)) (left n x) (λ s m. ready-respects ok x s h m)
 
-  pub onward-free : (k : ℕ) (x : Node) → onward n L allowed (suc k) x ≡ onward n L allowed k (toNearest L x (left n x))
-  onward-free k x = ap (λ (ss : List ℕ). onward n L allowed k (toNearest L x ss)) (nextStops-all x)
-
-  -- and a partial order that is shorter than n leaves one
-  pub nearest-free : Order n (nearest n L allowed)
-  nearest-free = nearest-order n L allowed ways
+  -- a partial order that is shorter than n leaves a stop, and then one that need not wait
+  ready-ways : (L : Legs) → Ways n L (respects pairs)
+  ready-ways L x p h short e = go (left n x) refl
     where
-      ways : Ways n L allowed
-      ways x p h e = omega (arith, size-left n x, partial-size n x p, ap length (sym (nextStops-all x) ∙ e))
+      go : (rest : List ℕ) → left n x ≡ rest → ⊥
+      go [] none = omega (arith, size-left n x, partial-size n x p, ap length none)
+      go (s ∷ rest) some =
+          let (r, m) = ready-some ok (left n x) s (rw some in-head) in
+          List·Memᴰ·not-nil (subst (λ (l : List ℕ). In r l) (sym (nextStops-ready x h) ∙ e) m)
+
+  pub nearest-allowed : (L : Legs) → Allowed n pairs (nearest n L (respects pairs))
+  nearest-allowed L =
+      let (o, h) = nearest-order n L (respects pairs) (ready-ways L) (respects-root pairs) in
+      record { order = o; respected = h }

@@ -3,7 +3,7 @@
 --   improved-stays, improved-goes-on       so it is the node itself where no exchange lowers the cost, else what the best exchange settles to
 --   settles-few                            with each exchange the cost falls, by 1 or more
 --   improved-cost, improved-least          it is no dearer than the node, and no allowed exchange of two of its stops is cheaper
---   improved-order                         it is an order, if the node is
+--   improved-order, improved-allowed       it is an order if the node is, and allowed if the node is
 use mathlib.Core.Path.{_≡_, refl, sym, subst}
 use mathlib.Core.Bool.{Bool}
 use mathlib.Core.Logic.{_⊎_, inl, inr}
@@ -18,7 +18,7 @@ use Rattle.stops.specs.Legs.{Legs, cost}
 use Rattle.first_answer.specs.Exchanges.{exchanged, exchanges, bestExchange, Settles, settled, lowered, repeated, improved}
 use Rattle.first_answer.specs.Request.{exchangesMade}
 use Rattle.first_answer.proofs.Cheapest.{cheapest-stays}
-use Rattle.first_answer.proofs.Exchanges.{bestExchange-least, bestExchange-order}
+use Rattle.first_answer.proofs.Exchanges.{bestExchange-least, bestExchange-order, bestExchange-allowed}
 
 module _ (L : Legs) (allowed : Node → Bool) where
   abbrev next : Node → Node
@@ -80,9 +80,13 @@ module _ (L : Legs) (allowed : Node → Bool) where
   improved-least x p q h k a =
       omega (arith, settles-least (improved-settles x), bestExchange-least L allowed (improved L allowed x) p q h k a)
 
-  settles-order : {x y : Node} (n : ℕ) → Settles L allowed x y → Order n x → Order n y
-  settles-order n (settled h) o = o
-  settles-order n (lowered {x} h s) o = settles-order n s (bestExchange-order L allowed x n o)
+  -- what holds of a node and, where it holds of one, of its best exchange
+  settles-keeps : (P : Node → Type 0) → ((x : Node) → P x → P (next x)) → {x y : Node} → Settles L allowed x y → P x → P y
+  settles-keeps P keeps (settled h) p = p
+  settles-keeps P keeps (lowered {x} h s) p = settles-keeps P keeps s (keeps x p)
 
   pub improved-order : (n : ℕ) (x : Node) → Order n x → Order n (improved L allowed x)
-  improved-order n x o = settles-order n (improved-settles x) o
+  improved-order n x o = settles-keeps (Order n) (λ y. bestExchange-order L allowed y n) (improved-settles x) o
+
+  pub improved-allowed : (x : Node) → T (allowed x) → T (allowed (improved L allowed x))
+  improved-allowed x h = settles-keeps (λ y. T (allowed y)) (λ y. bestExchange-allowed L allowed y) (improved-settles x) h

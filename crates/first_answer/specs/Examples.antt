@@ -1,24 +1,25 @@
--- Worked examples of first orders: document 01's table T, ties, exchanges and refusals. They stand beside the definitions, and the laws name
+-- Worked examples of first orders: document 01's table T, ties, exchanges, pairs and refusals. They stand beside the definitions, and the laws name
 -- this module so that it is checked before them: a wrong definition is met here first.
 use mathlib.Core.Path.{_≡_, refl}
 use mathlib.Core.List.{List, [], _∷_, map}
 use Prim.Native.Nat.{ℕ, _/_}
 use lib.ListN.{replicate}
 use Rattle.lists.specs.Lists.{padded}
-use Rattle.orders.specs.Orders.{flown, left, last}
+use Rattle.orders.specs.Orders.{flown, count, left, last}
+use Rattle.orders.specs.Pairs.{respects}
 use Rattle.stops.specs.Tables.{entry, charge, flying, counted, inRows, rows}
 use Rattle.stops.specs.Bounds.{endsAway}
 use Rattle.stops.specs.Legs.{rowLeg, legs, path, cost}
 use Rattle.answer.specs.Cases.{tableT}
-use Rattle.answer.specs.Checks.{cause₁, cause₂, cause₃, noSuchBound, tableCause, boundCause}
+use Rattle.answer.specs.Checks.{cause₁, cause₂, cause₃, noSuchBound, cause₁₁, tableCause, firstCause}
 use Rattle.first_answer.specs.Nearest.{cheapest, nextStops, nearest}
 use Rattle.first_answer.specs.Exchanges.{exchanged, behind, exchanges, bestExchange, improved}
 use Rattle.first_answer.specs.First.{legsOf, nearestOf, firstOf, respond, firstAnswer}
 use Rattle.first_answer.specs.declared.FirstOrder.{FirstOrder}
 
 -- an answer, with every definition that it rests on open: a proof that says `unfolding computed` computes it
-computed : ℕ → ℕ → List ℕ → FirstOrder
-unfolding padded flown left last entry charge flying counted inRows rows rowLeg legs path cost cause₁ cause₂ cause₃ noSuchBound tableCause boundCause endsAway nextStops nearest exchanged behind exchanges bestExchange improved legsOf nearestOf firstOf respond firstAnswer
+computed : ℕ → ℕ → List ℕ → List ℕ → FirstOrder
+unfolding padded flown count left last respects entry charge flying counted inRows rows rowLeg legs path cost cause₁ cause₂ cause₃ noSuchBound cause₁₁ tableCause firstCause endsAway nextStops nearest exchanged behind exchanges bestExchange improved legsOf nearestOf firstOf respond firstAnswer
 computed = firstAnswer
 
 -- an answer to three stops
@@ -40,12 +41,12 @@ unfolding computed
 exchanges-of-1234 = refl
 
 -- in T the nearest stop is 1 (4), then 2 (2), then 3; no exchange is cheaper than 13
-first-of-T : firstAnswer 3 0 tableT ≡ three 13 1 2 3
+first-of-T : firstAnswer 3 0 tableT [] ≡ three 13 1 2 3
 unfolding computed tableT three
 first-of-T = refl
 
 -- home is as near to 1 as to 2, which is nearer than 3: of equals the lowest
-lowest-of-equals : firstAnswer 3 0 (0 ∷ 0 ∷ 0 ∷ 1 ∷ 0 ∷ 0 ∷ 1 ∷ 0 ∷ 0 ∷ 0 ∷ 0 ∷ 0 ∷ 2 ∷ 0 ∷ 0 ∷ 0 ∷ []) ≡ three 0 1 3 2
+lowest-of-equals : firstAnswer 3 0 (0 ∷ 0 ∷ 0 ∷ 1 ∷ 0 ∷ 0 ∷ 1 ∷ 0 ∷ 0 ∷ 0 ∷ 0 ∷ 0 ∷ 2 ∷ 0 ∷ 0 ∷ 0 ∷ []) [] ≡ three 0 1 3 2
 unfolding computed three
 lowest-of-equals = refl
 
@@ -53,16 +54,16 @@ lowest-of-equals = refl
 exchanged-table : List ℕ
 exchanged-table = 0 ∷ 2 ∷ 1 ∷ 0 ∷ 0 ∷ 0 ∷ 2 ∷ 0 ∷ 0 ∷ 0 ∷ 0 ∷ 0 ∷ 0 ∷ 0 ∷ 0 ∷ 0 ∷ []
 
-nearest-before-exchange : nearestOf 3 0 exchanged-table ≡ 3 ∷ 1 ∷ 2 ∷ []
+nearest-before-exchange : nearestOf 3 0 exchanged-table [] ≡ 3 ∷ 1 ∷ 2 ∷ []
 unfolding computed exchanged-table
 nearest-before-exchange = refl
 
-greatest-gain : firstAnswer 3 0 exchanged-table ≡ three 0 3 2 1
+greatest-gain : firstAnswer 3 0 exchanged-table [] ≡ three 0 3 2 1
 unfolding computed exchanged-table three
 greatest-gain = refl
 
 -- 123 costs 3, and both 321 (positions 0 and 2) and 132 (1 and 2) cost nothing: the smallest first position
-smallest-first-position : firstAnswer 3 0 (0 ∷ 0 ∷ 0 ∷ 0 ∷ 0 ∷ 0 ∷ 0 ∷ 0 ∷ 0 ∷ 0 ∷ 0 ∷ 0 ∷ 3 ∷ 1 ∷ 0 ∷ 0 ∷ []) ≡ three 0 3 2 1
+smallest-first-position : firstAnswer 3 0 (0 ∷ 0 ∷ 0 ∷ 0 ∷ 0 ∷ 0 ∷ 0 ∷ 0 ∷ 0 ∷ 0 ∷ 0 ∷ 0 ∷ 3 ∷ 1 ∷ 0 ∷ 0 ∷ []) [] ≡ three 0 3 2 1
 unfolding computed three
 smallest-first-position = refl
 
@@ -71,12 +72,12 @@ second-table : List ℕ
 second-table =
     0 ∷ 0 ∷ 0 ∷ 1 ∷ 0 ∷ 2 ∷ 0 ∷ 0 ∷ 2 ∷ 0 ∷ 3 ∷ 4 ∷ 0 ∷ 2 ∷ 0 ∷ 3 ∷ 0 ∷ 2 ∷ 0 ∷ 0 ∷ 3 ∷ 0 ∷ 0 ∷ 3 ∷ 0 ∷ []
 
-first-position-before-second : firstOf 4 0 second-table ≡ 2 ∷ 3 ∷ 4 ∷ 1 ∷ []
+first-position-before-second : firstOf 4 0 second-table [] ≡ 2 ∷ 3 ∷ 4 ∷ 1 ∷ []
 unfolding computed second-table
 first-position-before-second = refl
 
 -- 132 costs 3; the best exchange leads to 123 at 1, and the next to 213 at 0
-two-exchanges : firstAnswer 3 0 (0 ∷ 0 ∷ 0 ∷ 0 ∷ 1 ∷ 0 ∷ 1 ∷ 0 ∷ 1 ∷ 0 ∷ 0 ∷ 0 ∷ 0 ∷ 1 ∷ 2 ∷ 0 ∷ []) ≡ three 0 2 1 3
+two-exchanges : firstAnswer 3 0 (0 ∷ 0 ∷ 0 ∷ 0 ∷ 1 ∷ 0 ∷ 1 ∷ 0 ∷ 1 ∷ 0 ∷ 0 ∷ 0 ∷ 0 ∷ 1 ∷ 2 ∷ 0 ∷ []) [] ≡ three 0 2 1 3
 unfolding computed three
 two-exchanges = refl
 
@@ -84,12 +85,12 @@ two-exchanges = refl
 missed-table : List ℕ
 missed-table = 0 ∷ 1 ∷ 2 ∷ 9 ∷ 1 ∷ 0 ∷ 1 ∷ 9 ∷ 9 ∷ 9 ∷ 0 ∷ 1 ∷ 5 ∷ 1 ∷ 9 ∷ 0 ∷ []
 
-not-the-cheapest : (firstAnswer 3 0 missed-table ≡ three 8 1 2 3) × (cost (legsOf 3 0 missed-table) (2 ∷ 3 ∷ 1 ∷ []) ≡ 5)
+not-the-cheapest : (firstAnswer 3 0 missed-table [] ≡ three 8 1 2 3) × (cost (legsOf 3 0 missed-table) (2 ∷ 3 ∷ 1 ∷ []) ≡ 5)
 unfolding computed missed-table three
 not-the-cheapest = (refl, refl)
 
 -- one stop has no exchange
-one-stop : firstAnswer 1 0 (0 ∷ 3 ∷ 5 ∷ 0 ∷ []) ≡ three 8 1 0 0
+one-stop : firstAnswer 1 0 (0 ∷ 3 ∷ 5 ∷ 0 ∷ []) [] ≡ three 8 1 0 0
 unfolding computed three
 one-stop = refl
 
@@ -98,11 +99,11 @@ one-stop = refl
 charged-table : List ℕ
 charged-table = 2 ∷ 4 ∷ 7 ∷ 9 ∷ 5 ∷ 1 ∷ 2 ∷ 6 ∷ 3 ∷ 8 ∷ 20 ∷ 1 ∷ 6 ∷ 5 ∷ 4 ∷ 3 ∷ []
 
-nearest-with-charges : nearestOf 3 0 charged-table ≡ 1 ∷ 3 ∷ 2 ∷ []
+nearest-with-charges : nearestOf 3 0 charged-table [] ≡ 1 ∷ 3 ∷ 2 ∷ []
 unfolding computed charged-table
 nearest-with-charges = refl
 
-first-with-charges : firstAnswer 3 0 charged-table ≡ three 39 1 2 3
+first-with-charges : firstAnswer 3 0 charged-table [] ≡ three 39 1 2 3
 unfolding computed charged-table three
 first-with-charges = refl
 
@@ -114,25 +115,68 @@ two cost a b = record { number = 0; cost = cost; order = a ∷ b ∷ replicate 1
 dear-home : List ℕ
 dear-home = 0 ∷ 1 ∷ 5 ∷ 1 ∷ 0 ∷ 1 ∷ 100 ∷ 5 ∷ 0 ∷ []
 
-each-end : map (λ bound. firstAnswer 2 bound dear-home) (0 ∷ 1 ∷ 2 ∷ 3 ∷ []) ≡ two 11 2 1 ∷ two 11 2 1 ∷ two 2 1 2 ∷ two 2 1 2 ∷ []
+each-end : map (λ bound. firstAnswer 2 bound dear-home []) (0 ∷ 1 ∷ 2 ∷ 3 ∷ []) ≡ two 11 2 1 ∷ two 11 2 1 ∷ two 2 1 2 ∷ two 2 1 2 ∷ []
 unfolding computed dear-home two
 each-end = refl
 
 -- no bound 4 (request A.5)
-no-bound-4 : firstAnswer 2 4 dear-home ≡ refused 4
+no-bound-4 : firstAnswer 2 4 dear-home [] ≡ refused 4
 unfolding computed dear-home refused
 no-bound-4 = refl
 
--- causes 1 to 3, the lowest that applies, before 4, and zeros
-refusals : map (λ n. firstAnswer n 4 (0 ∷ 3 ∷ 5 ∷ 100_001 ∷ [])) (0 ∷ 17 ∷ 2 ∷ 1 ∷ []) ≡ map refused (1 ∷ 1 ∷ 2 ∷ 3 ∷ [])
+-- causes 1 to 3, the lowest that applies, before 4 and 11, and zeros
+refusals : map (λ n. firstAnswer n 4 (0 ∷ 3 ∷ 5 ∷ 100_001 ∷ []) (1 ∷ [])) (0 ∷ 17 ∷ 2 ∷ 1 ∷ []) ≡ map refused (1 ∷ 1 ∷ 2 ∷ 3 ∷ [])
 unfolding computed refused
 refusals = refl
 
 -- a leg above the dearest; and a leg and a charge that are the dearest, whose sum is above it
-dear-leg : firstAnswer 1 0 (0 ∷ 1_000_001 ∷ 5 ∷ 0 ∷ []) .number ≡ 3
+dear-leg : firstAnswer 1 0 (0 ∷ 1_000_001 ∷ 5 ∷ 0 ∷ []) [] .number ≡ 3
 unfolding computed
 dear-leg = refl
 
-dearest-flying : firstAnswer 1 0 (0 ∷ 1_000_000 ∷ 5 ∷ 100_000 ∷ []) .number ≡ 0
+dearest-flying : firstAnswer 1 0 (0 ∷ 1_000_000 ∷ 5 ∷ 100_000 ∷ []) [] .number ≡ 0
 unfolding computed
 dearest-flying = refl
+
+-- REQUEST A.6
+
+-- in T the nearest stop is 1, but 2 is to be flown before it: from home to 2, then to 3, which is nearer than 1
+waiting-stop : nearestOf 3 0 tableT (2 ∷ 1 ∷ []) ≡ 2 ∷ 3 ∷ 1 ∷ []
+unfolding computed tableT
+waiting-stop = refl
+
+-- 123 costs 2, its exchange 321 nothing, and 213 costs 1: where 1 is to be flown before 3, 321 is not made, and 213 is
+against-table : List ℕ
+against-table = 0 ∷ 0 ∷ 0 ∷ 0 ∷ 0 ∷ 0 ∷ 0 ∷ 1 ∷ 1 ∷ 0 ∷ 0 ∷ 2 ∷ 0 ∷ 0 ∷ 0 ∷ 0 ∷ []
+
+exchange-against : map (firstAnswer 3 0 against-table) ([] ∷ (1 ∷ 3 ∷ []) ∷ []) ≡ three 0 3 2 1 ∷ three 1 2 1 3 ∷ []
+unfolding computed against-table three
+exchange-against = refl
+
+-- 231 costs 18 and its exchange 132 costs 17, which is against the pair; and a pair that the first order of T keeps anyway changes nothing
+first-of-T-with-pairs : map (firstAnswer 3 0 tableT) ((2 ∷ 1 ∷ []) ∷ (1 ∷ 2 ∷ []) ∷ []) ≡ three 18 2 3 1 ∷ three 13 1 2 3 ∷ []
+unfolding computed tableT three
+first-of-T-with-pairs = refl
+
+-- where 1 is to be flown before 2, no exchange of 312 that may be made is cheaper
+no-exchange-left : firstAnswer 3 0 exchanged-table (1 ∷ 2 ∷ []) ≡ three 2 3 1 2
+unfolding computed exchanged-table three
+no-exchange-left = refl
+
+-- two pairs, 4 before 1 and 3 before 2: the nearest-stop order is 4132, and two exchanges lead to 3412
+two-pairs : firstOf 4 0 second-table (4 ∷ 1 ∷ 3 ∷ 2 ∷ []) ≡ 3 ∷ 4 ∷ 1 ∷ 2 ∷ []
+unfolding computed second-table
+two-pairs = refl
+
+-- an odd length; a stop that is none of 1 to n; twice the same stop, in one pair and in two; and eight pairs and one more
+bad-pairs :
+    map (firstAnswer 3 0 tableT)
+    ((1 ∷ []) ∷ (1 ∷ 4 ∷ []) ∷ (0 ∷ 1 ∷ []) ∷ (2 ∷ 2 ∷ []) ∷ (1 ∷ 2 ∷ 2 ∷ 3 ∷ []) ∷ replicate 18 1 ∷ [])
+    ≡ replicate 6 (refused 11)
+unfolding computed tableT refused
+bad-pairs = refl
+
+-- 11 comes behind 4
+eleven-behind-four : map (λ bound. firstAnswer 2 bound dear-home (1 ∷ [])) (3 ∷ 4 ∷ []) ≡ refused 11 ∷ refused 4 ∷ []
+unfolding computed dear-home refused
+eleven-behind-four = refl

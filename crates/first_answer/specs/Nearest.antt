@@ -1,5 +1,5 @@
 -- The nearest-stop order: document 02, A.1. It is over any legs, and over any test of which nodes are allowed.
-use mathlib.Core.Bool.{Bool, true, cond}
+use mathlib.Core.Bool.{Bool, cond}
 use mathlib.Core.List.{List, [], _∷_}
 use Prim.Native.Nat.{ℕ, zero, suc}
 use lib.Dec.{ltb}
@@ -16,10 +16,6 @@ cheapest f x (y ∷ ys) = cheapest f (cond (ltb (f y) (f x)) y x) ys
 abbrev pub toNearest : Legs → Node → List ℕ → Node
 toNearest L x [] = x
 toNearest L x (s ∷ ss) = extend x (cheapest (L .leg (last x)) s ss)
-
--- a test that allows every node
-abbrev pub anyNode : Node → Bool
-anyNode x = true
 
 -- the stops that may be flown behind x, ascending
 unfoldable pub nextStops : ℕ → (Node → Bool) → Node → List ℕ

@@ -4,10 +4,14 @@ ghost use mathlib.Core.List.{[], _∷_};
 ghost use Prim.Native.Nat.{_^_, _≤_, _<_};
 ghost use lib.ListN.{length};
 ghost use Rattle.sizes.specs.Sizes.{mostStops};
+ghost use Rattle.orders.specs.Pairs.{Pairing, respects};
 ghost use Rattle.stops.specs.Legs.{legs};
 ghost use Rattle.stops.specs.Code.{stopsIn};
-ghost use Rattle.first_answer.specs.Nearest.{anyNode, nearest};
+ghost use Rattle.pairs.specs.Code.{pairsIn};
+ghost use Rattle.first_answer.specs.Nearest.{nearest};
 ghost use Rattle.first_order.specs.Code.{nearestIn};
+use pairs::Precedence;
+use pairs::ready;
 use stops::sets::later;
 use stops::sets::next;
 use stops::sets::without;
@@ -41,16 +45,17 @@ fn nearest_stop(t: &Rows, place: u32, rest: u32) -> u32
     found
 }
 
-// Writes the nearest-stop order of as many stops as x has places.
-pub fn nearest_order(t: &Rows, x: &mut [u8])
-    requires { ⌜ length (now x) ≤ mostStops ⌝ }
-    ensures { λ u. ⌜ now (x .exit) ≡ nearest (length (now (x .entry))) (legs (now (t .entry))) anyNode ⌝ }
+// Writes the nearest-stop order of as many stops as x has places: each time the nearest of the stops that need not wait (request A.6).
+pub fn nearest_order(t: &Rows, precedence: Precedence, x: &mut [u8])
+    requires { ⌜ (length (now x) ≤ mostStops) × Pairing (length (now x)) (pairsIn precedence) ⌝ }
+    ensures { λ u. ⌜ now (x .exit) ≡ nearest (length (now (x .entry))) (legs (now (t .entry))) (respects (pairsIn precedence)) ⌝ }
 {
     let mut rest = (1u32 << x.len()) - 1;
     let mut place = 0;
     let mut k = 0;
     while k < x.len() {
-        let s = nearest_stop(t, place, rest);
+        let open = ready(precedence, rest);
+        let s = nearest_stop(t, place, open);
         rest = without(rest, s);
         x[k] = s as u8;
         place = s;

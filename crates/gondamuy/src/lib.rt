@@ -19,12 +19,13 @@ pub extern "C" fn gondamuy_plan(
     job: Job,
     table: &[u32],
     start: &[u8],
+    pairs: &[u8],
     budget: u64,
     pool: &mut [u32],
 ) -> Report
-    ensures { λ r. ⌜ Promised (callOf job (now (table .entry)) (now (start .entry)) budget (now (pool .entry))) r (now (pool .exit)) ⌝ }
+    ensures { λ r. ⌜ Promised (callOf job (now (table .entry)) (now (start .entry)) (now (pairs .entry)) budget (now (pool .entry))) r (now (pool .exit)) ⌝ }
 {
-    planner::plan(job, table, start, budget, pool)
+    planner::plan(job, table, start, pairs, budget, pool)
 }
 
 // `job_file::reader::read` for C.
@@ -50,8 +51,13 @@ pub extern "C" fn gondamuy_write(
 
 // `first_order::first_order` for C.
 #[no_mangle]
-pub extern "C" fn gondamuy_first_order(n: u32, bound: u32, table: &[u32]) -> FirstOrder
-    ensures { λ r. ⌜ PromisedFirst n bound (now (table .entry)) r ⌝ }
+pub extern "C" fn gondamuy_first_order(
+    n: u32,
+    bound: u32,
+    table: &[u32],
+    pairs: &[u8],
+) -> FirstOrder
+    ensures { λ r. ⌜ PromisedFirst n bound (now (table .entry)) (now (pairs .entry)) r ⌝ }
 {
-    first_order::first_order(n, bound, table)
+    first_order::first_order(n, bound, table, pairs)
 }

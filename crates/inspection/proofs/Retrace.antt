@@ -16,8 +16,8 @@ use Rattle.lists.proofs.Tests.{same-tests}
 use Rattle.lists.proofs.Members.{in-head, keep-in}
 use Rattle.lists.proofs.Distinct.{append-apart}
 use Rattle.orders.specs.Orders.{Node, stops, flown, setOf, left, extend, Partial, mask}
-use Rattle.orders.proofs.Sets.{stops-in, in-set, in-flown, flown-in, left-in, extend-child}
-use Rattle.orders.proofs.Partial.{partial-root, partial-size, partial-child}
+use Rattle.orders.proofs.Sets.{stops-in, in-set, in-flown, flown-in, left-in}
+use Rattle.orders.proofs.Partial.{partial-root, partial-size, partial-extend}
 use Rattle.stops.specs.Code.{stopsIn, emptyRecord, extended, Wide}
 use Rattle.stops.specs.declared.node_record.Record.{Record}
 use Rattle.records.specs.Records.{orderWord}
@@ -107,8 +107,7 @@ module _ {n : ℕ} {x w : Record} {k : ℕ} (r : Retraced n x w k) where
           short = r .short;
           up-to = omega arith;
           node =
-              subst (Partial n) (sym (stops-next x k inside)) (partial-child n z (extend z (stopOf x k)) (r .node)
-              (extend-child n z (stopOf x k) free-stop));
+              subst (Partial n) (sym (stops-next x k inside)) (partial-extend n z (stopOf x k) (r .node) free-stop);
           same = rw (r .same, stops-next x k inside) (built-more n (r .few) z (r .node) (stopOf x k) free-stop);
         }
 

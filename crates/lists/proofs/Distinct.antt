@@ -2,7 +2,7 @@
 -- does to a sum, a length and a least value; and that a sum lies with the members alone.
 use mathlib.Core.Path.{_≡_, refl, ap, sym, subst}
 use mathlib.Core.Bool.{not}
-use mathlib.Core.List.{List, [], _∷_, _++_, map, List·Memᴰ·head, List·Memᴰ·tail, List·Memᴰ·cases-cons, List·Memᴰ·not-nil, Memᴰ·append-right, List·Memᴰ·append-cases}
+use mathlib.Core.List.{List, [], _∷_, _++_, map, List·Memᴰ·head, List·Memᴰ·tail, List·Memᴰ·cases-cons, List·Memᴰ·not-nil, Memᴰ·append-left, Memᴰ·append-right, List·Memᴰ·append-cases}
 use mathlib.Core.Logic.{_⊎_, inl, inr, _≢_}
 use Prim.Native.Nat.{ℕ, suc, _+_}
 use native.Mathlib.Omega.{arith}
@@ -30,6 +30,10 @@ module _ {A : Type 0} where
       go : (a ≡ x) ⊎ In a xs → (In a xs → ⊥) → ⊥
       go (inl e) again = new (Memᴰ·append-right xs (subst (λ (b : A). In b ys) e j))
       go (inr k) again = again k
+
+  pub distinct-front : (xs ys : List A) → Distinct (xs ++ ys) → Distinct xs
+  distinct-front [] ys d = none
+  distinct-front (x ∷ xs) ys (more new d) = more (λ m. new (Memᴰ·append-left ys m)) (distinct-front xs ys d)
 
 module _ {A B : Type 0} where
   pub distinct-map : (f : A → B) → ((a b : A) → f a ≡ f b → a ≡ b) → {xs : List A} → Distinct xs → Distinct (map f xs)

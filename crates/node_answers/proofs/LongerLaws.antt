@@ -19,8 +19,8 @@ use Rattle.lists.proofs.Tests.{and-left, and-right, and-both, to-true}
 use Rattle.lists.proofs.Members.{in-keep, in-from}
 use Rattle.lists.proofs.Empty.{no-members}
 use Rattle.orders.specs.Orders.{Node, flown, setOf, left, size, extend, Partial}
-use Rattle.orders.proofs.Sets.{in-flown, flown-in, in-left, left-in, extend-child}
-use Rattle.orders.proofs.Partial.{partial-child}
+use Rattle.orders.proofs.Sets.{in-flown, flown-in, in-left, left-in}
+use Rattle.orders.proofs.Partial.{partial-extend}
 use Rattle.days.specs.Days.{Day}
 use Rattle.stops.specs.declared.node_record.Record.{Record}
 use Rattle.records.specs.Code.{encode}
@@ -71,7 +71,7 @@ module _ {x : Record} {stop leg : ℕ} (f : Fits x stop leg) where
   y = flownStops x
 
   longer-partial : Partial mostStops (extend y stop)
-  longer-partial = partial-child mostStops y (extend y stop) (f .node .node) (extend-child mostStops y stop (f .leaves))
+  longer-partial = partial-extend mostStops y stop (f .node .node) (f .leaves)
 
   longer-record : NodeRecord mostStops (longer x stop leg) (extend y stop)
   unfolding longer
@@ -151,7 +151,7 @@ module _
     longer-encode : longer x s leg ≡ unbounded (encode n D k (extend y s))
     unfolding longer encode
     longer-encode =
-        let q : Partial n (extend y s) = partial-child n y (extend y s) p (extend-child n y s m) in
+        let q : Partial n (extend y s) = partial-extend n y s p m in
         rw (same-stops, grows, size-more n few (extend y s) q, set-more n few (extend y s) q) refl
 
     pub extension-node :

@@ -3,3 +3,5 @@ pub mod Tree
 pub mod Partial
 pub mod Order
 pub mod Orders
+pub mod Pairs
+pub mod PairFile

@@ -1,4 +1,4 @@
--- Orders: an order is a complete partial order, so the orders are just the complete nodes reached from e, and have length n; and the
+-- Orders: an order is a complete partial order, and has length n; and the
 -- test `isOrder` passes just for orders. Where each stop stands in one list as often as in another, the two have the same stops (`counts-in`), and
 -- the one is an order if the other is (`order-counts`); `count-set` says how often each stands there once one stop is replaced by another.
 use mathlib.Core.Path.{_≡_, sym, _∙_, subst}
@@ -14,12 +14,10 @@ use Rattle.lists.proofs.Members.{in-head, in-keep, keep-in, all-in, in-all, dis
 use Rattle.lists.proofs.Empty.{in-nonempty, no-members}
 use Rattle.lists.proofs.Numbers.{keep-parts}
 use Rattle.lists.proofs.Distinct.{length-without, sum-members}
-use Rattle.search.specs.Problem.{Problem}
-use Rattle.search.proofs.Laws.{Leads}
-use Rattle.orders.specs.Orders.{Node, stops, flown, left, complete, children, Order, count, isOrder, Partial}
+use Rattle.orders.specs.Orders.{Node, stops, flown, left, complete, Order, count, isOrder, Partial}
 use Rattle.orders.proofs.Sets.{in-stops, stops-in, in-flown, flown-in, in-left, left-in}
 use Rattle.orders.proofs.Tree.{complete-size, size-complete, complete-left, left-complete}
-use Rattle.orders.proofs.Partial.{partial-root, partial-size, partial-leads, leads-partial}
+use Rattle.orders.proofs.Partial.{partial-size}
 
 -- the stops as they are numbered are an order
 pub stops-order : (n : ℕ) → Order n (stops n)
@@ -54,14 +52,6 @@ order-length n x o = sym (partial-size n x (order-partial n x o)) ∙ complete-s
 pub full-order : (n : ℕ) (x : Node) → Partial n x → length x ≡ n → Order n x
 full-order n x p e = partial-order n x p (size-complete n x (partial-size n x p ∙ e))
 
--- the complete nodes reached from e are the orders
-module _ (n : ℕ) (P : Problem Node) (kids : (x : Node) → P .children x ≡ children n x) where
-  pub order-leads : (x : Node) → Order n x → Leads P [] x
-  order-leads x o = partial-leads n P kids x (order-partial n x o)
-
-  pub leads-order : (x : Node) → T (complete n x) → Leads P [] x → Order n x
-  leads-order x c l = partial-order n x (leads-partial n P kids l (partial-root n)) c
-
 -- how often a stop stands in a list
 in-count : (x : Node) (s : ℕ) → In s x → 1 ≤ count s x
 unfolding count
@@ -75,11 +65,11 @@ count-in x s h = go (keep (eqb s) x) (λ r m. in-keep (eqb s) x r m) h
     go [] f h = absurd (omega arith)
     go (r ∷ l) f h = let (m, e) = f r in-head in subst (λ (k : ℕ). In k x) (sym (eqb→eq s r e)) m
 
-distinct-count : (x : Node) (s : ℕ) → Distinct x → In s x → count s x ≡ 1
+pub distinct-count : (x : Node) (s : ℕ) → Distinct x → In s x → count s x ≡ 1
 unfolding count
 distinct-count x s d m = omega (arith, keep-parts (eqb s) x, length-without s d m)
 
-count-distinct : (x : Node) → ((s : ℕ) → In s x → count s x ≤ 1) → Distinct x
+pub count-distinct : (x : Node) → ((s : ℕ) → In s x → count s x ≤ 1) → Distinct x
 unfolding count
 count-distinct [] h = none
 count-distinct (s ∷ x) h = more new (count-distinct x rest)

@@ -10,8 +10,8 @@ use Rattle.lists.specs.Lists.{In, Distinct, none, more}
 use Rattle.lists.proofs.Members.{in-head, in-each, each-in}
 use Rattle.lists.proofs.Numbers.{length-each, sum-same, sum-const}
 use Rattle.lists.proofs.Distinct.{distinct-map, distinct-each}
-use Rattle.orders.specs.Orders.{Node, left, extend, children, Order, level, orders, factorial, Partial}
-use Rattle.orders.proofs.Sets.{size-left, distinct-left, child-extends, extend-child}
+use Rattle.orders.specs.Orders.{Node, left, extend, extensions, Order, level, orders, factorial, Partial}
+use Rattle.orders.proofs.Sets.{size-left, distinct-left, in-extensions, extensions-in}
 use Rattle.orders.proofs.Partial.{partial-root, partial-child, partial-made, partial-size}
 use Rattle.orders.proofs.Order.{order-partial, order-length, full-order}
 
@@ -23,8 +23,8 @@ in-level : (n k : ℕ) (x : Node) → In x (level n k) → Partial n x × (lengt
 unfolding level
 in-level n zero x m = rw (List·Memᴰ·eq-of-singleton m) (partial-root n, refl)
 in-level n (suc k) x m =
-    let (y, i, j) = in-each (children n) (level n k) x m in
-    let (s, l, e) = child-extends n y x j in
+    let (y, i, j) = in-each (extensions n) (level n k) x m in
+    let (s, l, e) = in-extensions n y x j in
     let h : Partial n y × (length y ≡ k) = in-level n k y i in
     (partial-child n y x (h .0) j, ap length e ∙ length-extend y s ∙ ap suc (h .1))
 
@@ -33,7 +33,7 @@ unfolding level
 level-in n = partial-made n (λ x. In x (level n (length x))) in-head go
   where
     go : (x : Node) (s : ℕ) → In x (level n (length x)) → In s (left n x) → In (extend x s) (level n (length (extend x s)))
-    go x s i m = rw (length-extend x s) (each-in (children n) (level n (length x)) x (extend x s) i (extend-child n x s m))
+    go x s i m = rw (length-extend x s) (each-in (extensions n) (level n (length x)) x (extend x s) i (extensions-in n x s m))
 
 -- a level has no node twice: a child shows its parent and its last stop
 extend-same : (x y : Node) (s t : ℕ) → extend x s ≡ extend y t → (x ≡ y) × (s ≡ t)
@@ -47,29 +47,29 @@ extend-same (a ∷ x) (b ∷ y) s t e =
     (cc, r .1)
 
 distinct-level : (n k : ℕ) → Distinct (level n k)
-unfolding level children
+unfolding level extensions
 distinct-level n zero = more List·Memᴰ·not-nil none
-distinct-level n (suc k) = distinct-each (children n) own shows (distinct-level n k)
+distinct-level n (suc k) = distinct-each (extensions n) own shows (distinct-level n k)
   where
-    own : (x : Node) → Distinct (children n x)
+    own : (x : Node) → Distinct (extensions n x)
     own x = distinct-map (extend x) (λ s t e. extend-same x x s t e .1) (distinct-left n x)
 
-    shows : (x y c : Node) → In c (children n x) → In c (children n y) → x ≡ y
+    shows : (x y c : Node) → In c (extensions n x) → In c (extensions n y) → x ≡ y
     shows x y c i j =
-        let (s, m, e) = child-extends n x c i in
-        let (t, l, f) = child-extends n y c j in
+        let (s, m, e) = in-extensions n x c i in
+        let (t, l, f) = in-extensions n y c j in
         extend-same x y s t (sym e ∙ f) .0
 
 -- Each node of level k is a partial order of length k, so it leaves n - k stops and has as many children. Hence a level's length
 -- times (n - k)! is the same at every level: n! at level 0, and the number of orders at level n.
 length-level : (n k m : ℕ) → k + suc m ≡ n → length (level n (suc k)) ≡ length (level n k) * suc m
-unfolding level children
+unfolding level extensions
 length-level n k m e =
-    length-each (children n) (level n k)
-    ∙ sum-same (λ x. length (children n x)) (λ x. suc m) (level n k) go
+    length-each (extensions n) (level n k)
+    ∙ sum-same (λ x. length (extensions n x)) (λ x. suc m) (level n k) go
     ∙ sum-const (suc m) (level n k)
   where
-    go : (x : Node) → In x (level n k) → length (children n x) ≡ suc m
+    go : (x : Node) → In x (level n k) → length (extensions n x) ≡ suc m
     go x i =
         let h : Partial n x × (length x ≡ k) = in-level n k x i in
         length-map (left n x) (extend x) ∙ omega (arith, size-left n x, partial-size n x (h .0))

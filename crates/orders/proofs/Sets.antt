@@ -17,7 +17,7 @@ use Rattle.lists.proofs.Numbers.{keep-parts}
 use Rattle.lists.proofs.Keep.{keep-same, keep-keep, any-append}
 use Rattle.lists.proofs.Distinct.{length-without}
 use Rattle.orders.specs.Examples
-use Rattle.orders.specs.Orders.{Node, stops, flown, setOf, left, lastFrom, last, size, extend, children}
+use Rattle.orders.specs.Orders.{Node, stops, flown, setOf, left, lastFrom, last, size, extend, extensions}
 
 -- the stops 1 to n
 pub in-stops : (n s : ℕ) → In s (stops n) → (1 ≤ s) × (s ≤ n)
@@ -104,13 +104,13 @@ size-extend n x s m =
     omega (arith, size-left n x, size-left n (extend x s), ap length (left-extend n x s))
 
 -- children
-pub child-extends : (n : ℕ) (x c : Node) → In c (children n x) → (s : ℕ) × In s (left n x) × (c ≡ extend x s)
-unfolding children
-child-extends n x c m = in-map (extend x) (left n x) c m
+pub in-extensions : (n : ℕ) (x c : Node) → In c (extensions n x) → (s : ℕ) × In s (left n x) × (c ≡ extend x s)
+unfolding extensions
+in-extensions n x c m = in-map (extend x) (left n x) c m
 
-pub extend-child : (n : ℕ) (x : Node) (s : ℕ) → In s (left n x) → In (extend x s) (children n x)
-unfolding children
-extend-child n x s m = map-in (extend x) m
+pub extensions-in : (n : ℕ) (x : Node) (s : ℕ) → In s (left n x) → In (extend x s) (extensions n x)
+unfolding extensions
+extensions-in n x s m = map-in (extend x) m
 
 -- the last stop is the last of the list
 lastFrom-element : (place s : ℕ) (x : Node) → lastFrom place (s ∷ x) ≡ getD (s ∷ x) (length x) 0

@@ -1,5 +1,5 @@
--- The tree of partial orders, for any problem whose children and completeness are those of this crate, whatever its costs and its
--- dominance: sizes rise by one up to n, where just the complete nodes stand; a complete node leaves no stop; a node weighs more than its
+-- The tree of partial orders, for any problem whose children are some of a node's extensions and whose completeness is that of this crate, whatever
+-- its costs and its dominance: sizes rise by one up to n, where just the complete nodes stand; a complete node leaves no stop; a node weighs more than its
 -- children together; and with more stops there are no fewer nodes (`nodes-rise`).
 use mathlib.Core.Path.{_≡_, ap, sym, _∙_, subst}
 use mathlib.Core.List.{List, [], _∷_, List·Memᴰ·not-nil}
@@ -16,8 +16,8 @@ use Rattle.lists.proofs.Numbers.{sum-same, sum-const, sum-map}
 use Rattle.search.specs.Problem.{Problem}
 use Rattle.search.specs.Selection.{empty}
 use Rattle.search.proofs.Laws.{Sized, Weighs}
-use Rattle.orders.specs.Orders.{Node, flown, left, last, size, complete, extend, children, nodes}
-use Rattle.orders.proofs.Sets.{left-in, size-left, last-of-some, size-extend, child-extends}
+use Rattle.orders.specs.Orders.{Node, flown, left, last, size, complete, extend, extensions, nodes}
+use Rattle.orders.proofs.Sets.{left-in, size-left, last-of-some, size-extend, in-extensions}
 
 -- complete nodes
 pub complete-size : (n : ℕ) (x : Node) → T (complete n x) → size n x ≡ n
@@ -51,8 +51,8 @@ complete-empty n x = go (left n x) (size-left n x)
     go (r ∷ rs) e = to-false (eqb (size n x) n) (ne-neqb (size n x) n (omega arith))
 
 -- sizes and weights
-child-size : (n : ℕ) (x c : Node) → In c (children n x) → size n c ≡ suc (size n x)
-child-size n x c m = let (s, i, e) = child-extends n x c m in ap (size n) e ∙ size-extend n x s i
+child-size : (n : ℕ) (x c : Node) → In c (extensions n x) → size n c ≡ suc (size n x)
+child-size n x c m = let (s, i, e) = in-extensions n x c m in ap (size n) e ∙ size-extend n x s i
 
 nodes-below : (m : ℕ) → m * nodes (m - 1) < nodes m
 nodes-below zero = omega arith
@@ -67,9 +67,9 @@ nodes-rise j (suc m) h = cases (ordered j m) (nodes-rise j m)
     cases (inl low) again = omega (arith, again low, suc-mul m (nodes m))
     cases (inr high) again = let e : j ≡ suc m = omega arith in rw e (omega arith)
 
-children-weigh : (n : ℕ) (x : Node) → sum (λ y. nodes (n - size n y)) (children n x) ≡ length (left n x) * nodes (length (left n x) - 1)
-unfolding children
-children-weigh n x =
+extensions-weigh : (n : ℕ) (x : Node) → sum (λ y. nodes (n - size n y)) (extensions n x) ≡ length (left n x) * nodes (length (left n x) - 1)
+unfolding extensions
+extensions-weigh n x =
     sum-map (extend x) (λ y. nodes (n - size n y)) (left n x)
     ∙ sum-same (λ s. nodes (n - size n (extend x s))) (λ s. nodes (length (left n x) - 1)) (left n x) (λ s m. ap nodes (go s m))
     ∙ sum-const (nodes (length (left n x) - 1)) (left n x)
@@ -78,12 +78,13 @@ children-weigh n x =
     go s m = omega (arith, size-extend n x s m, size-left n x)
 
 module _
-    (n : ℕ) (P : Problem Node) (kids : (x : Node) → P .children x ≡ children n x) (whole : (x : Node) → P .complete x ≡ complete n x)
+    (n : ℕ) (P : Problem Node) (kids : (x c : Node) → In c (P .children x) → In c (extensions n x))
+    (few : (f : Node → ℕ) (x : Node) → sum f (P .children x) ≤ sum f (extensions n x)) (whole : (x : Node) → P .complete x ≡ complete n x)
   where
     pub tree-sized : Sized P (size n) n
     tree-sized = record {
       small = λ x. omega (arith, size-left n x);
-      child = λ x c m. child-size n x c (subst (λ (l : List Node). In c l) (kids x) m);
+      child = λ x c m. child-size n x c (kids x c m);
       whole = λ x h. let e : size n x ≡ n = complete-size n x (subst T (whole x) h) in omega arith;
       full = λ x h. subst T (sym (whole x)) (size-complete n x (omega (arith, size-left n x)));
     }
@@ -91,4 +92,4 @@ module _
     pub tree-weighs : Weighs P (λ x. nodes (n - size n x))
     tree-weighs x =
         let e : n - size n x ≡ length (left n x) = omega (arith, size-left n x) in
-        rw (kids x, children-weigh n x, e) (nodes-below (length (left n x)))
+        rw e (omega (arith, few (λ y. nodes (n - size n y)) x, extensions-weigh n x, nodes-below (length (left n x))))

@@ -1,2 +1,3 @@
 pub mod Orders
+pub mod Pairs
 pub mod Examples

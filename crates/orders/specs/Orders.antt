@@ -44,12 +44,12 @@ size n x = length (setOf n x)
 unfoldable pub complete : ℕ → Node → Bool
 complete n x = eqb (size n x) n
 
--- a node with one more stop behind; the children of a node are its extensions by each stop that it leaves, ascending
+-- a node with one more stop behind; and a node extended by each stop that it leaves, ascending
 abbrev pub extend : Node → ℕ → Node
 extend x s = x ++ (s ∷ [])
 
-unfoldable pub children : ℕ → Node → List Node
-children n x = map (extend x) (left n x)
+unfoldable pub extensions : ℕ → Node → List Node
+extensions n x = map (extend x) (left n x)
 
 -- a partial order of 1 to n
 pub record Partial (n : ℕ) (x : Node) : Type 0 where
@@ -75,7 +75,7 @@ isOrder n x = all (λ s. eqb (count s x) 1) (stops n) && all (flown (stops n)) x
 -- The n! orders: e extended n times in every way. (`proofs/` shows that these are the orders, each once, and that there are n!.)
 unfoldable pub level : ℕ → ℕ → List Node
 level n zero = [] ∷ []
-level n (suc k) = each (children n) (level n k)
+level n (suc k) = each (extensions n) (level n k)
 
 unfoldable pub orders : ℕ → List Node
 orders n = level n n

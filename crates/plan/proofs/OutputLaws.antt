@@ -5,7 +5,7 @@
 --   never-stopped                 a refusal's line is printed, or a cheapest order; never a stopped run
 use mathlib.Core.Path.{_≡_, refl, ap, ap₂, sym, _∙_}
 use mathlib.Core.Bool.{Bool, true, false}
-use mathlib.Core.List.{List}
+use mathlib.Core.List.{List, []}
 use mathlib.Core.Logic.{_≢_}
 use Prim.Native.Nat.{ℕ, zero, suc, _≤_, _<_}
 use lib.ListN.{length, take, replicate}
@@ -50,7 +50,7 @@ file-refused file r e h =
 -- the report of the call that the code makes of what the reader returned
 pub job-printed :
     (file : List ℕ) (r : Returned) → Accepted file r → (count : ℕ) → count ≡ area (r .job .n) → (report : Report) (left : List ℕ)
-    → Promised (callOf (r .job) (take count (r .table)) (take (r .stops) (r .start)) noBudget (replicate poolLength 0)) report left
+    → Promised (callOf (r .job) (take count (r .table)) (take (r .stops) (r .start)) [] noBudget (replicate poolLength 0)) report left
     → printed (r .job .n) report ≡ answered (read file .number) (read file .contents)
 unfolding answered callBy contentsFrom contentsOf
 job-printed file r acc count square report left promised =

@@ -1,7 +1,7 @@
 -- What the program `plan` prints for every input: document 01, "Job file and program".
 use mathlib.Core.Path.{_≡_}
 use mathlib.Core.Bool.{Bool, true, false}
-use mathlib.Core.List.{List}
+use mathlib.Core.List.{List, []}
 use Prim.Native.Nat.{ℕ, zero, suc, _*_}
 use lib.Dec.{ltb}
 use lib.ListN.{length, replicate}
@@ -21,10 +21,10 @@ poolRecords = 2_000
 abbrev pub poolLength : ℕ
 poolLength = poolRecords * recordWords
 
--- the call for what a file holds; what stands in the pool before a run plays no part, and its budget is one that no run reaches (document 02,
--- A.3)
+-- the call for what a file holds; what stands in the pool before a run plays no part, its budget is one that no run reaches (document 02, A.3), and it
+-- has no pairs (A.6)
 unfoldable pub callBy : Contents → Call
-callBy c = callOf (c .job) (c .table) (c .start) noBudget (replicate poolLength 0)
+callBy c = callOf (c .job) (c .table) (c .start) [] noBudget (replicate poolLength 0)
 
 -- what is printed for what the reader answers: a refusal, or the report of the job
 unfoldable pub answered : ℕ → Contents → List ℕ

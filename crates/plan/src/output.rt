@@ -36,7 +36,14 @@ fn answer(file: &[u8]) -> Text
     let table = reading.table;
     let start = reading.start;
     let mut pool = [0u32; POOL];
-    let report = plan(job, &table[..count], &start[..stops], NO_BUDGET, &mut pool);
+    let report = plan(
+        job,
+        &table[..count],
+        &start[..stops],
+        b"",
+        NO_BUDGET,
+        &mut pool,
+    );
     report_text(job.n, report)
 }
 

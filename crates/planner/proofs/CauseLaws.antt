@@ -11,22 +11,22 @@ use Rattle.sizes.specs.Sizes.{recordWords}
 use Rattle.records.specs.Records.{recordsIn}
 use Rattle.answer.specs.Call.{Call, Answer, refusal}
 use Rattle.answer.specs.declared.Report.{Report}
-use Rattle.answer.specs.Checks.{cause₆, orLater, cause}
+use Rattle.answer.specs.Checks.{cause₆, poolCause, cause}
 use Rattle.answer.specs.Answer.{respond, answer}
 use Rattle.planner.specs.Promise.{Promised}
 use Rattle.planner.specs.Code.{Ended}
 
 module _ (pool : List ℕ) where
-  pub no-record : length pool < recordWords → 6 ≡ orLater (cause₆ pool) 6 0
-  unfolding cause₆ recordsIn
+  pub no-record : length pool < recordWords → 6 ≡ poolCause pool
+  unfolding poolCause cause₆ recordsIn
   no-record h = rw (eq-eqb (recordsIn pool) 0 (omega arith))
 
-  pub part-record : length pool % recordWords ≢ 0 → 6 ≡ orLater (cause₆ pool) 6 0
-  unfolding cause₆
+  pub part-record : length pool % recordWords ≢ 0 → 6 ≡ poolCause pool
+  unfolding poolCause cause₆
   part-record h = rw (ne-eqb (length pool % recordWords) 0 h, or-true)
 
-  pub pool-passes : recordWords ≤ length pool → length pool % recordWords ≡ 0 → orLater (cause₆ pool) 6 0 ≡ 0
-  unfolding cause₆ recordsIn
+  pub pool-passes : recordWords ≤ length pool → length pool % recordWords ≡ 0 → poolCause pool ≡ 0
+  unfolding poolCause cause₆ recordsIn
   pool-passes h e = rw (ne-eqb (recordsIn pool) 0 (λ z. omega arith), eq-eqb (length pool % recordWords) 0 e)
 
 module _ (c : Call) where

@@ -109,12 +109,12 @@ module _ {c : Call} {t : Table} {w : List ℕ} {r : Run} (here : Stands c t w r)
 
   state-of : StateOf c s
   state-of =
-      rw (← capacity-same, ← call-problem c (here .table), ← call-choices c (here .table)) (here .running .steps)
+      rw (← capacity-same, ← call-problem c (here .table) (passes c (here .passed)), ← call-choices c (here .table)) (here .running .steps)
 
   -- what comes next, in words of the call
   next-same : nextOf d t w s ≡ next (problemOf c) (choicesOf c) (recordsIn (c .pool)) s
   next-same =
-      ap₂ (λ (P : Problem Node) (C : Choices Node). next P C (length (records w)) s) (call-problem c (here .table)) (call-choices c (here .table))
+      ap₂ (λ (P : Problem Node) (C : Choices Node). next P C (length (records w)) s) (call-problem c (here .table) (passes c (here .passed))) (call-choices c (here .table))
       ∙ ap (λ (m : ℕ). next (problemOf c) (choicesOf c) m s) capacity-same
 
   settled-words : (w₁ w₂ : List ℕ) → w₁ ≡ w → Settled (recordsIn (c .pool)) w₁ r w₂ → w₂ ≡ wordsOf c s
@@ -175,7 +175,7 @@ module _ {c : Call} {t : Table} {w : List ℕ} {r : Run} (here : Stands c t w r)
   order-said x order e =
       let best : IsBest (r .best) (some (f x)) = rw e at (shown .best) in
       let (cost, one, two) = order-words (here .running .rows) x order in (
-        best .0 ∙ cost ∙ ap (λ (P : Problem Node). P .cost x) (call-problem c (here .table)),
+        best .0 ∙ cost ∙ ap (λ (P : Problem Node). P .cost x) (call-problem c (here .table) (passes c (here .passed))),
         ap (padded orderPlaces)
             (order-stops (c .job .n) (passes c (here .passed) .priced .few) x order _ _ (best .1 ∙ one) (best .2 ∙ two)),
       )
@@ -192,7 +192,7 @@ module _ {c : Call} {t : Table} {w : List ℕ} {r : Run} (here : Stands c t w r)
     unfolding finishedBy ended
     finish-reported =
         let known : Solved c s = solved c ended in
-        let (cost, places) = order-said (known .x) (known .order) (known .best) in
+        let (cost, places) = order-said (known .x) (known .allowed .order) (known .best) in
         counts-reported 0 0 (r .best .upper) 0 _ (known .x) places
         ∙ ap (λ (u : ℕ). reportWith 0 0 u 0 (known .x) s) cost
         ∙ ap (λ (b : Option Node). reportWith 0 0 (upper (problemOf c) b) 0 (stopsOf b) s) (sym (known .best))
@@ -221,9 +221,9 @@ module _ {c : Call} {t : Table} {w : List ℕ} {r : Run} (here : Stands c t w r)
   stop-reported floor b unknown e =
       let best : IsBest (r .best) none = rw e at (shown .best) in
       rw (eq-eqb (r .best .upper) aboveEveryCost (best .0)) (counts-reported 0 1 0 floor (replicate orderPlaces 0) [] refl)
-  stop-reported floor b (known x order) e =
-      let (cost, places) = order-said x order e in
-      rw (ne-eqb (r .best .upper) aboveEveryCost (λ h. omega (arith, known-cheap c (passes c (here .passed)) x order)))
+  stop-reported floor b (known x allowed) e =
+      let (cost, places) = order-said x (allowed .order) e in
+      rw (ne-eqb (r .best .upper) aboveEveryCost (λ h. omega (arith, known-cheap c (passes c (here .passed)) x (allowed .order))))
       (counts-reported 0 1 (r .best .upper) floor _ x places ∙ ap (λ (u : ℕ). reportWith 0 1 u floor x s) cost)
 
   pub stop-answers :

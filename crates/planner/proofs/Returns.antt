@@ -1,10 +1,11 @@
--- The letter's demands and requests A.3, A.4 and A.5 of what `plan` returns and leaves in the pool, from its promise alone: that is an equation with
+-- The letter's demands and requests A.3 to A.6 of what `plan` returns and leaves in the pool, from its promise alone: that is an equation with
 -- `answer`, of which crate `answer` proves them.
 use Rattle.answer.specs.Demands.{EveryCallIsAnswered, EveryCallEnds, OneAnswer, RefusalsFixed, RunIsWritten, CountsBalance, FullIff, OneCost, CheapestOfAll, FavouredFinishes}
 use Rattle.answer.specs.Budget.{MarkedIff, StoppedAsWritten, OtherwiseZero, ExactBudget, WithinBudget, OrderOrZeros, NoDearerThanStart, FloorHolds, Between, LargerBudget, UnstoppedAsWithout, NoRunReaches}
 use Rattle.answer.specs.Charges.{OrderShownPays, CheapestByLegs}
 use Rattle.answer.specs.Away.{AnswersAway, CheapestWithoutLegHome, NoDearerAway, LegsHomeUnread}
-use Rattle.answer.specs.AsBefore.{EndsHomeAsBefore, UnchargedByLegs, AsDocument01, AcceptedBefore}
+use Rattle.answer.specs.Pairs.{RefusedAsByFive, SequencePlaysNoPart}
+use Rattle.answer.specs.AsBefore.{NoPairsAsBefore, EndsHomeAsBefore, UnchargedByLegs, AsDocument01, AcceptedBefore}
 use Rattle.answer.specs.Document01.{FinishedIff, BranchedAreSteps, ContentsPlayNoPart}
 use Rattle.answer.proofs.Demand1.{call-answered, call-ends, one-answer, refusals-fixed}
 use Rattle.answer.proofs.Demand2.{run-is-written, counts-balance, full-iff, finished-iff, branched-are-steps}
@@ -15,7 +16,8 @@ use Rattle.answer.proofs.Budget.{marked-iff, stopped-as-written, otherwise-zero
 use Rattle.answer.proofs.BudgetPairs.{no-dearer-than-start, larger-budget, unstopped-as-without}
 use Rattle.answer.proofs.Charges.{order-shown-pays, cheapest-by-legs}
 use Rattle.answer.proofs.Away.{answers-away, cheapest-without-leg-home, no-dearer-away, legs-home-unread}
-use Rattle.answer.proofs.AsBefore.{ends-home-as-before, uncharged-by-legs, as-document-01, accepted-before}
+use Rattle.answer.proofs.Pairs.{refused-as-by-five, sequence-plays-no-part}
+use Rattle.answer.proofs.AsBefore.{no-pairs-as-before, ends-home-as-before, uncharged-by-legs, as-document-01, accepted-before}
 use Rattle.planner.specs.Demands.{returned}
 
 -- demand 1 (that the code's call returns at all is what every proved contract says)
@@ -118,7 +120,17 @@ returned-no-dearer-away = no-dearer-away
 pub returned-unread : LegsHomeUnread returned
 returned-unread = legs-home-unread
 
+-- request A.6
+pub returned-refused-as-by-five : RefusedAsByFive returned
+returned-refused-as-by-five = refused-as-by-five
+
+pub returned-sequence : SequencePlaysNoPart returned
+returned-sequence = sequence-plays-no-part
+
 -- without them
+pub returned-no-pairs : NoPairsAsBefore returned
+returned-no-pairs = no-pairs-as-before
+
 pub returned-ends-home : EndsHomeAsBefore returned
 returned-ends-home = ends-home-as-before
 

@@ -20,7 +20,7 @@ use Rattle.answer.specs.Answer.{given}
 use Rattle.answer.proofs.Passes.{Passes}
 use Rattle.children.specs.Code.{Table, settingOf, problemOf, choicesOf, encodeOf}
 use Rattle.children.specs.declared.setting.Setting.{Setting}
-use Rattle.children.proofs.SettingLaws.{setting-counts, call-rows}
+use Rattle.children.proofs.SettingLaws.{setting-counts, call-rows, call-starts}
 use Rattle.step.specs.Code.{Shown}
 use Rattle.step.specs.declared.Run.{Run}
 use Rattle.step.proofs.ExpandLaws.{same-records}
@@ -33,7 +33,7 @@ pub run-begins :
     Shown d w r (recordsOf d t (start (problemOf d t) (given (c .start))))
     → Running d t (c .start) w r (start (problemOf d t) (given (c .start))))
 run-begins c ok e shown =
-    record { rows = call-rows c e ok; selects = ok .selection; starts = ok .start; steps = none; shows = shown }
+    record { rows = call-rows c e ok; selects = ok .selection; starts = call-starts c e ok; steps = none; shows = shown }
 
 -- the run counts the branched nodes
 branched-shown :

@@ -13,11 +13,11 @@ use lib.Seq.{take-suc-set, drop-length}
 use Rattle.search.specs.Problem.{upper, start}
 use Rattle.search.specs.Step.{on}
 use Rattle.search.proofs.Cover.{good-bound, root-good}
-use Rattle.orders.specs.Orders.{Order}
+use Rattle.orders.specs.Pairs.{Allowed}
 use Rattle.stops.specs.declared.node_record.Record.{Record}
 use Rattle.records.specs.Code.{records}
 use Rattle.answer.specs.Answer.{given}
-use Rattle.children.specs.Code.{Table, problemOf, choicesOf, encodeOf, rootOf, recProblem, IsBest, Rows}
+use Rattle.children.specs.Code.{Table, pairsBy, problemOf, choicesOf, encodeOf, rootOf, recProblem, IsBest, Rows}
 use Rattle.children.specs.declared.best.Best.{Best}
 use Rattle.children.specs.declared.setting.Setting.{Setting}
 use Rattle.children.proofs.RecordRun.{record-maps}
@@ -28,10 +28,10 @@ use Rattle.planner.specs.Code.{recordsOf}
 module _ {d : Setting} {t : Table} (rows : Rows d t) (first : List ℕ) where
   -- the bound grows along the way to an order and is exact there
   pub root-within :
-      (first ≡ []) ⊎ Order (d .n) first → choicesOf d t .bound (problemOf d t .root) ≤ upper (problemOf d t) (given first)
+      (first ≡ []) ⊎ Allowed (d .n) (pairsBy d) first → choicesOf d t .bound (problemOf d t .root) ≤ upper (problemOf d t) (given first)
   root-within starts =
       good-bound (setting-lawful rows) (setting-bounds rows) (upper (problemOf d t) (given first)) (problemOf d t .root)
-      (root-good (setting-solvable rows) (given first) (given-known d t first starts))
+      (root-good (setting-solvable rows) (given first) (given-known rows first starts))
 
   pub start-shown :
       (w w′ : List ℕ) (best : Best) → 1 ≤ length (records w) → records w′ ≡ set (records w) 0 (rootOf d t)

@@ -120,7 +120,7 @@ module _
     turn-chooses =
         let (x, m) =
         active-some (tree P) (planOf P C) (cutOf C) capacity (size (d .n)) (d .n) (setting-lawful (running .rows))
-        (setting-bounds (running .rows)) (given first) (given-known d t first (running .starts))
+        (setting-bounds (running .rows)) (given first) (given-known (running .rows) first (running .starts))
         (setting-solvable (running .rows)) s
         (steps-reached P C capacity (rw (choice-selection d t) (running .selects)) (running .steps)) in
         let h : r .active ≡ length (map f (s .active)) = running .shows .active-count in

@@ -18,14 +18,15 @@ use Rattle.sizes.specs.Sizes.{orderPlaces, aboveEveryCost}
 use Rattle.lists.specs.Lists.{from, padded}
 use Rattle.search.specs.Problem.{State, start}
 use Rattle.search.specs.Run.{Next, Steps, finish, halt, overflow, go, next}
-use Rattle.orders.specs.Orders.{Node, Order}
+use Rattle.orders.specs.Orders.{Node}
+use Rattle.orders.specs.Pairs.{Allowed}
 use Rattle.stops.specs.declared.node_record.Record.{Record}
 use Rattle.records.specs.Records.{stopAt}
 use Rattle.records.specs.Code.{records}
 use Rattle.answer.specs.Call.{Call, Answer}
 use Rattle.answer.specs.declared.Report.{Report}
 use Rattle.answer.specs.Answer.{given, outcome, ending}
-use Rattle.children.specs.Code.{Table, Rows, problemOf, choicesOf, encodeOf}
+use Rattle.children.specs.Code.{Table, Rows, pairsBy, problemOf, choicesOf, encodeOf}
 use Rattle.children.specs.declared.best.Best.{Best}
 use Rattle.children.specs.declared.setting.Setting.{Setting}
 use Rattle.step.specs.Code.{Shown}
@@ -47,7 +48,7 @@ recordsOf d t s = record {
 pub record Running (d : Setting) (t : Table) (first : List ℕ) (w : List ℕ) (r : Run) (s : State Node) : Type 0 where
   pub rows : Rows d t
   pub selects : d .selection ≤ 3
-  pub starts : (first ≡ []) ⊎ Order (d .n) first
+  pub starts : (first ≡ []) ⊎ Allowed (d .n) (pairsBy d) first
   pub steps : Steps (problemOf d t) (choicesOf d t) (length (records w)) (start (problemOf d t) (given first)) s
   pub shows : Shown d w r (recordsOf d t s)
 

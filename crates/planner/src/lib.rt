@@ -14,16 +14,20 @@ use crate::run::search;
 use answer::Job;
 use answer::Report;
 use checks::job_cause;
-use children::setting::Setting;
+use checks::pair_cause;
 use sizes::RECORD_WORDS;
 
-// The number of the first of causes 1 to 6 that applies to a call, 0 if none does; whatever its budget.
-fn cause_of(job: Job, table: &[u32], start: &[u8], pool: &[u32]) -> u32
-    ensures { λ r. ⌜ ((budget : ℕ) → r ≡ cause (callOf job (now (table .entry)) (now (start .entry)) budget (now (pool .entry)))) ⌝ }
+// The number of the first of causes 1 to 6 and 11 that applies to a call, 0 if none does; whatever its budget.
+fn cause_of(job: Job, table: &[u32], start: &[u8], pairs: &[u8], pool: &[u32]) -> u32
+    ensures { λ r. ⌜ ((budget : ℕ) → r ≡ cause (callOf job (now (table .entry)) (now (start .entry)) (now (pairs .entry)) budget (now (pool .entry)))) ⌝ }
 {
     let number = job_cause(job, table, start);
     if number != 0 {
         return number;
+    }
+    let against = pair_cause(job.n, start, pairs);
+    if against != 0 {
+        return against;
     }
     if pool.len() < RECORD_WORDS {
         return 6;
@@ -34,21 +38,22 @@ fn cause_of(job: Job, table: &[u32], start: &[u8], pool: &[u32]) -> u32
     0
 }
 
-// Puts the stops 1 to n into the cheapest order, with as many branchings as the budget has at most. The report and the pool's words are what
-// document 01's run with the budget of request A.3 gives, over all inputs. An order is a cheapest one where number and mark are both 0.
-pub fn plan(job: Job, table: &[u32], start: &[u8], budget: u64, pool: &mut [u32]) -> Report
-    ensures { λ r. ⌜ Promised (callOf job (now (table .entry)) (now (start .entry)) budget (now (pool .entry))) r (now (pool .exit)) ⌝ }
+// Puts the stops 1 to n into the cheapest order that respects the pairs, with as many branchings as the budget has at most. The report and the pool's
+// words are what document 01's run with the budget of request A.3 and the pairs of request A.6 gives, over all inputs. An order is a cheapest one where
+// number and mark are both 0.
+pub fn plan(
+    job: Job,
+    table: &[u32],
+    start: &[u8],
+    pairs: &[u8],
+    budget: u64,
+    pool: &mut [u32],
+) -> Report
+    ensures { λ r. ⌜ Promised (callOf job (now (table .entry)) (now (start .entry)) (now (pairs .entry)) budget (now (pool .entry))) r (now (pool .exit)) ⌝ }
 {
-    let number = cause_of(job, table, start, pool);
+    let number = cause_of(job, table, start, pairs, pool);
     if number != 0 {
         return refused(number);
     }
-    let setting = Setting {
-        n: job.n,
-        selection: job.selection,
-        rules: job.rules,
-        bound: job.bound,
-        budget: budget,
-    };
-    search(setting, table, start, pool)
+    search(job, table, start, pairs, budget, pool)
 }

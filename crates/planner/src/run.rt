@@ -14,17 +14,20 @@ ghost use Rattle.selection.specs.Code.{Chosen};
 ghost use Rattle.answer.specs.Call.{callOf};
 ghost use Rattle.answer.specs.Checks.{cause};
 ghost use Rattle.answer.specs.Answer.{given};
-ghost use Rattle.children.specs.Code.{jobOf, Rows, problemOf};
+ghost use Rattle.pairs.specs.Code.{OfStops};
+ghost use Rattle.children.specs.Code.{settingBy, Rows, problemOf};
 ghost use Rattle.step.specs.Code.{Shown};
 ghost use Rattle.planner.specs.Code.{Running, Turned, Ended, recordsOf};
 use crate::report::finished;
 use crate::report::full;
 use crate::report::refused;
 use crate::report::stopped;
+use answer::Job;
 use answer::Report;
 use children::best::started;
 use children::family::root;
 use children::setting::Setting;
+use pairs::precedence_of;
 use pool::settle::settle;
 use records::load;
 use records::store;
@@ -132,11 +135,34 @@ fn begun(setting: Setting, t: [[u32; PLACES]; PLACES], start: &[u8], w: &mut [u3
     }
 }
 
-// The run of a call that every check let pass. The slots for a node's children are made once, and lent to each turn.
-pub fn search(setting: Setting, table: &[u32], start: &[u8], w: &mut [u32]) -> Report
-    requires { ⌜ cause (callOf (jobOf setting) (now table) (now start) (setting .budget) (now w)) ≡ 0 ⌝ }
-    ensures { λ q. ⌜ Ended (callOf (jobOf setting) (now (table .entry)) (now (start .entry)) (setting .budget) (now (w .entry))) q (now (w .exit)) ⌝ }
+// What a run goes by.
+fn setting_of(job: Job, pairs: &[u8], budget: u64) -> Setting
+    requires { ⌜ OfStops (now pairs) ⌝ }
+    ensures { λ r. ⌜ r ≡ settingBy job (now (pairs .entry)) budget ⌝ }
 {
+    Setting {
+        n: job.n,
+        selection: job.selection,
+        rules: job.rules,
+        bound: job.bound,
+        budget: budget,
+        precedence: precedence_of(pairs),
+    }
+}
+
+// The run of a call that every check let pass. The slots for a node's children are made once, and lent to each turn.
+pub fn search(
+    job: Job,
+    table: &[u32],
+    start: &[u8],
+    pairs: &[u8],
+    budget: u64,
+    w: &mut [u32],
+) -> Report
+    requires { ⌜ cause (callOf job (now table) (now start) (now pairs) budget (now w)) ≡ 0 ⌝ }
+    ensures { λ q. ⌜ Ended (callOf job (now (table .entry)) (now (start .entry)) (now (pairs .entry)) budget (now (w .entry))) q (now (w .exit)) ⌝ }
+{
+    let setting = setting_of(job, pairs, budget);
     let t = rows(setting.n as usize, setting.bound, table);
     let capacity = w.len() / RECORD_WORDS;
     let mut r = begun(setting, t, start, w);

@@ -56,6 +56,10 @@ noBudget = 18_446_744_073_709_551_615
 largest-of-64-bits : suc noBudget ≡ 2 ^ 64
 largest-of-64-bits = refl
 
+-- Document 02, A.6: the bytes of the longest pair file, two for each of up to eight pairs
+abbrev pub mostPairBytes : ℕ
+mostPairBytes = 16
+
 -- "Job file and program": the bytes of the longest job file, which are those of its table, its starting order and its trailer
 abbrev pub longest : ℕ
 longest = 4 * tableNumbers + orderPlaces + 13

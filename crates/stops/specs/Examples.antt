@@ -4,7 +4,7 @@ use mathlib.Core.Path.{_≡_, refl}
 use mathlib.Core.Bool.{Bool, true, false}
 use mathlib.Core.List.{List, [], _∷_, map}
 use Prim.Native.Nat.{ℕ}
-use Rattle.orders.specs.Orders.{flown, setOf, left, last, size, complete, children, level, orders}
+use Rattle.orders.specs.Orders.{flown, setOf, left, last, size, complete, extensions, level, orders}
 use Rattle.days.specs.Days.{Day}
 use Rattle.stops.specs.Tables.{entry, charge, flying, counted, inRows, rows}
 use Rattle.stops.specs.Legs.{Legs, rowLeg, legs, path, cost}
@@ -14,7 +14,7 @@ use Rattle.stops.specs.Away.{closeAway, dayAway}
 
 -- the day of a table, with every definition that it rests on open: a proof that says `unfolding computedDay` computes it
 unfoldable pub computedDay : ℕ → Bool → List ℕ → Day
-unfolding flown setOf left last size complete children entry charge flying counted inRows rows rowLeg legs path cost plain cheapestInto remainder close isClose boundBy dominates day dayOn
+unfolding flown setOf left last size complete extensions entry charge flying counted inRows rows rowLeg legs path cost plain cheapestInto remainder close isClose boundBy dominates day dayOn
 computedDay n away table = dayOn n (rows n away table)
 
 -- One stop, with charges of 7 at home and 11 at the stop (request A.4): 3 out and 11 to land; 5 back and 7 to land. Row by row; home is not

@@ -1,4 +1,5 @@
-// Full enumeration: the least cost over all n! orders, from the table directly. Nothing of the planner is used.
+// Full enumeration: the least cost over all n! orders, or those that respect the day's pairs (request A.6), from the table directly. Nothing of the
+// planner is used.
 ghost use mathlib.Core.Path.{_≡_};
 ghost use Prim.Native.Nat.{_≤_, _<_};
 ghost use lib.ListN.{length};
@@ -78,10 +79,76 @@ fn flying(table: &[u32], side: usize, i: u8, j: u8) -> u64
     wide(leg(table, side, i, j)) + wide(leg(table, side, j, j))
 }
 
-// A day of n stops, which ends at home, or away: at its last stop.
+// Bytes of the pairs of six stops.
+pub const PAIR_BYTES: usize = 6;
+
+// A day of n stops, which ends at home, or away: at its last stop; how many pairs it has, and their stops, the first of each to be flown before the
+// second.
 pub struct Day {
     pub n: usize,
     pub away: bool,
+    pub paired: usize,
+    pub pairs: [u8; PAIR_BYTES],
+}
+
+// How many bytes so many pairs have.
+pub fn pair_bytes(paired: usize) -> usize
+    ensures { λ r. ⌜ r ≤ 6 ⌝ }
+{
+    match paired {
+        0 => 0,
+        1 => 2,
+        2 => 4,
+        _ => 6,
+    }
+}
+
+// The stops of a day's pairs, and what stands behind them.
+pub fn pairs_in(day: Day) -> [u8; PAIR_BYTES]
+    ensures { λ r. ⌜ 6 ≡ length r ⌝ }
+{
+    let pairs = day.pairs;
+    [pairs[0], pairs[1], pairs[2], pairs[3], pairs[4], pairs[5]]
+}
+
+// Where s stands among the first n numbers of x; n if it does not.
+fn place_of(x: &[u8; ORDER_PLACES], n: usize, s: u8) -> usize
+    requires { ⌜ n ≤ mostStops ⌝ }
+{
+    let mut i = 0;
+    while i < n {
+        if x[i] == s {
+            return i;
+        }
+        i += 1;
+    }
+    n
+}
+
+// Whether the first stop of each of the day's pairs stands in x before the second.
+pub fn respects(x: &[u8; ORDER_PLACES], day: Day) -> bool
+    requires { ⌜ day .n ≤ mostStops ⌝ }
+{
+    let pairs = day.pairs;
+    let end = pair_bytes(day.paired);
+    let mut k = 0;
+    while k + 1 < end {
+        if place_of(x, day.n, pairs[k + 1]) < place_of(x, day.n, pairs[k]) {
+            return false;
+        }
+        k += 2;
+    }
+    true
+}
+
+// Whether x is an order of the day's stops that respects its pairs.
+pub fn allowed(x: &[u8; ORDER_PLACES], day: Day) -> bool
+    requires { ⌜ day .n ≤ mostStops ⌝ }
+{
+    if !is_order(x, day.n) {
+        return false;
+    }
+    respects(x, day)
 }
 
 // The cost of a day's order, from home to where the day ends.
@@ -105,7 +172,9 @@ pub fn cost_of(table: &[u32], x: &[u8; ORDER_PLACES], day: Day) -> u64
 }
 
 // How many sequences of n numbers from 1 to n there are.
-pub fn sequences(n: usize) -> u64 {
+pub fn sequences(n: usize) -> u64
+    ensures { λ r. ⌜ (1 ≤ r) × (r ≤ 46656) ⌝ }
+{
     match n {
         1 => 1,
         2 => 4,
@@ -152,18 +221,18 @@ fn lesser(a: u64, b: u64) -> u64 {
     if a < b { a } else { b }
 }
 
-// The cost of sequence k if it is an order, and else a number above every cost.
+// The cost of sequence k if it is an order that respects the pairs, and else a number above every cost.
 fn price(table: &[u32], day: Day, k: u64) -> u64
     requires { ⌜ (1 ≤ day .n) × (day .n ≤ 6) ⌝ }
 {
     let x = sequence(day.n, k);
-    if is_order(&x, day.n) {
+    if allowed(&x, day) {
         return cost_of(table, &x, day);
     }
     NO_COST
 }
 
-// The least cost over all orders.
+// The least cost over all orders that respect the pairs.
 pub fn least(table: &[u32], day: Day) -> u64
     requires { ⌜ (1 ≤ day .n) × (day .n ≤ 6) ⌝ }
 {

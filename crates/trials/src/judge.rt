@@ -2,8 +2,8 @@
 ghost use Prim.Native.Nat.{_≤_};
 ghost use Rattle.sizes.specs.Sizes.{mostStops};
 use crate::enumerate::Day;
+use crate::enumerate::allowed;
 use crate::enumerate::cost_of;
-use crate::enumerate::is_order;
 use answer::Report;
 use first_answer::FirstOrder;
 use sizes::ORDER_PLACES;
@@ -41,20 +41,20 @@ pub fn zeros(x: &[u8; ORDER_PLACES], n: usize) -> bool {
     true
 }
 
-// Whether x is an order of the day's stops and zeros, whose cost is the one given.
+// Whether x is an order of the day's stops that respects its pairs, and zeros, and its cost is the one given.
 pub fn priced(table: &[u32], day: Day, cost: u64, x: &[u8; ORDER_PLACES]) -> bool
     requires { ⌜ day .n ≤ mostStops ⌝ }
 {
     if !zeros(x, day.n) {
         return false;
     }
-    if !is_order(x, day.n) {
+    if !allowed(x, day) {
         return false;
     }
     cost_of(table, x, day) == cost
 }
 
-// A first order is right if it is an order, its cost is the one given, and that is not below the least.
+// A first order is right if it is an order that respects the pairs, its cost is the one given, and that is not below the least.
 pub fn first_right(table: &[u32], day: Day, least: u64, r: FirstOrder) -> bool
     requires { ⌜ day .n ≤ mostStops ⌝ }
 {

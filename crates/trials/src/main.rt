@@ -1,4 +1,4 @@
-// Random tables under every choice, without a starting order, with one, and with the unit's first order, each report held against full
+// Random tables under every choice, with pairs (request A.6) for half of the tables, without a starting order, with one, and with the unit's first order, each report held against full
 // enumeration; those of the first two kinds also within half of their branchings. The tables, and so what is printed, are the same in
 // every run.
 ghost use Prim.Native.Nat.{_≤_};
@@ -12,6 +12,8 @@ mod tally;
 
 use crate::enumerate::Day;
 use crate::enumerate::least;
+use crate::enumerate::pair_bytes;
+use crate::enumerate::pairs_in;
 use crate::judge::Verdict;
 use crate::judge::first_right;
 use crate::judge::judged;
@@ -20,8 +22,8 @@ use crate::stopped::halved;
 use crate::tables::TABLES;
 use crate::tables::day_of;
 use crate::tables::next;
-use crate::tables::order_of;
 use crate::tables::size_of;
+use crate::tables::start_of;
 use crate::tables::table_of;
 use crate::tally::Halves;
 use crate::tally::Tally;
@@ -34,6 +36,7 @@ use crate::tally::summed_half;
 use crate::tally::tell;
 use crate::tally::tell_halves;
 use answer::Job;
+use answer::Report;
 use first_order::first_order;
 use planner::plan;
 use sizes::NO_BUDGET;
@@ -82,6 +85,29 @@ fn job_of(day: Day, choice: u32) -> Job
     }
 }
 
+// A day's job under a choice, planned with the day's pairs.
+fn planned(
+    day: Day,
+    choice: u32,
+    table: &[u32],
+    start: &[u8],
+    budget: u64,
+    pool: &mut [u32],
+) -> Report
+    requires { ⌜ day .n ≤ mostStops ⌝ }
+{
+    let pairs = pairs_in(day);
+    let end = pair_bytes(day.paired);
+    plan(
+        job_of(day, choice),
+        table,
+        start,
+        &pairs[..end],
+        budget,
+        pool,
+    )
+}
+
 // One job, planned and judged.
 fn one(
     table: &[u32],
@@ -94,7 +120,7 @@ fn one(
 ) -> Tally
     requires { ⌜ day .n ≤ mostStops ⌝ }
 {
-    let r = plan(job_of(day, choice), table, start, NO_BUDGET, pool);
+    let r = planned(day, choice, table, start, NO_BUDGET, pool);
     counted(t, judged(table, day, least, r), summed(t.sum, r))
 }
 
@@ -110,9 +136,8 @@ fn one_twice(
 ) -> Typed
     requires { ⌜ day .n ≤ mostStops ⌝ }
 {
-    let job = job_of(day, choice);
-    let r = plan(job, table, start, NO_BUDGET, pool);
-    let q = plan(job, table, start, half_of(r), pool);
+    let r = planned(day, choice, table, start, NO_BUDGET, pool);
+    let q = planned(day, choice, table, start, half_of(r), pool);
     let verdict = judged(table, day, least, r);
     let ending = halved(table, day, least, r, q);
     let whole = t.whole;
@@ -168,7 +193,9 @@ fn both(table: &[u32], day: Day, least: u64, start: &[u8], pool: &mut [u32], t: 
 fn from_first(table: &[u32], day: Day, least: u64, pool: &mut [u32], t: Tally) -> Tally
     requires { ⌜ day .n ≤ mostStops ⌝ }
 {
-    let first = first_order(day.n as u32, plain_for(day), table);
+    let pairs = pairs_in(day);
+    let end = pair_bytes(day.paired);
+    let first = first_order(day.n as u32, plain_for(day), table, &pairs[..end]);
     if !first_right(table, day, least, first) {
         return counted(t, Verdict::Differs, t.sum);
     }
@@ -182,7 +209,7 @@ fn trial(k: u64, pool: &mut [u32], t: Tallies) -> Tallies {
     let n = day.n;
     let size = size_of(n);
     let table = table_of(k, n);
-    let start = order_of(n, next(k));
+    let start = start_of(day, next(k));
     let cost = least(&table[..size], day);
     let typed = both(&table[..size], day, cost, &start[..n], pool, t.typed);
     let first = from_first(&table[..size], day, cost, pool, t.first);

@@ -1,9 +1,11 @@
-// Table k: how many stops, where its day ends, of which kind, and legs and landing charges by a generator that k starts.
+// Table k: how many stops, where its day ends, which pairs it has, of which kind, and legs and landing charges by a generator that k starts.
 ghost use mathlib.Core.Path.{_≡_};
 ghost use Prim.Native.Nat.{_+_, _≤_, _<_};
 ghost use lib.ListN.{length};
 ghost use Rattle.sizes.specs.Sizes.{dearestLeg, dearestCharge, orderPlaces};
 use crate::enumerate::Day;
+use crate::enumerate::PAIR_BYTES;
+use crate::enumerate::allowed;
 use crate::enumerate::below;
 use crate::enumerate::is_order;
 use crate::enumerate::sequence;
@@ -34,13 +36,35 @@ fn stops_in(k: u64) -> usize
     6
 }
 
-// The day of table k: it ends away for every other run of tables of all kinds.
+// How many pairs the day of table k has: none for every other two runs of tables of all kinds, then one to as many as its n stops make.
+fn paired_in(k: u64, n: usize) -> usize
+    requires { ⌜ n ≤ 6 ⌝ }
+{
+    if n < 2 {
+        return 0;
+    }
+    if k / TABLE_KINDS / 2 % 2 == 0 {
+        return 0;
+    }
+    (below(k / TABLE_KINDS / 4, n as u64 / 2) + 1) as usize
+}
+
+// The first numbers of an order.
+fn front(order: &[u8; ORDER_PLACES]) -> [u8; PAIR_BYTES] {
+    [order[0], order[1], order[2], order[3], order[4], order[5]]
+}
+
+// The day of table k: it ends away for every other run of tables of all kinds, and its pairs are stops behind one another in some order.
 pub fn day_of(k: u64) -> Day
     ensures { λ r. ⌜ (1 ≤ r .n) × (r .n ≤ 6) ⌝ }
 {
+    let n = stops_in(k);
+    let order = order_of(n, next(next(k)));
     Day {
-        n: stops_in(k),
+        n,
         away: k / TABLE_KINDS % 2 == 1,
+        paired: paired_in(k, n),
+        pairs: front(&order),
     }
 }
 
@@ -131,7 +155,7 @@ pub fn table_of(k: u64, n: usize) -> [u32; 49]
 }
 
 // An order of n stops by x: that of the first sequence, from a place in the lower half on, which is one.
-pub fn order_of(n: usize, x: u64) -> [u8; ORDER_PLACES]
+fn order_of(n: usize, x: u64) -> [u8; ORDER_PLACES]
     requires { ⌜ (1 ≤ n) × (n ≤ 6) ⌝ }
     ensures { λ r. ⌜ orderPlaces ≡ length r ⌝ }
 {
@@ -140,6 +164,23 @@ pub fn order_of(n: usize, x: u64) -> [u8; ORDER_PLACES]
     while k < end {
         let order = sequence(n, k);
         if is_order(&order, n) {
+            return order;
+        }
+        k += 1;
+    }
+    [0u8; ORDER_PLACES]
+}
+
+// An order of a day by x: that of the first sequence, from some place on and then from the first on, which respects its pairs.
+pub fn start_of(day: Day, x: u64) -> [u8; ORDER_PLACES]
+    requires { ⌜ ((1 ≤ day .n) × (day .n ≤ 6)) × (x < 2147483647) ⌝ }
+    ensures { λ r. ⌜ orderPlaces ≡ length r ⌝ }
+{
+    let end = sequences(day.n);
+    let mut k = 0u64;
+    while k < end {
+        let order = sequence(day.n, below(x + k, end));
+        if allowed(&order, day) {
             return order;
         }
         k += 1;

@@ -120,7 +120,10 @@ pub fn tell(t: Tally, words: &[u8]) {
         wrapping_add_u64(wrapping_add_u64(t.best, t.full), t.differed),
         words,
     );
-    line(t.best, b" finished, at the least cost over all orders\n");
+    line(
+        t.best,
+        b" finished, at the least cost over all orders that respect the pairs\n",
+    );
     line(t.full, b" filled the pool\n");
     line(t.differed, b" differed\n");
     line(t.sum, b" is the checksum over all costs and counts\n");

@@ -9,10 +9,10 @@ use Rattle.planner.proofs.plan.Tie as tie
 
 -- the function's entry, from where `cause_of` has answered
 abbrev start : tie.After-cause-of → tie.Start
-start c = c .before .before .before .before .before
+start c = c .before .before .before .before .before .before
 
 abbrev call : tie.Start → Call
-call c = let a = c .args in callOf (a .job) (a .table .now) (a .start .now) (a .budget) (a .pool .now)
+call c = let a = c .args in callOf (a .job) (a .table .now) (a .start .now) (a .pairs .now) (a .budget) (a .pool .now)
 
 returns : tie.Need-returns
 unfolding callOf

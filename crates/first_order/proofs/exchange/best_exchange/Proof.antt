@@ -4,25 +4,30 @@ use mathlib.Core.Path.{_≡_, refl, ap, _∙_}
 use Prim.Native.Nat.{_-_, _<_}
 use native.Mathlib.Omega.{arith}
 use lib.ListN.{length}
+use Rattle.orders.specs.Pairs.{respects}
 use Rattle.stops.specs.Legs.{legs}
-use Rattle.first_answer.specs.Nearest.{anyNode}
+use Rattle.pairs.specs.Code.{pairsIn}
 use Rattle.first_answer.specs.Exchanges.{bestExchange}
-use Rattle.first_order.proofs.ExchangeLaws.{Trying, pairs, pairs-start, pairs-tried, pairs-end}
+use Rattle.first_order.specs.Code.{allowedCost}
+use Rattle.first_order.proofs.ExchangeLaws.{exchangeable-below, Trying, exchangesFrom, all-start, all-tried, all-end}
 use Rattle.first_order.proofs.exchange.best_exchange.Statement.{statement}
 use Rattle.first_order.proofs.exchange.best_exchange.Tie as tie
 
 abbrev Inv-loop : tie.InvT-loop
-Inv-loop t x₀ own found₀ p₀ x found p = (x ≡ x₀) × Trying (legs t) x₀ (pairs x₀ p) (bestExchange (legs t) anyNode x₀) found
+Inv-loop t d x₀ own found₀ p₀ x found p =
+    (x ≡ x₀) × Trying (allowedCost (legs t) (pairsIn d)) x₀ (exchangesFrom x₀ p) (bestExchange (legs t) (respects (pairsIn d)) x₀) found
 
 abbrev μ-loop : tie.MeasureT-loop
-μ-loop t x₀ own found₀ p₀ x found p = length x₀ - p
+μ-loop t d x₀ own found₀ p₀ x found p = length x₀ - p
 
 -- p is a place of the order as at entry
 inside : (c : tie.In-loop Inv-loop μ-loop) → c .before .loop .p < length (c .before .before .before .args .x .now)
 inside c = rw (c .before .loop .inv .0) at (c .loop-test .taken)
 
 loop-holds : tie.Need-loop-holds Inv-loop μ-loop
-loop-holds c = let start = c .before in (refl, pairs-start (start .args .own) (start .pre .1 .1) (start .pre .1 .0))
+loop-holds c =
+    let (tried, (some, (respected, costs))) = c .before .pre in
+    (refl, all-start _ _ _ respected (c .before .args .own) (exchangeable-below tried) costs some)
 
 best-with-requires : tie.Need-best-with-requires Inv-loop μ-loop
 best-with-requires c κs =
@@ -34,12 +39,13 @@ loop-again c =
     let best = c .before .before .best-with in
     let l = c .before .before .before .before in
     let now = l .before .loop in
-    (best .ensures .0 ∙ now .inv .0, pairs-tried (now .p) (now .inv .1) (inside l) (rw (now .inv .0) at (best .ensures .1)))
+    (best .ensures .0 ∙ now .inv .0, all-tried (now .p) (now .inv .1) (inside l) (rw (now .inv .0) at (best .ensures .1)))
 
 returns : tie.Need-returns Inv-loop μ-loop
 returns c =
     let l = c .before .loop in
-    (l .inv .0, pairs-end (l .p) (l .inv .1) (rw (l .inv .0) at (c .loop-test .left)))
+    let start = c .before .before .before in
+    (l .inv .0, all-end _ _ _ (l .p) (l .inv .1) (rw (l .inv .0) at (c .loop-test .left)) (start .pre .1 .1 .0))
 
 pub best-exchange-spec : {M : Type 1} → statement M
 best-exchange-spec =

@@ -5,17 +5,20 @@ use Prim.Native.Nat.{_-_, _<_}
 use native.Mathlib.Omega.{arith}
 use lib.ListN.{length}
 use Rattle.stops.specs.Legs.{legs}
+use Rattle.pairs.specs.Code.{pairsIn}
 use Rattle.first_answer.specs.Exchanges.{behind}
-use Rattle.first_order.specs.Code.{bestBehind}
+use Rattle.first_order.specs.Code.{allowedCost, bestBehind}
 use Rattle.first_order.proofs.ExchangeLaws.{Trying, behind-starts, behind-tried, behind-ends}
 use Rattle.first_order.proofs.exchange.best_with.Statement.{statement}
 use Rattle.first_order.proofs.exchange.best_with.Tie as tie
 
 abbrev Inv-loop : tie.InvT-loop
-Inv-loop t x₀ p found₀ q₀ x found q = (x ≡ x₀) × Trying (legs t) x₀ (behind x₀ p q) (bestBehind (legs t) x₀ p found₀) found
+Inv-loop t d x₀ p found₀ q₀ x found q =
+    let f = allowedCost (legs t) (pairsIn d) in
+    (x ≡ x₀) × Trying f x₀ (behind x₀ p q) (bestBehind f x₀ p found₀) found
 
 abbrev μ-loop : tie.MeasureT-loop
-μ-loop t x₀ p found₀ q₀ x found q = length x₀ - q
+μ-loop t d x₀ p found₀ q₀ x found q = length x₀ - q
 
 -- the function's entry, and the cost of an exchange, seen from the turn and from its end
 abbrev entry : tie.In-loop Inv-loop μ-loop → tie.Start Inv-loop μ-loop

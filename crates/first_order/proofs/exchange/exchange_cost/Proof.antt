@@ -2,7 +2,7 @@
 use mathlib.Core.Path.{_∙_}
 use borrow.Author.Needs.{needs}
 use Rattle.first_answer.proofs.Exchanged.{exchanged-twice}
-use Rattle.first_order.proofs.ExchangeLaws.{exchanged-reckonable}
+use Rattle.first_order.proofs.ExchangeLaws.{exchanged-exchangeable}
 use Rattle.first_order.proofs.exchange.exchange_cost.Statement.{statement}
 use Rattle.first_order.proofs.exchange.exchange_cost.Tie as tie
 
@@ -10,12 +10,12 @@ use Rattle.first_order.proofs.exchange.exchange_cost.Tie as tie
 abbrev entry : tie.After-exchange-stops → tie.Start
 entry c = c .before .before .before
 
-order-cost-requires : tie.Need-order-cost-requires
-order-cost-requires c κs =
+allowed-cost-requires : tie.Need-allowed-cost-requires
+allowed-cost-requires c κs =
     let changed = c .before .before .before in
     let a = entry changed .args in
     let pre = entry changed .pre in
-    rw (changed .exchange-stops .ensures) (exchanged-reckonable (pre .0) (a .p) (a .q) (pre .1 .0) (pre .1 .1))
+    rw (changed .exchange-stops .ensures) (exchanged-exchangeable (pre .0) (a .p) (a .q) (pre .1 .0) (pre .1 .1))
 
 returns : tie.Need-returns
 returns c =
@@ -24,7 +24,7 @@ returns c =
     let a = entry changed .args in
     let pre = entry changed .pre in
     let is = changed .exchange-stops .ensures in (
-      rw is at (spent .order-cost .ensures),
+      rw is at (spent .allowed-cost .ensures),
       c .before .before .exchange-stops2 .ensures ∙ rw is (exchanged-twice (a .x .now) (a .p) (a .q) (pre .1 .0) (pre .1 .1)),
     )
 
@@ -33,7 +33,7 @@ exchange-cost-spec =
     tie.close
     (tie.spec
     (λ c κs. search needs)
-    order-cost-requires
+    allowed-cost-requires
     (λ c κs. search needs)
     (λ c. search needs)
     returns)

@@ -3,15 +3,15 @@
 use mathlib.Core.Path.{ap, _∙_}
 use native.Mathlib.Omega.{arith}
 use lib.ListN.{length}
-use Rattle.first_order.proofs.ExchangeLaws.{Improving, improving-starts, improving-asks, improving-again, improving-ends}
+use Rattle.first_order.proofs.ExchangeLaws.{exchangeable-reckonable, Improving, improving-starts, improving-asks, improving-again, improving-ends}
 use Rattle.first_order.proofs.exchange.improve.Statement.{statement}
 use Rattle.first_order.proofs.exchange.improve.Tie as tie
 
 abbrev Inv-loop : tie.InvT-loop
-Inv-loop t x₀ cost₀ found₀ x cost found = Improving t x₀ x cost found
+Inv-loop t d x₀ cost₀ found₀ x cost found = Improving t d x₀ x cost found
 
 abbrev μ-loop : tie.MeasureT-loop
-μ-loop t x₀ cost₀ found₀ x cost found = cost
+μ-loop t d x₀ cost₀ found₀ x cost found = cost
 
 -- the first search, seen from the loop's head: it leaves the order as at entry
 abbrev searched : tie.At-loop Inv-loop μ-loop → tie.After-best-exchange Inv-loop μ-loop
@@ -21,7 +21,8 @@ loop-holds : tie.Need-loop-holds Inv-loop μ-loop
 loop-holds c =
     let best = c .before .before .best-exchange in
     let spent = c .before .before .before .before in
-    rw (best .ensures .0) (improving-starts (spent .before .before .before .pre .0) (spent .order-cost .ensures) (best .ensures .1))
+    let pre = spent .before .before .before .pre in
+    rw (best .ensures .0) (improving-starts (pre .0) (pre .1 .1) (spent .order-cost .ensures) (best .ensures .1))
 
 best-exchange-requires-2 : tie.Need-best-exchange-requires-2 Inv-loop μ-loop
 best-exchange-requires-2 c κs =
@@ -35,7 +36,7 @@ loop-again c =
     let turn = made .before .before in
     let best = next .best-exchange2 in
     let is = made .exchange-stops .ensures in
-    improving-again (turn .before .before .loop .inv) (best .last .1 .0) (best .result) (best .ensures .0 ∙ is) (rw is at (best .ensures .1))
+    improving-again (turn .before .before .loop .inv) (best .last .1 .1 .0) (best .result) (best .ensures .0 ∙ is) (rw is at (best .ensures .1))
     (omega (arith, turn .if1 .taken))
 
 same-length : tie.Need-same-length Inv-loop μ-loop
@@ -52,8 +53,8 @@ improve-spec =
     (tie.spec
     Inv-loop
     μ-loop
-    (λ c κs. c .before .before .pre .0)
-    (λ c κs. let spent = c .before in let start = spent .before .before .before in (start .pre .0, (start .pre .1, spent .order-cost .ensures)))
+    (λ c κs. exchangeable-reckonable (c .before .before .pre .0))
+    (λ c κs. let spent = c .before in let pre = spent .before .before .before .pre in (pre .0, (pre .1 .0, (pre .1 .1, spent .order-cost .ensures))))
     loop-holds
     (λ c κs. let l = c .before .before .before .loop in (l .inv .found .first, l .inv .found .second))
     best-exchange-requires-2

@@ -43,7 +43,7 @@ slice-aggregate-plan-2 c =
 returns-2 : tie.Need-returns-2
 returns-2 c =
     let planned = c .before .before in
-    let start = planned .before .before .before in
+    let start = planned .before .before .before .before in
     let e = reading (start .before .before .before .before) in
     let n : ℕ = e .before .read .result .job .n in
     let square : (n + 1) * (n + 1) ≡ area n = omega arith in
@@ -64,6 +64,7 @@ answer-spec =
     slice-aggregate-plan
     array-share-prefix-start
     slice-aggregate-plan-2
+    (λ c. search needs)
     (λ c. search needs)
     (λ c κs. search needs)
     (λ c κs. search needs)

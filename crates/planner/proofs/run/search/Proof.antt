@@ -1,22 +1,31 @@
 -- `search` meets its contract. The invariant: the pool has the length it had, there is a slot for each stop's child, and the pool shows with r
 -- a state of the run. The measure: the nodes that are not yet branched. `SearchLaws` has why the loop goes
 -- on and ends, `EndLaws` why its answers are those of the written run, and why no turn is refused.
-use mathlib.Core.Path.{_≡_, refl, _∙_, subst}
-use mathlib.Core.List.{List}
+use mathlib.Core.Path.{_≡_, refl, ap, sym, _∙_, subst}
+use mathlib.Core.List.{List, []}
+use mathlib.Core.Logic.{_⊎_}
 use Prim.Native.Nat.{ℕ, _-_, _*_, _≤_}
 use native.Mathlib.Omega.{arith}
 use lib.ListN.{length}
 use borrow.Author.Needs.{needs}
 use Rattle.sizes.specs.Sizes.{mostStops, recordWords}
-use Rattle.search.specs.Problem.{State}
-use Rattle.orders.specs.Orders.{Node, nodes}
+use Rattle.search.specs.Problem.{State, start}
+use Rattle.orders.specs.Orders.{Node, Order, nodes}
+use Rattle.stops.specs.Tables.{rows}
+use Rattle.stops.specs.Bounds.{endsAway}
+use Rattle.stops.specs.Code.{Priced}
 use Rattle.records.specs.Records.{recordsIn}
+use Rattle.records.specs.Code.{records}
 use Rattle.records.proofs.ViewLaws.{length-records}
 use Rattle.answer.specs.Call.{Call, callOf}
-use Rattle.answer.proofs.Passes.{Passes, passes}
-use Rattle.children.specs.Code.{jobOf}
+use Rattle.answer.specs.Answer.{given}
+use Rattle.answer.proofs.Passes.{Passes, passes, start-order}
+use Rattle.pairs.proofs.GoodFile.{of-stops}
+use Rattle.children.specs.Code.{Rows, settingOf, problemOf}
+use Rattle.children.specs.declared.setting.Setting.{Setting}
 use Rattle.children.proofs.SettingLaws.{call-rows}
-use Rattle.planner.specs.Code.{Running, Turned}
+use Rattle.planner.specs.Code.{Running, Turned, recordsOf, finishedBy, stoppedBy}
+use Rattle.step.specs.Code.{Shown}
 use Rattle.planner.specs.declared.run.Turn.{Turn}
 use Rattle.planner.proofs.SearchLaws.{run-begins, turn-keeps, turn-falls}
 use Rattle.planner.proofs.EndLaws.{Stands, settle-ready, floor-ready, finish-answers, stop-answers, full-answers, never-refused}
@@ -24,16 +33,22 @@ use Rattle.planner.proofs.run.search.Statement.{statement}
 use Rattle.planner.proofs.run.search.Tie as tie
 
 abbrev Inv-loop : tie.InvT-loop
-Inv-loop setting table start w₀ t capacity r₀ kids₀ w r kids =
+Inv-loop table start pairs budget w₀ setting t capacity r₀ kids₀ w r kids =
     ((length w ≡ length w₀) × (length kids ≡ mostStops * recordWords)) × ((s : State Node) × Running setting t start w r s)
 
 abbrev μ-loop : tie.MeasureT-loop
-μ-loop setting table start w₀ t capacity r₀ kids₀ w r kids = nodes (setting .n) - r .branched
+μ-loop table start pairs budget w₀ setting t capacity r₀ kids₀ w r kids = nodes (setting .n) - r .branched
 
--- the places before: the entry, seen from where the table's rows are known; these, seen from the run's beginning; this, seen from the
--- loop's head; and this, seen from behind the turn
+-- the places before: the entry, seen from where the setting is made; this, and the entry, seen from where the table's rows are known; these, seen from
+-- the run's beginning; this, seen from the loop's head; and this, seen from behind the turn
+abbrev set : tie.After-rows Inv-loop μ-loop → tie.After-setting-of Inv-loop μ-loop
+set c = c .before .before
+
+abbrev first : tie.After-setting-of Inv-loop μ-loop → tie.Start Inv-loop μ-loop
+first c = c .before .before .before .before .before
+
 abbrev entry : tie.After-rows Inv-loop μ-loop → tie.Start Inv-loop μ-loop
-entry c = c .before .before .before .before .before
+entry c = first (set c)
 
 abbrev tabled : tie.After-begun Inv-loop μ-loop → tie.After-rows Inv-loop μ-loop
 tabled c = c .before .before
@@ -76,10 +91,22 @@ pool c = c .take-turn .last .1 .1 .0
 
 -- the call that the arguments make up
 abbrev call : tie.Start Inv-loop μ-loop → Call
-call c = let a = c .args in callOf (jobOf (a .setting)) (a .table .now) (a .start .now) (a .setting .budget) (a .w .now)
+call c = let a = c .args in callOf (a .job) (a .table .now) (a .start .now) (a .pairs .now) (a .budget) (a .w .now)
 
 ok : (c : tie.Start Inv-loop μ-loop) → Passes (call c)
 ok c = passes (call c) (c .pre)
+
+-- the setting is the call's
+its-setting : (c : tie.After-setting-of Inv-loop μ-loop) → c .setting-of .result ≡ settingOf (call (first c))
+unfolding callOf
+its-setting c = c .setting-of .ensures
+
+-- and so are the rows
+its-rows :
+    (c : tie.After-rows Inv-loop μ-loop)
+    → let d = call (entry c) in c .rows .result ≡ rows (d .job .n) (endsAway (d .job .bound)) (d .table)
+unfolding callOf
+its-rows c = c .rows .ensures ∙ ap (λ (d : Setting). rows (d .n) (endsAway (d .bound)) (entry c .args .table .now)) (its-setting (set c))
 
 -- where the run stands at the loop's head
 stands :
@@ -88,42 +115,82 @@ stands :
 unfolding callOf
 stands c = let b = began c in record {
   passed = entry (tabled b) .pre;
-  table = tabled b .rows .ensures;
+  table = its-rows (tabled b);
   long = c .loop .inv .0 .0 ∙ b .begun .kept .1 .1 .1 .0;
   state = c .loop .inv .1 .0;
-  running = c .loop .inv .1 .1;
+  running =
+      subst (λ (d : Setting). Running d (tabled b .rows .result) (call (entry (tabled b)) .start) (c .loop .w) (c .loop .r) (c .loop .inv .1 .0))
+      (its-setting (set (tabled b))) (c .loop .inv .1 .1);
 }
 
--- what the turn then gives, and that the pool keeps its length
-abbrev Gives : tie.After-take-turn Inv-loop μ-loop → Turn → Type 0
-Gives c q =
-    let t = tabled (began (head c)) in
+-- what the turn then gives, by a setting
+abbrev Gives : tie.After-take-turn Inv-loop μ-loop → Setting → Turn → Type 0
+Gives c d q =
     let loop = head c .loop in
-    Turned (entry t .args .setting) (t .rows .result) (loop .w) (pool c) (loop .inv .1 .0) q
+    Turned d (tabled (began (head c)) .rows .result) (loop .w) (pool c) (loop .inv .1 .0) q
 
-turned : (c : tie.After-take-turn Inv-loop μ-loop) (q : Turn) → c .take-turn .result ≡ q → Gives c q
-turned c q e = let inv = head c .loop .inv in subst (Gives c) e (c .take-turn .ensures _ (inv .1 .0) (inv .1 .1))
+turned : (c : tie.After-take-turn Inv-loop μ-loop) (q : Turn) → c .take-turn .result ≡ q → Gives c (set (tabled (began (head c))) .setting-of .result) q
+turned c q e =
+    let inv = head c .loop .inv in
+    subst (Gives c (set (tabled (began (head c))) .setting-of .result)) e (c .take-turn .ensures _ (inv .1 .0) (inv .1 .1))
 
+-- by the call's
+by-call : (c : tie.After-take-turn Inv-loop μ-loop) (q : Turn) → c .take-turn .result ≡ q → Gives c (settingOf (call (entry (tabled (began (head c)))))) q
+by-call c q e = subst (λ (d : Setting). Gives c d q) (its-setting (set (tabled (began (head c))))) (turned c q e)
+
+-- and that the pool keeps its length
 kept : (c : tie.After-take-turn Inv-loop μ-loop) → length (pool c) ≡ length (head c .loop .w)
 kept c = c .take-turn .kept .1 .1 .0
 
+setting-of-requires : tie.Need-setting-of-requires Inv-loop μ-loop
+unfolding callOf
+setting-of-requires c κs =
+    let s = c .before .before .before .before in
+    let p = ok s in
+    of-stops _ (p .priced .few) _ (p .pairs .only) (p .pairs .once)
+
 rows-requires : tie.Need-rows-requires Inv-loop μ-loop
 unfolding callOf
-rows-requires c κs = ok (c .before .before .before .before) .priced
+rows-requires c κs =
+    let m = c .before in
+    subst (λ (d : Setting). Priced (d .n) (first m .args .table .now)) (sym (its-setting m)) (ok (first m) .priced)
 
 begun-requires : tie.Need-begun-requires Inv-loop μ-loop
 unfolding callOf recordsIn
 begun-requires c κs =
     let t = c .before in
     let p = ok (entry t) in
-    (call-rows (call (entry t)) (t .rows .ensures) p, (p .start, omega (arith, length-records (entry t .args .w .now), p .pool)))
+    subst (λ (d : Setting). Rows d (t .rows .result) × (((entry t .args .start .now ≡ []) ⊎ Order (d .n) (entry t .args .start .now)) × (1 ≤ length (records (entry t .args .w .now)))))
+    (sym (its-setting (set t)))
+    (call-rows (call (entry t)) (its-rows t) p, (start-order p, omega (arith, length-records (entry t .args .w .now), p .pool)))
+
+-- the start, which the pool shows, is a state of the run
+abbrev words : tie.After-begun Inv-loop μ-loop → List ℕ
+words b = b .begun .last .1 .1 .1 .0
+
+abbrev Shows : tie.After-begun Inv-loop μ-loop → Setting → Type 0
+Shows b d =
+    let t = tabled b .rows .result in
+    Shown d (words b) (b .begun .result) (recordsOf d t (start (problemOf d t) (given (entry (tabled b) .args .start .now))))
+
+abbrev Begins : tie.After-begun Inv-loop μ-loop → Setting → Type 0
+Begins b d =
+    let t = tabled b .rows .result in
+    let x = entry (tabled b) .args .start .now in
+    Running d t x (words b) (b .begun .result) (start (problemOf d t) (given x))
 
 loop-holds : tie.Need-loop-holds Inv-loop μ-loop
 unfolding callOf
 loop-holds c =
     let b = c .before .before in
     let t = tabled b in
-    ((refl, omega arith), (_, run-begins (call (entry t)) (ok (entry t)) (t .rows .ensures) (b .begun .ensures)))
+    let m = set t in (
+      (refl, omega arith),
+      (
+        start (problemOf (m .setting-of .result) (t .rows .result)) (given (entry t .args .start .now)),
+        subst (λ (d : Setting). Shows b d → Begins b d) (sym (its-setting m)) (run-begins (call (entry t)) (ok (entry t)) (its-rows t)) (b .begun .ensures),
+      ),
+    )
 
 take-turn-requires : tie.Need-take-turn-requires Inv-loop μ-loop
 take-turn-requires c κs =
@@ -146,9 +213,11 @@ unfolding callOf recordsIn
 settle-requires c κs = let turn = finish (c .before) in settle-ready (stands (head turn)) (pool turn) (kept turn)
 
 -- as many stops as there may be
-few : (c : tie.After-take-turn Inv-loop μ-loop) → entry (tabled (began (head c))) .args .setting .n ≤ mostStops
+few : (c : tie.After-take-turn Inv-loop μ-loop) → set (tabled (began (head c))) .setting-of .result .n ≤ mostStops
 unfolding callOf
-few c = ok (entry (tabled (began (head c)))) .priced .few
+few c =
+    let m = set (tabled (began (head c))) in
+    subst (λ (d : Setting). d .n ≤ mostStops) (sym (its-setting m)) (ok (first m) .priced .few)
 
 same-length : tie.Need-same-length Inv-loop μ-loop
 unfolding callOf
@@ -165,10 +234,10 @@ returns c =
     let turn = finish told in
     finish-answers
     (stands (head turn))
-    (turned turn _ (told .enum-told .given .1))
+    (by-call turn _ (told .enum-told .given .1))
     (record { kept = s .settle .kept .0; layout = s .settle .ensures })
     _
-    (c .finished .ensures)
+    (c .finished .ensures ∙ ap (λ (d : Setting). finishedBy (d .n) (head turn .loop .r)) (its-setting (set (tabled (began (head turn))))))
 
 floor-requires : tie.Need-floor-requires Inv-loop μ-loop
 floor-requires c κs = let turn = stop (c .before) in let ready = floor-ready (stands (head turn)) (pool turn) (kept turn) in omega arith
@@ -193,12 +262,12 @@ returns-2 c =
     let turn = stop told in
     stop-answers
     (stands (head turn))
-    (turned turn _ (told .enum-told2 .given .1))
+    (by-call turn _ (told .enum-told2 .given .1))
     (record { kept = s .settle2 .kept .0; layout = s .settle2 .ensures })
     _
     (least .floor .ensures)
     _
-    (c .stopped .ensures)
+    (c .stopped .ensures ∙ ap (λ (d : Setting). stoppedBy (d .n) (least .floor .result) (head turn .loop .r)) (its-setting (set (tabled (began (head turn))))))
 
 settle-requires-3 : tie.Need-settle-requires-3 Inv-loop μ-loop
 unfolding callOf recordsIn
@@ -219,7 +288,7 @@ returns-3 c =
     let turn = full told in
     full-answers
     (stands (head turn))
-    (turned turn _ (told .enum-told3 .given .1))
+    (by-call turn _ (told .enum-told3 .given .1))
     (record { kept = s .settle3 .kept .0; layout = s .settle3 .ensures })
     _
     (c .full .ensures)
@@ -233,7 +302,7 @@ unfolding callOf stands
 returns-4 c =
     let told = c .before .before in
     let turn = refusal told in
-    absurd (never-refused (stands (head turn)) (turned turn _ (told .next2 .given .1)))
+    absurd (never-refused (stands (head turn)) (by-call turn _ (told .next2 .given .1)))
 
 pub search-spec : {M : Type 1} → statement M
 search-spec =
@@ -241,6 +310,7 @@ search-spec =
     (tie.spec
     Inv-loop
     μ-loop
+    setting-of-requires
     (λ c. search needs)
     rows-requires
     begun-requires

@@ -1,0 +1,4 @@
+pub mod PairLaws
+pub mod FileLaws
+pub mod LoopLaws
+pub mod GoodFile
