@@ -11,7 +11,7 @@ use lib.ListN.{length}
 use Rattle.lists.specs.Lists.{In, Distinct}
 use Rattle.search.specs.Step.{on}
 use Rattle.orders.specs.Orders.{Node, Order, orders, factorial}
-use Rattle.orders.specs.Pairs.{Pair, pairsOf, Allowed, ordersWith}
+use Rattle.orders.specs.Pairs.{Pair, pairsOf, OnePairs, Allowed, ordersWith}
 use Rattle.days.specs.Days.{Closer}
 use Rattle.stops.specs.Bounds.{endsAway}
 use Rattle.answer.specs.Call.{Call, Answer}
@@ -72,9 +72,8 @@ pub record OneTable (a b : Call) : Type 0 where
 abbrev pub EndAlike : Call → Call → Type 0
 EndAlike a b = endsAway (a .job .bound) ≡ endsAway (b .job .bound)
 
--- the same pairs, in whatever sequence their files have them
 abbrev pub SamePairs : Call → Call → Type 0
-SamePairs a b = (p : Pair) → In p (pairsOf (a .pairs)) ↔ In p (pairsOf (b .pairs))
+SamePairs a b = OnePairs (a .pairs) (b .pairs)
 
 -- They report equal costs.
 abbrev pub OneCost : Planner → Type 0

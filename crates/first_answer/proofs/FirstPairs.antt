@@ -5,7 +5,7 @@ use mathlib.Core.List.{List, [], map}
 use Prim.Native.Nat.{ℕ}
 use lib.Dec.{T}
 use Rattle.orders.specs.Orders.{Node, extend}
-use Rattle.orders.specs.Pairs.{pairsOf, Pairing, respects, children}
+use Rattle.orders.specs.Pairs.{pairsOf, OnePairs, Pairing, respects, children}
 use Rattle.orders.proofs.Pairs.{respects-same}
 use Rattle.stops.specs.Tables.{rows}
 use Rattle.stops.specs.Legs.{legs}
@@ -14,7 +14,7 @@ use Rattle.answer.specs.Checks.{noSuchBound, cause₁₁, orLater, tableCause, 
 use Rattle.answer.proofs.Passes.{pairs-pass, pairs-pairing, known-bound}
 use Rattle.answer.proofs.JobCause.{table-causes}
 use Rattle.first_answer.specs.First.{legsOf}
-use Rattle.first_answer.specs.Request.{OnePairs, firstOn, pairsLast, NextAsChildren, FirstNoPairs, BadPairsRefused, FirstSequencePlaysNoPart}
+use Rattle.first_answer.specs.Request.{firstOn, pairsLast, NextAsChildren, FirstNoPairs, BadPairsRefused, FirstSequencePlaysNoPart}
 use Rattle.first_answer.proofs.NearestOrder.{nextStops-ready}
 use Rattle.first_answer.proofs.First.{first-on}
 

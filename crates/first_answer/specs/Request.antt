@@ -4,14 +4,14 @@
 use mathlib.Core.Path.{_≡_}
 use mathlib.Core.Bool.{Bool, true, false}
 use mathlib.Core.List.{List, [], _∷_, _++_, map}
-use mathlib.Core.Logic.{_⊎_, _≢_, _↔_}
+use mathlib.Core.Logic.{_⊎_, _≢_}
 use Prim.Native.Nat.{ℕ, zero, suc, _+_, _≤_, _<_}
 use lib.Dec.{T}
 use lib.ListN.{length, take, replicate}
 use Rattle.sizes.specs.Sizes.{mostStops, orderPlaces}
 use Rattle.lists.specs.Lists.{In, sum, from, padded}
 use Rattle.orders.specs.Orders.{Node, extend}
-use Rattle.orders.specs.Pairs.{Pair, pairsOf, respects, Allowed, children}
+use Rattle.orders.specs.Pairs.{pairsOf, OnePairs, respects, Allowed, children}
 use Rattle.stops.specs.Tables.{entry, charge, counted, rows, legRows, landing}
 use Rattle.stops.specs.Legs.{Legs, legs, path, cost}
 use Rattle.stops.specs.Bounds.{endsAway}
@@ -106,10 +106,6 @@ PassesAsStart =
     let x : Node = shown (job .n) r in
     (cause₅ (job .n) x ≡ false) × (againstPairs (job .n) x pairs ≡ false) × ((later : ℕ) → jobCause job table x later ≡ jobCause job table [] later)
     × ((budget : ℕ) (pool : List ℕ) → cause (callOf job table x pairs budget pool) ≡ cause (callOf job table [] pairs budget pool))
-
--- two pair files that have the same pairs, in whatever sequence
-abbrev pub OnePairs : List ℕ → List ℕ → Type 0
-OnePairs a b = (p : Pair) → In p (pairsOf a) ↔ In p (pairsOf b)
 
 -- a run over its table that finishes, however it was started, costs no more; both have the same pairs, and both end at home, or both away
 abbrev pub PlanNoDearer : Planner → Type 0

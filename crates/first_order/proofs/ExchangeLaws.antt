@@ -23,7 +23,7 @@ use Rattle.sizes.specs.Sizes.{dearest, aboveEveryCost}
 use Rattle.lists.specs.Lists.{from, each}
 use Rattle.lists.proofs.Tests.{to-true}
 use Rattle.orders.specs.Orders.{Node, Partial, Order}
-use Rattle.orders.specs.Pairs.{Pair, Pairing, respects}
+use Rattle.orders.specs.Pairs.{Pairing}
 use Rattle.orders.proofs.Order.{order-partial}
 use Rattle.stops.specs.Legs.{Legs, legs, cost}
 use Rattle.stops.specs.Code.{Reckonable}
@@ -36,7 +36,7 @@ use Rattle.first_answer.proofs.Cheapest.{cheapest-append, cheapest-keep}
 use Rattle.first_answer.proofs.Exchanged.{exchanged-length, exchanged-order, exchanged-self}
 use Rattle.first_answer.proofs.Exchanges.{bestExchange-allowed}
 use Rattle.first_answer.proofs.Settled.{improved-stays, improved-goes-on}
-use Rattle.first_order.specs.Code.{Exchangeable, allowedCost, made, Makes, better, bestBehind}
+use Rattle.first_order.specs.Code.{Exchangeable, allowedBy, allowedCost, made, Makes, better, bestBehind}
 use Rattle.first_order.specs.declared.exchange.Exchange.{Exchange}
 
 -- an order of which the exchanges can be tried
@@ -85,26 +85,26 @@ module _ (x : Node) where
   all-none p h = let none : length x - p ≡ 0 = omega arith in rw none
 
 -- the cost of an order that respects the pairs, and of one that does not
-pub allowed-cost : (L : Legs) (pairs : List Pair) (x : Node) → respects pairs x ≡ true → allowedCost L pairs x ≡ cost L x
-allowed-cost L pairs x h = rw h refl
+pub allowed-cost : (L : Legs) (d : Precedence) (x : Node) → allowedBy d x ≡ true → allowedCost L d x ≡ cost L x
+allowed-cost L d x h = rw h refl
 
-pub against-cost : (L : Legs) (pairs : List Pair) (x : Node) → respects pairs x ≡ false → allowedCost L pairs x ≡ aboveEveryCost
-against-cost L pairs x h = rw h refl
+pub against-cost : (L : Legs) (d : Precedence) (x : Node) → allowedBy d x ≡ false → allowedCost L d x ≡ aboveEveryCost
+against-cost L d x h = rw h refl
 
-module _ (L : Legs) (pairs : List Pair) (x : Node) (respected : T (respects pairs x)) where
+module _ (L : Legs) (d : Precedence) (x : Node) (respected : T (allowedBy d x)) where
   -- an exchange that goes against the pairs is never the best, as it is above every cost
-  best-of-all : cost L x ≤ aboveEveryCost → cheapest (allowedCost L pairs) x (exchangesFrom x 0) ≡ bestExchange L (respects pairs) x
+  best-of-all : cost L x ≤ aboveEveryCost → cheapest (allowedCost L d) x (exchangesFrom x 0) ≡ bestExchange L (allowedBy d) x
   unfolding exchangesFrom exchanges bestExchange
   best-of-all below =
       let all : length x - 0 ≡ length x = omega arith in
-      rw all (sym (cheapest-keep (cost L) (respects pairs) aboveEveryCost x (exchanges x) respected below))
+      rw all (sym (cheapest-keep (cost L) (allowedBy d) aboveEveryCost x (exchanges x) respected below))
 
   -- the exchange of the first position with itself leaves x as it is
   pub all-start :
       (own : ℕ) → cost L x ≤ aboveEveryCost → own ≡ cost L x → 0 < length x
-      → Trying (allowedCost L pairs) x (exchangesFrom x 0) (bestExchange L (respects pairs) x) (record { cost = own; p = 0; q = 0 })
+      → Trying (allowedCost L d) x (exchangesFrom x 0) (bestExchange L (allowedBy d) x) (record { cost = own; p = 0; q = 0 })
   all-start own below costs some =
-      let own-cost : own ≡ allowedCost L pairs x = costs ∙ sym (allowed-cost L pairs x (to-true (respects pairs x) respected)) in
+      let own-cost : own ≡ allowedCost L d x = costs ∙ sym (allowed-cost L d x (to-true (allowedBy d x) respected)) in
       record {
         found = record { first = some; second = some; makes = refl; costs = rw (exchanged-self x 0) own-cost };
         best = rw (exchanged-self x 0) (best-of-all below);
@@ -112,14 +112,14 @@ module _ (L : Legs) (pairs : List Pair) (x : Node) (respected : T (respects pair
 
   -- the best exchange respects the pairs, so that what it has is its cost
   best-costs :
-      {e : Exchange} → Makes (allowedCost L pairs) x e (bestExchange L (respects pairs) x) → Makes (cost L) x e (bestExchange L (respects pairs) x)
+      {e : Exchange} → Makes (allowedCost L d) x e (bestExchange L (allowedBy d) x) → Makes (cost L) x e (bestExchange L (allowedBy d) x)
   best-costs m = record {
     first = m .first;
     second = m .second;
     makes = m .makes;
     costs =
-        let y : Node = bestExchange L (respects pairs) x in
-        m .costs ∙ allowed-cost L pairs y (to-true (respects pairs y) (bestExchange-allowed L (respects pairs) x respected));
+        let y : Node = bestExchange L (allowedBy d) x in
+        m .costs ∙ allowed-cost L d y (to-true (allowedBy d y) (bestExchange-allowed L (allowedBy d) x respected));
   }
 
 pub behind-starts :
@@ -161,42 +161,39 @@ module _ {f : Node → ℕ} {x y : Node} {e : Exchange} where
   all-left p t h = none-left (rw (all-none x p h) at t)
 
 pub all-end :
-    (L : Legs) (pairs : List Pair) (x : Node) {e : Exchange} (p : ℕ)
-    → Trying (allowedCost L pairs) x (exchangesFrom x p) (bestExchange L (respects pairs) x) e → length x ≤ p → T (respects pairs x)
-    → Makes (cost L) x e (bestExchange L (respects pairs) x)
-all-end L pairs x p t h respected = best-costs L pairs x respected (all-left p t h)
+    (L : Legs) (d : Precedence) (x : Node) {e : Exchange} (p : ℕ)
+    → Trying (allowedCost L d) x (exchangesFrom x p) (bestExchange L (allowedBy d) x) e → length x ≤ p → T (allowedBy d x)
+    → Makes (cost L) x e (bestExchange L (allowedBy d) x)
+all-end L d x p t h respected = best-costs L d x respected (all-left p t h)
 
 pub record Improving (t : List (List ℕ)) (d : Precedence) (x₀ x : Node) (own : ℕ) (e : Exchange) : Type 0 where
   pub tried : Exchangeable t d x
-  pub respected : T (respects (pairsIn d) x)
+  pub respected : T (allowedBy d x)
   pub long : length x ≡ length x₀
   pub costs : own ≡ cost (legs t) x
-  pub found : Makes (cost (legs t)) x e (bestExchange (legs t) (respects (pairsIn d)) x)
-  pub same : improved (legs t) (respects (pairsIn d)) x ≡ improved (legs t) (respects (pairsIn d)) x₀
+  pub found : Makes (cost (legs t)) x e (bestExchange (legs t) (allowedBy d) x)
+  pub same : improved (legs t) (allowedBy d) x ≡ improved (legs t) (allowedBy d) x₀
 
 pub improving-starts :
     {t : List (List ℕ)} {d : Precedence} {x : Node} {own : ℕ} {e : Exchange}
-    → Exchangeable t d x → T (respects (pairsIn d) x) → own ≡ cost (legs t) x
-    → Makes (cost (legs t)) x e (bestExchange (legs t) (respects (pairsIn d)) x) → Improving t d x x own e
+    → Exchangeable t d x → T (allowedBy d x) → own ≡ cost (legs t) x
+    → Makes (cost (legs t)) x e (bestExchange (legs t) (allowedBy d) x) → Improving t d x x own e
 improving-starts f h costs m = record { tried = f; respected = h; long = refl; costs = costs; found = m; same = refl }
 
 module _ {t : List (List ℕ)} {d : Precedence} {x₀ x : Node} {own : ℕ} {e : Exchange} (i : Improving t d x₀ x own e) where
-  abbrev allowed : Node → Bool
-  allowed = respects (pairsIn d)
-
   pub improving-asks :
       Exchangeable t d (made x e)
-      × ((0 < length (made x e)) × (T (respects (pairsIn d) (made x e)) × (e .cost ≡ cost (legs t) (made x e))))
+      × ((0 < length (made x e)) × (T (allowedBy d (made x e)) × (e .cost ≡ cost (legs t) (made x e))))
   improving-asks = (
     exchanged-exchangeable (i .tried) (e .p) (e .q) (i .found .first) (i .found .second),
     (
       omega (arith, exchanged-length x (e .p) (e .q), i .found .first),
-      (rw (i .found .makes) (bestExchange-allowed (legs t) allowed x (i .respected)), rw (i .found .makes) (i .found .costs)),
+      (rw (i .found .makes) (bestExchange-allowed (legs t) (allowedBy d) x (i .respected)), rw (i .found .makes) (i .found .costs)),
     ),
   )
 
   pub improving-again :
-      (x′ : Node) (r : Exchange) → x′ ≡ made x e → Makes (cost (legs t)) (made x e) r (bestExchange (legs t) allowed (made x e))
+      (x′ : Node) (r : Exchange) → x′ ≡ made x e → Makes (cost (legs t)) (made x e) r (bestExchange (legs t) (allowedBy d) (made x e))
       → e .cost < own → Improving t d x₀ x′ (e .cost) r
   improving-again x′ r is m less = rw is (record {
     tried = improving-asks .0;
@@ -204,8 +201,8 @@ module _ {t : List (List ℕ)} {d : Precedence} {x₀ x : Node} {own : ℕ} {e :
     long = exchanged-length x (e .p) (e .q) ∙ i .long;
     costs = improving-asks .1 .1 .1;
     found = m;
-    same = rw (i .found .makes) (sym (improved-goes-on (legs t) allowed x (omega (arith, i .costs, i .found .costs))) ∙ i .same);
+    same = rw (i .found .makes) (sym (improved-goes-on (legs t) (allowedBy d) x (omega (arith, i .costs, i .found .costs))) ∙ i .same);
   })
 
-  pub improving-ends : own ≤ e .cost → x ≡ improved (legs t) allowed x₀
-  improving-ends done = sym (improved-stays (legs t) allowed x (omega (arith, i .costs, i .found .costs))) ∙ i .same
+  pub improving-ends : own ≤ e .cost → x ≡ improved (legs t) (allowedBy d) x₀
+  improving-ends done = sym (improved-stays (legs t) (allowedBy d) x (omega (arith, i .costs, i .found .costs))) ∙ i .same

@@ -31,11 +31,11 @@ use Rattle.first_answer.specs.First.{legsOf, nearestOf, firstOf, respond, first
 use Rattle.first_answer.specs.declared.FirstOrder.{FirstOrder}
 use Rattle.first_answer.proofs.NearestOrder.{nearest-allowed}
 use Rattle.first_answer.proofs.First.{firstOf-allowed}
-use Rattle.first_order.specs.Code.{Exchangeable}
+use Rattle.first_order.specs.Code.{Exchangeable, allowedBy}
 
 pub nearest-asks :
     {t : List (List ℕ)} {d : Precedence} {n : ℕ} (x : List ℕ) → Cheap t → 1 ≤ n → n ≤ mostStops → Pairing n (pairsIn d)
-    → x ≡ nearest n (legs t) (respects (pairsIn d)) → Exchangeable t d x × ((0 < length x) × T (respects (pairsIn d) x))
+    → x ≡ nearest n (legs t) (allowedBy d) → Exchangeable t d x × ((0 < length x) × T (allowedBy d x))
 nearest-asks {t} {d} {n} x cheap some few ok e =
     let a : Allowed n (pairsIn d) x = rw e (nearest-allowed n ok (legs t)) in
     let long : n ≡ length x = sym (order-length n x (a .order)) in
@@ -70,17 +70,18 @@ module _ (n bound : ℕ) (table pairs : List ℕ) (k : ℕ) (e : k ≡ firstCaus
       go (suc j) h = refl
 
   -- the test by the precedence that the file makes is the test by its pairs
-  same-test : {d : Precedence} → n ≤ mostStops → PairsPass n pairs → d ≡ precedenceOf pairs → respects (pairsIn d) ≡ respects (pairsOf pairs)
-  same-test few p is = ap (λ (d : Precedence). respects (pairsIn d)) is ∙ (λ i x. its-respects n few pairs (p .only) (p .once) x i)
+  same-test : {d : Precedence} → n ≤ mostStops → PairsPass n pairs → d ≡ precedenceOf pairs → allowedBy d ≡ respects (pairsOf pairs)
+  same-test few p is = ap (λ (d : Precedence). allowedBy d) is ∙ (λ i x. its-respects n few pairs (p .only) (p .once) x i)
 
   pub made-first :
       k ≡ 0 → {t : List (List ℕ)} {d : Precedence} {j : ℕ} (x : List ℕ) {v : ℕ} → t ≡ rows n (endsAway bound) table → d ≡ precedenceOf pairs → n ≡ j
-      → x ≡ improved (legs t) (respects (pairsIn d)) (nearest j (legs t) (respects (pairsIn d))) → v ≡ cost (legs t) x
+      → x ≡ improved (legs t) (allowedBy d) (nearest j (legs t) (allowedBy d)) → v ≡ cost (legs t) x
       → _≡_ {A = FirstOrder} (record { number = 0; cost = v; order = x ++ drop n zeros }) (firstAnswer n bound table pairs)
   unfolding firstAnswer respond legsOf nearestOf firstOf zeros
   made-first none x loaded marked lent made costs =
       let (passes, p) = first-passed n bound table pairs (sym e ∙ none) in
       let test = same-test (passes .priced .few) p marked in
       let first : x ≡ firstOf n bound table pairs = made ∙ rw (loaded, test, ← lent) in
-      let long : length (firstOf n bound table pairs) ≡ n = order-length n (firstOf n bound table pairs) (firstOf-allowed n bound table pairs (pairs-pairing p) .order) in
+      let allowed = firstOf-allowed n bound table pairs (pairs-pairing p) in
+      let long : length (firstOf n bound table pairs) ≡ n = order-length n (firstOf n bound table pairs) (allowed .order) in
       rw (costs, first, loaded, append-zeros orderPlaces n (firstOf n bound table pairs) long) (ap (respond n bound table pairs) (sym none ∙ e))

@@ -3,20 +3,21 @@
 --   nearestIn f stops    of some stops the one with the least f, the first of equals; 0 where there is none
 --   Exchangeable t d x   what the exchanges ask: x is an order of as many stops as it has places, the legs of t can be added up, and d's pairs are
 --                        such that every day can be flown
---   allowedCost L pairs x    the cost of x, above every cost if it goes against the pairs
+--   allowedBy d x        x respects d's pairs
+--   allowedCost L d x    the cost of x, above every cost if it does not
 --   made x e             what the exchange e makes of the order x
 --   Makes f x e y        e is an exchange of two stops of x; it makes y, and has y's cost by f
 --   better a b           of two exchanges the one of lower cost, the first of equals
 --   bestBehind f x p e   the cheapest by f of what is made of x by e and by the exchanges of position p with the positions behind it
 use mathlib.Core.Path.{_≡_}
-use mathlib.Core.Bool.{cond}
+use mathlib.Core.Bool.{Bool, cond}
 use mathlib.Core.List.{List, [], _∷_}
 use Prim.Native.Nat.{ℕ, suc, _≤_, _<_}
 use lib.Dec.{ltb}
 use lib.ListN.{length}
 use Rattle.sizes.specs.Sizes.{mostStops, aboveEveryCost}
 use Rattle.orders.specs.Orders.{Node, Order}
-use Rattle.orders.specs.Pairs.{Pair, Pairing, respects}
+use Rattle.orders.specs.Pairs.{Pairing, respects}
 use Rattle.stops.specs.Legs.{Legs, cost}
 use Rattle.stops.specs.Code.{Cheap}
 use Rattle.pairs.specs.Code.{pairsIn}
@@ -35,8 +36,11 @@ pub record Exchangeable (t : List (List ℕ)) (d : Precedence) (x : Node) : Type
   pub order : Order (length x) x
   pub pairing : Pairing (length x) (pairsIn d)
 
-abbrev pub allowedCost : Legs → List Pair → Node → ℕ
-allowedCost L pairs x = cond (respects pairs x) (cost L x) aboveEveryCost
+abbrev pub allowedBy : Precedence → Node → Bool
+allowedBy d = respects (pairsIn d)
+
+abbrev pub allowedCost : Legs → Precedence → Node → ℕ
+allowedCost L d x = cond (allowedBy d x) (cost L x) aboveEveryCost
 
 abbrev pub made : Node → Exchange → Node
 made x e = exchanged x (e .p) (e .q)

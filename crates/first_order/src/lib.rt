@@ -1,16 +1,17 @@
-// A first order for a host (requests A.1, A.5 and A.6): `first_order` is open to a caller. The functions of `nearest` and `exchange` are this crate's own, and
-// what they require `first_order` meets. specs/First of crate `first_answer` says what it answers; specs/Code is the code's own.
+// A first order for a host (requests A.1, A.5 and A.6): `first_order` is open to a caller. The functions of `nearest` and `exchange` are this crate's
+// own, and what they require `first_order` meets. specs/First of crate `first_answer` says what it answers; specs/Code is the code's own.
 ghost use mathlib.Core.Path.{_≡_};
 ghost use Prim.Native.Nat.{_≤_};
 ghost use lib.ListN.{length};
 ghost use Rattle.sizes.specs.Sizes.{mostStops};
-ghost use Rattle.orders.specs.Pairs.{Pairing, respects};
+ghost use Rattle.orders.specs.Pairs.{Pairing};
 ghost use Rattle.stops.specs.Legs.{legs, cost};
 ghost use Rattle.stops.specs.Code.{Cheap};
 ghost use Rattle.pairs.specs.Code.{pairsIn};
 ghost use Rattle.first_answer.specs.Nearest.{nearest};
 ghost use Rattle.first_answer.specs.Exchanges.{improved};
 ghost use Rattle.first_answer.specs.First.{Promised};
+ghost use Rattle.first_order.specs.Code.{allowedBy};
 
 mod exchange;
 mod nearest;
@@ -28,7 +29,7 @@ use stops::table::rows;
 // Writes the first order of as many stops as x has places, and returns its cost.
 fn make(t: &Rows, precedence: Precedence, x: &mut [u8]) -> u32
     requires { ⌜ Cheap (now t) × ((1 ≤ length (now x)) × ((length (now x) ≤ mostStops) × Pairing (length (now x)) (pairsIn precedence))) ⌝ }
-    ensures { λ r. ⌜ (now (x .exit) ≡ improved (legs (now (t .entry))) (respects (pairsIn precedence)) (nearest (length (now (x .entry))) (legs (now (t .entry))) (respects (pairsIn precedence)))) × (r ≡ cost (legs (now (t .entry))) (now (x .exit))) ⌝ }
+    ensures { λ r. ⌜ (now (x .exit) ≡ improved (legs (now (t .entry))) (allowedBy precedence) (nearest (length (now (x .entry))) (legs (now (t .entry))) (allowedBy precedence))) × (r ≡ cost (legs (now (t .entry))) (now (x .exit))) ⌝ }
 {
     nearest_order(t, precedence, x);
     improve(t, precedence, x)

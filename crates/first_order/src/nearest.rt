@@ -4,12 +4,12 @@ ghost use mathlib.Core.List.{[], _∷_};
 ghost use Prim.Native.Nat.{_^_, _≤_, _<_};
 ghost use lib.ListN.{length};
 ghost use Rattle.sizes.specs.Sizes.{mostStops};
-ghost use Rattle.orders.specs.Pairs.{Pairing, respects};
+ghost use Rattle.orders.specs.Pairs.{Pairing};
 ghost use Rattle.stops.specs.Legs.{legs};
 ghost use Rattle.stops.specs.Code.{stopsIn};
 ghost use Rattle.pairs.specs.Code.{pairsIn};
 ghost use Rattle.first_answer.specs.Nearest.{nearest};
-ghost use Rattle.first_order.specs.Code.{nearestIn};
+ghost use Rattle.first_order.specs.Code.{nearestIn, allowedBy};
 use pairs::Precedence;
 use pairs::ready;
 use stops::sets::later;
@@ -48,7 +48,7 @@ fn nearest_stop(t: &Rows, place: u32, rest: u32) -> u32
 // Writes the nearest-stop order of as many stops as x has places: each time the nearest of the stops that need not wait (request A.6).
 pub fn nearest_order(t: &Rows, precedence: Precedence, x: &mut [u8])
     requires { ⌜ (length (now x) ≤ mostStops) × Pairing (length (now x)) (pairsIn precedence) ⌝ }
-    ensures { λ u. ⌜ now (x .exit) ≡ nearest (length (now (x .entry))) (legs (now (t .entry))) (respects (pairsIn precedence)) ⌝ }
+    ensures { λ u. ⌜ now (x .exit) ≡ nearest (length (now (x .entry))) (legs (now (t .entry))) (allowedBy precedence) ⌝ }
 {
     let mut rest = (1u32 << x.len()) - 1;
     let mut place = 0;

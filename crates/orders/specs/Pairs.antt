@@ -1,7 +1,7 @@
 -- Pairs of stops, the first of which is to be flown before the second, and what they leave of the orders and of a node's children: document 02, A.6.
 use mathlib.Core.Bool.{Bool, true, not, _&&_, _||_}
 use mathlib.Core.List.{List, [], _∷_, map}
-use mathlib.Core.Logic.{_≢_}
+use mathlib.Core.Logic.{_≢_, _↔_}
 use Prim.Native.Nat.{ℕ, _≤_}
 use lib.Dec.{T, eqb}
 use Rattle.lists.specs.Lists.{In, keep, any, all}
@@ -16,6 +16,10 @@ abbrev pub pairsOf : List ℕ → List Pair
 pairsOf [] = []
 pairsOf (a ∷ []) = []
 pairsOf (a ∷ b ∷ bytes) = (a, b) ∷ pairsOf bytes
+
+-- two pair files have the same pairs, in whatever sequence
+abbrev pub OnePairs : List ℕ → List ℕ → Type 0
+OnePairs a b = (p : Pair) → In p (pairsOf a) ↔ In p (pairsOf b)
 
 -- Pairs with which every day can be flown: each pick-up is a stop of 1 to n, and none is a drop.
 pub record Pairing (n : ℕ) (pairs : List Pair) : Type 0 where

@@ -4,18 +4,16 @@ use mathlib.Core.Path.{_≡_, refl, ap, _∙_}
 use Prim.Native.Nat.{_-_, _<_}
 use native.Mathlib.Omega.{arith}
 use lib.ListN.{length}
-use Rattle.orders.specs.Pairs.{respects}
 use Rattle.stops.specs.Legs.{legs}
-use Rattle.pairs.specs.Code.{pairsIn}
 use Rattle.first_answer.specs.Exchanges.{bestExchange}
-use Rattle.first_order.specs.Code.{allowedCost}
+use Rattle.first_order.specs.Code.{allowedBy, allowedCost}
 use Rattle.first_order.proofs.ExchangeLaws.{exchangeable-below, Trying, exchangesFrom, all-start, all-tried, all-end}
 use Rattle.first_order.proofs.exchange.best_exchange.Statement.{statement}
 use Rattle.first_order.proofs.exchange.best_exchange.Tie as tie
 
 abbrev Inv-loop : tie.InvT-loop
 Inv-loop t d x₀ own found₀ p₀ x found p =
-    (x ≡ x₀) × Trying (allowedCost (legs t) (pairsIn d)) x₀ (exchangesFrom x₀ p) (bestExchange (legs t) (respects (pairsIn d)) x₀) found
+    (x ≡ x₀) × Trying (allowedCost (legs t) d) x₀ (exchangesFrom x₀ p) (bestExchange (legs t) (allowedBy d) x₀) found
 
 abbrev μ-loop : tie.MeasureT-loop
 μ-loop t d x₀ own found₀ p₀ x found p = length x₀ - p

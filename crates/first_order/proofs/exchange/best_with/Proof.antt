@@ -5,7 +5,6 @@ use Prim.Native.Nat.{_-_, _<_}
 use native.Mathlib.Omega.{arith}
 use lib.ListN.{length}
 use Rattle.stops.specs.Legs.{legs}
-use Rattle.pairs.specs.Code.{pairsIn}
 use Rattle.first_answer.specs.Exchanges.{behind}
 use Rattle.first_order.specs.Code.{allowedCost, bestBehind}
 use Rattle.first_order.proofs.ExchangeLaws.{Trying, behind-starts, behind-tried, behind-ends}
@@ -14,7 +13,7 @@ use Rattle.first_order.proofs.exchange.best_with.Tie as tie
 
 abbrev Inv-loop : tie.InvT-loop
 Inv-loop t d x₀ p found₀ q₀ x found q =
-    let f = allowedCost (legs t) (pairsIn d) in
+    let f = allowedCost (legs t) d in
     (x ≡ x₀) × Trying f x₀ (behind x₀ p q) (bestBehind f x₀ p found₀) found
 
 abbrev μ-loop : tie.MeasureT-loop
