@@ -3,9 +3,11 @@
  *
  * NUMBER 0 ALONE DOES NOT SAY "CHEAPEST". A search that its budget stopped comes back with number 0 and mark 1, and a
  * cheaper order may be left. The order is a cheapest one where number and mark are both 0: gondamuy_is_finished.
+ * A JOB FILE HAS NO PAIRS. Who plans what was read from one hands its pairs in beside it, or plans without them
+ * (request A.6).
  *
  * Nothing is asked of the numbers and the bytes: whatever they are, each call ends, with number 0 or a refusal (number
- * 1 to 10). What is asked is what C asks of any pointer:
+ * 1 to 11). What is asked is what C asks of any pointer:
  *   - each points to as many elements as its length says, aligned as its type is;
  *   - pool and buffer, which are written to, overlap nothing else that the call is given;
  *   - with a length of 0 any pointer will do, a null one too.
@@ -25,7 +27,7 @@ extern "C" {
 #endif
 
 /* Raised with every change of a call, of a struct or of what a number means. */
-#define GONDAMUY_VERSION 6
+#define GONDAMUY_VERSION 7
 
 /* Sizes. */
 #define GONDAMUY_MOST_STOPS 16                                         /* stops of a day at most */
@@ -35,6 +37,8 @@ extern "C" {
 #define GONDAMUY_DEAREST_LEG 1000000                                   /* what a leg may cost at most */
 #define GONDAMUY_DEAREST_CHARGE 100000                                 /* what a landing may cost at most */
 #define GONDAMUY_RECORD_WORDS 6                                        /* words in a record of the pool */
+#define GONDAMUY_MOST_PAIRS 8                                          /* pairs of a job at most */
+#define GONDAMUY_MOST_PAIR_BYTES (2 * GONDAMUY_MOST_PAIRS)             /* 16: bytes of the longest pair file */
 #define GONDAMUY_LONGEST_FILE \
     (4 * GONDAMUY_TABLE_NUMBERS + GONDAMUY_ORDER_PLACES + 13)          /* 1,185: a buffer that every job's file fits */
 
@@ -84,7 +88,8 @@ enum gondamuy_refusal {
     GONDAMUY_REFUSED_LEG = 3,
     /* selection is above 3, rules above 15 or bound above 3. gondamuy_first_order looks at the bound alone. */
     GONDAMUY_REFUSED_CHOICE = 4,
-    /* the starting order is neither empty nor a permutation of 1 to n. Name each stop once, or hand in none. */
+    /* the starting order is neither empty nor a permutation of 1 to n, or is against the pairs. Name each stop once, in
+     * each pair the first before the second, or hand in none. Only pairs that 11 lets pass are looked at for this. */
     GONDAMUY_REFUSED_START = 5,
     /* the pool has no whole record, or a part record. Lend a multiple of six words, six at least. */
     GONDAMUY_REFUSED_POOL = 6,
@@ -95,7 +100,10 @@ enum gondamuy_refusal {
     /* the file's length or its places are not those of a job file. It is none, or is damaged or too long. */
     GONDAMUY_REFUSED_LAYOUT = 9,
     /* the write buffer is shorter than the file. GONDAMUY_LONGEST_FILE bytes are always enough. */
-    GONDAMUY_REFUSED_SHORT_BUFFER = 10
+    GONDAMUY_REFUSED_SHORT_BUFFER = 10,
+    /* the pairs' length is odd or above 16, or a stop in them is outside 1 to n or stands there twice. It comes between
+     * 5 and 6. */
+    GONDAMUY_REFUSED_PAIRS = 11
 };
 
 /* What a caller chooses. The fields are plain numbers, so that any may be handed in: what does not fit is refused. */
@@ -108,10 +116,10 @@ struct gondamuy_job {
 
 /* What gondamuy_plan answers: see there, and read number and mark before anything else. */
 struct gondamuy_report {
-    uint32_t number;    /* 0, or the number of the refusal: 1 to 7 */
+    uint32_t number;    /* 0, or the number of the refusal: 1 to 7 or 11 */
     uint32_t mark;      /* of enum gondamuy_mark (request A.3); 0 beside a refusal */
     uint32_t cost;      /* of the order below; 0 if none is known */
-    uint32_t floor;     /* of a stopped search: no order costs less (request A.3); 0 otherwise */
+    uint32_t floor;     /* of a stopped search: no order that respects the pairs costs less (request A.3); else 0 */
     uint8_t order[GONDAMUY_ORDER_PLACES]; /* the stops as they are flown, zeros past n; all zeros if none is known */
     uint64_t branched;  /* nodes branched */
     uint64_t generated; /* the empty node and every child: branched + eliminated + active */
@@ -121,7 +129,7 @@ struct gondamuy_report {
 };
 
 struct gondamuy_first {
-    uint32_t number;    /* 0, or the number of the refusal: 1 to 4 */
+    uint32_t number;    /* 0, or the number of the refusal: 1 to 4 or 11 */
     uint32_t cost;      /* of this order; another may be cheaper */
     uint8_t order[GONDAMUY_ORDER_PLACES]; /* the stops as they are flown, zeros past n */
 };
@@ -149,7 +157,7 @@ struct gondamuy_record {
     uint32_t second;    /* the others */
 };
 
-/* Puts the stops 1 to job.n into the cheapest order, within a budget of branchings.
+/* Puts the stops 1 to job.n into the cheapest order that respects the pairs, within a budget of branchings.
  *
  * table: (n+1)*(n+1) numbers, row by row; home is place 0. Row i has the leg from place i to each other place, at most
  * GONDAMUY_DEAREST_LEG, and on the diagonal the landing charge of place i, at most GONDAMUY_DEAREST_CHARGE, 0 for none
@@ -159,7 +167,14 @@ struct gondamuy_record {
  * of the n stops known beforehand, or nothing. budget: how many nodes may be branched, 0 included, or
  * GONDAMUY_NO_BUDGET. pool: words, six to a record; what they hold plays no part.
  *
- * What comes back and what the pool then holds, by number and mark; the lowest number that applies is returned:
+ * pairs: the bytes of a pair file, or nothing (request A.6). Two bytes a pair, GONDAMUY_MOST_PAIRS pairs at most: a
+ * passenger is fetched at the first stop and set down at the second, so that the first is flown before the second, at
+ * once or with other stops between. A stop stands in one pair at most. Orders that go the other way play no part: they
+ * are not searched, and what is said below of orders, of a cheapest one and of the floor is said of those that respect
+ * the pairs. Costs, floors and counts of two searches are held against each other only where both have the same pairs.
+ *
+ * What comes back and what the pool then holds, by number and mark. Of several refusals the first in the sequence 1, 2,
+ * 3, 4, 5, 11, 6 is returned. A start that names each stop once is held to the pairs only where 11 lets these pass.
  *   0, mark 0  Finished: a cheapest order, its cost, and the counts of the search. The pool holds the nodes that were
  *              left: the active ones, report.active records, earliest generated first; with rule 4 behind them the
  *              branched ones, report.branched records, earliest branched first; zeros behind.
@@ -167,22 +182,24 @@ struct gondamuy_record {
  *              costs at least report.floor, the least bound among the active nodes. Cost and order are those of the
  *              cheapest order that the search knows, start included, so that a cheapest order costs at most that; they
  *              are zeros if it knows none (gondamuy_shows_order). The pool holds the nodes there, in the same layout.
- *   1 to 6     The number, and zeros in every other field. The pool is as it was.
+ *   1 to 6, 11 The number, and zeros in every other field. The pool is as it was.
  *   7          The number and the counts up to there; all other fields are zeros, since the search ran short. The pool
  *              holds, in the same layout, the nodes before the branching whose nodes it could not hold.
  *
  * Before each branching it is asked first whether the search is finished, then whether the budget is spent, then
  * whether the pool holds what comes of it. So a search that finishes within its budget gives the same as without one,
  * and one whose budget is spent is never refused by 7. Planned again with a larger budget and stopped again, the same
- * job from the same start has a floor at least as high and, where an order was shown before, one at most as dear.
+ * job from the same start with the same pairs has a floor at least as high and, where an order was shown before, one at
+ * most as dear.
  */
 struct gondamuy_report gondamuy_plan(struct gondamuy_job job,
                                      const uint32_t *table, size_t table_len,
                                      const uint8_t *start, size_t start_len,
+                                     const uint8_t *pairs, size_t pairs_len,
                                      uint64_t budget,
                                      uint32_t *pool, size_t pool_len);
 
-/* Whether a search finished, so that its order is a cheapest one. */
+/* Whether a search finished, so that its order is a cheapest one of those that respect the pairs. */
 static inline int gondamuy_is_finished(const struct gondamuy_report *report)
 {
     return report->number == GONDAMUY_NOT_REFUSED && report->mark == GONDAMUY_NOT_STOPPED;
@@ -195,7 +212,7 @@ static inline int gondamuy_shows_order(const struct gondamuy_report *report)
 }
 
 /* Whether a bound is one for a day that ends at the last stop (request A.5). Costs and floors of two searches over one
- * table may be held against each other only where this says the same of both bounds. */
+ * table with the same pairs may be held against each other only where this says the same of both bounds. */
 static inline int gondamuy_ends_away(uint32_t bound)
 {
     return bound == GONDAMUY_BOUND_PLAIN_AWAY || bound == GONDAMUY_BOUND_CLOSE_AWAY;
@@ -203,33 +220,37 @@ static inline int gondamuy_ends_away(uint32_t bound)
 
 /* Makes an order of the stops 1 to n to start from, where nobody has typed one (request A.1).
  *
- * n and table are as for gondamuy_plan, and bound is that of the job that is to start from the order: it says what an
- * order costs, with the leg home (0 and 1) or without (2 and 3, request A.5), and nothing else. From each place on,
- * home first, the nearest stop left is flown: the one that is cheapest to fly to and land at, the lowest number of
- * several. Then two stops change places as long as that lowers the cost: of all pairs the one that lowers it most, of
- * several the one that begins earliest in the order, then the one that ends earliest. The order costs no more than that
- * of the nearest stops, and no exchange of two of its stops makes it cheaper; but another order may be cheaper still,
- * and gondamuy_plan finds one that is cheapest.
+ * n, table and pairs are as for gondamuy_plan, and bound is that of the job that is to start from the order: it says
+ * what an order costs, with the leg home (0 and 1) or without (2 and 3, request A.5), and nothing else. From each place
+ * on, home first, the nearest stop left is flown: of those whose pick-up, if they have one, is flown already (request
+ * A.6), the one that is cheapest to fly to and land at, the lowest number of several. Then two stops change places as
+ * long as that lowers the cost and the pairs are respected: of all such exchanges the one that lowers it most, of
+ * several the one that begins earliest in the order, then the one that ends earliest. The order respects the pairs and
+ * costs no more than that of the nearest stops, and no exchange of two of its stops that respects the pairs makes it
+ * cheaper; but another order may be cheaper still, and gondamuy_plan finds one that is cheapest.
  *
- * What comes back, by number; the lowest that applies is returned:
- *   0       The order and its cost.
- *   1 to 4  The number, and zeros in every other field.
- * The table is not written to. To start from the order, hand in the first n of first.order as start; 5 never comes from
- * that. gondamuy_plan does not make one by itself.
+ * What comes back, by number; of several refusals the first in the sequence 1, 2, 3, 4, 11 is returned:
+ *   0           The order and its cost.
+ *   1 to 4, 11  The number, and zeros in every other field.
+ * Neither table nor pairs are written to. To start from the order, hand in the first n of first.order as start, with the
+ * same pairs: 5 never comes from that. With other pairs it may. gondamuy_plan does not make one by itself.
  */
-struct gondamuy_first gondamuy_first_order(uint32_t n, uint32_t bound, const uint32_t *table, size_t table_len);
+struct gondamuy_first gondamuy_first_order(uint32_t n, uint32_t bound,
+                                           const uint32_t *table, size_t table_len,
+                                           const uint8_t *pairs, size_t pairs_len);
 
-/* Reads a job file. The job comes back by value, so that no buffer can be too short.
+/* Reads a job file, which has no pairs. The job comes back by value, so that no buffer can be too short.
  *
  * What comes back, by number:
  *   0                 The job, its table and its starting order; zeros in the places that they do not take.
  *   8, 1, 9, 3, 4, 5  The number, and zeros in every other field. Of several, the first in this row; 2 never comes.
  * The file is not written to. To plan what was read, hand in reading.job, the first (n+1)*(n+1) numbers of
- * reading.table and the first reading.stops of reading.start.
+ * reading.table and the first reading.stops of reading.start, beside the pairs of its pair file, if it has one.
  */
 struct gondamuy_reading gondamuy_read(const uint8_t *file, size_t file_len);
 
-/* Writes the file of a job, given as for gondamuy_plan, at the front of the buffer.
+/* Writes the file of a job, given as for gondamuy_plan, at the front of the buffer. Its pairs go into no job file, and
+ * the starting order is not held to them: they are a file of their own, whose bytes are what gondamuy_plan takes.
  *
  * What comes back and what the buffer then holds, by number; the lowest that applies is returned:
  *   0           The file's length. The file stands at the buffer's front; the bytes behind it are as they were.
@@ -245,10 +266,11 @@ struct gondamuy_written gondamuy_write(struct gondamuy_job job,
 static inline struct gondamuy_report gondamuy_plan_records(struct gondamuy_job job,
                                                            const uint32_t *table, size_t table_len,
                                                            const uint8_t *start, size_t start_len,
+                                                           const uint8_t *pairs, size_t pairs_len,
                                                            uint64_t budget,
                                                            struct gondamuy_record *pool, size_t pool_len)
 {
-    return gondamuy_plan(job, table, table_len, start, start_len, budget, (uint32_t *)pool,
+    return gondamuy_plan(job, table, table_len, start, start_len, pairs, pairs_len, budget, (uint32_t *)pool,
                          pool_len * GONDAMUY_RECORD_WORDS);
 }
 

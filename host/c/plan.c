@@ -1,7 +1,8 @@
 /* Writes the job file of document 01's case a (three stops, least bound first, rule 1, close), reads it back and plans
- * it; plans case b (earliest first, no rules, plain) within three budgets, of which the first two stop it; and plans
- * case a with a landing charge at each place, for a day that ends at home and for one that ends at the last stop. A
- * refusal ends it with a status other than 0, and so would a search of case a that did not finish. */
+ * it; plans case b (earliest first, no rules, plain) within three budgets, of which the first two stop it; plans case a
+ * with a landing charge at each place, for a day that ends at home and for one that ends at the last stop; and plans it
+ * with a passenger who is fetched at stop 3 and set down at stop 1. A refusal ends it with a status other than 0, and so
+ * would a search of case a that did not finish. */
 #include <inttypes.h>
 #include <stdio.h>
 #include <stdlib.h>
@@ -36,7 +37,7 @@ static uint32_t within(uint64_t budget)
 {
     static const struct gondamuy_job case_b = {3, GONDAMUY_SELECTION_FIFO, GONDAMUY_RULES_NONE, GONDAMUY_BOUND_PLAIN};
 
-    struct gondamuy_report report = gondamuy_plan(case_b, table, NUMBERS, NULL, 0, budget, pool, words);
+    struct gondamuy_report report = gondamuy_plan(case_b, table, NUMBERS, NULL, 0, NULL, 0, budget, pool, words);
     if (report.number != GONDAMUY_NOT_REFUSED)
         return report.number;
     printf("budget %" PRIu64 ": ", budget);
@@ -65,12 +66,30 @@ static int with_charges(const char *what, uint32_t bound, const uint32_t charges
         if (i > 0 || !gondamuy_ends_away(bound))
             landings += charges[i];
     }
-    struct gondamuy_report report = gondamuy_plan(job, charged, NUMBERS, NULL, 0, GONDAMUY_NO_BUDGET, pool, words);
+    struct gondamuy_report report = gondamuy_plan(job, charged, NUMBERS, NULL, 0, NULL, 0, GONDAMUY_NO_BUDGET, pool,
+                                                  words);
     if (report.number != GONDAMUY_NOT_REFUSED)
         return refused(report.number);
     if (!gondamuy_is_finished(&report))
         return failed("stopped");
     printf("%s: cost %" PRIu32 ", %" PRIu32 " of it landings, ", what, report.cost, landings);
+    printf("order %d %d %d\n", report.order[0], report.order[1], report.order[2]);
+    return EXIT_SUCCESS;
+}
+
+/* Case a with a pair, two bytes as its file has them: the cheapest order of those that fly its first stop before its
+ * second. Returns a status. */
+static int with_pair(uint8_t pick_up, uint8_t drop)
+{
+    const uint8_t pairs[2] = {pick_up, drop};
+
+    struct gondamuy_report report = gondamuy_plan(case_a, table, NUMBERS, NULL, 0, pairs, sizeof pairs,
+                                                  GONDAMUY_NO_BUDGET, pool, words);
+    if (report.number != GONDAMUY_NOT_REFUSED)
+        return refused(report.number);
+    if (!gondamuy_is_finished(&report))
+        return failed("stopped");
+    printf("fetched at %d, set down at %d: cost %" PRIu32 ", ", pick_up, drop, report.cost);
     printf("order %d %d %d\n", report.order[0], report.order[1], report.order[2]);
     return EXIT_SUCCESS;
 }
@@ -89,7 +108,7 @@ int main(void)
         return refused(reading.number);
     size_t places = reading.job.n + 1;
     struct gondamuy_report report = gondamuy_plan(reading.job, reading.table, places * places, reading.start,
-                                                  reading.stops, GONDAMUY_NO_BUDGET, pool, words);
+                                                  reading.stops, NULL, 0, GONDAMUY_NO_BUDGET, pool, words);
     if (report.number != GONDAMUY_NOT_REFUSED)
         return refused(report.number);
     if (!gondamuy_is_finished(&report))
@@ -105,5 +124,7 @@ int main(void)
     }
     if (with_charges("with charges", GONDAMUY_BOUND_CLOSE, charges) != EXIT_SUCCESS)
         return EXIT_FAILURE;
-    return with_charges("ending away", GONDAMUY_BOUND_CLOSE_AWAY, charges);
+    if (with_charges("ending away", GONDAMUY_BOUND_CLOSE_AWAY, charges) != EXIT_SUCCESS)
+        return EXIT_FAILURE;
+    return with_pair(3, 1);
 }

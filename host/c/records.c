@@ -25,8 +25,9 @@ int main(void)
     static struct gondamuy_record pool[RECORDS];
     static uint32_t words[RECORDS * GONDAMUY_RECORD_WORDS];
 
-    struct gondamuy_report report = gondamuy_plan_records(job, table, 16, NULL, 0, GONDAMUY_NO_BUDGET, pool, RECORDS);
-    struct gondamuy_report other = gondamuy_plan(job, table, 16, NULL, 0, GONDAMUY_NO_BUDGET, words,
+    struct gondamuy_report report = gondamuy_plan_records(job, table, 16, NULL, 0, NULL, 0, GONDAMUY_NO_BUDGET, pool,
+                                                          RECORDS);
+    struct gondamuy_report other = gondamuy_plan(job, table, 16, NULL, 0, NULL, 0, GONDAMUY_NO_BUDGET, words,
                                                  RECORDS * GONDAMUY_RECORD_WORDS);
     if (report.number != GONDAMUY_NOT_REFUSED) {
         fprintf(stderr, "refused %" PRIu32 "\n", report.number);

@@ -51,9 +51,9 @@ fn row(wind: &str, n: usize, count: u64) {
     println!("{wind:<8}{n:>3}{count:>8}{most:>18}{:>12.0}{:>12.0}{ratio:>8.2}", each(theirs), each(ours));
 }
 
-/// By the close bound, which says no more than that the day ends at home.
+/// By the close bound, which says no more than that the day ends at home, and without pairs.
 fn ours_of(n: usize, table: &[u32]) -> raw::FirstOrder {
-    raw::first_order(n as u32, Bound::Close as u32, table)
+    raw::first_order(n as u32, Bound::Close as u32, table, &[])
 }
 
 fn timed(call: impl Fn() -> u32) -> Duration {

@@ -118,7 +118,7 @@ fn time_peer(task: &Task, seconds: u64, pool: &mut [Record]) -> Option<(Found, D
 fn time_ours(task: &Task, found: &Found, pool: &mut [Record]) -> Duration {
     let words = pool[..found.records].as_flattened_mut();
     let begin = Instant::now();
-    let report = raw::plan(task.job, &task.table, &task.start, NO_BUDGET, words);
+    let report = raw::plan(task.job, &task.table, &task.start, &[], NO_BUDGET, words);
     let time = begin.elapsed();
     assert_eq!((report.is_finished(), report.cost), (true, found.cost));
     assert_eq!((report.branched, report.most), (found.branched, found.most as u64));

@@ -1,13 +1,13 @@
 //! Writes the job file of document 01's case a (three stops, least bound first, rule 1, close), reads it back and plans
-//! it; plans case b (earliest first, no rules, plain) within three budgets, of which the first two stop it; and plans
-//! case a with a landing charge at each place, for a day that ends at home and for one that ends at the last stop. A
-//! refusal ends it with a status other than 0.
+//! it; plans case b (earliest first, no rules, plain) within three budgets, of which the first two stop it; plans case a
+//! with a landing charge at each place, for a day that ends at home and for one that ends at the last stop; and plans it
+//! with a passenger who is fetched at stop 3 and set down at stop 1. A refusal ends it with a status other than 0.
 
 use std::error::Error;
 use std::process::ExitCode;
 
 use gondamuy::{
-    plan, read, write, Bound, Job, Planned, Refused, Rules, Selection, LONGEST_FILE, NO_BUDGET, RECORD_WORDS,
+    plan, read, write, Bound, Job, Pair, Planned, Refused, Rules, Selection, LONGEST_FILE, NO_BUDGET, RECORD_WORDS,
 };
 
 const RECORDS: usize = 2_000;
@@ -31,7 +31,7 @@ fn answer() -> Result<(), Box<dyn Error>> {
     let length = write(CASE_A, &TABLE, &[], &mut file)?;
     let contents = read(&file[..length])?;
     let mut pool = vec![0; RECORDS * RECORD_WORDS];
-    let plan = plan(contents.job, contents.table(), contents.start(), NO_BUDGET, &mut pool)?.finished()?;
+    let plan = plan(contents.job, contents.table(), contents.start(), &[], NO_BUDGET, &mut pool)?.finished()?;
     println!("bytes {length}");
     println!("cost {}", plan.cost);
     println!("order {}", flown(plan.order()));
@@ -41,13 +41,14 @@ fn answer() -> Result<(), Box<dyn Error>> {
     }
     println!("with charges: {}", with_charges(Bound::Close, &mut pool)?);
     println!("ending away: {}", with_charges(Bound::CloseAway, &mut pool)?);
+    println!("fetched at 3, set down at 1: {}", with_pair(Pair { pick_up: 3, drop: 1 }, &mut pool)?);
     Ok(())
 }
 
 /// What is known of case b after so many branchings, in words.
 fn within(budget: u64, pool: &mut [u32]) -> Result<String, Refused> {
     let case_b = Job { n: 3, selection: Selection::Fifo, rules: Rules::NONE, bound: Bound::Plain };
-    let words = match plan(case_b, &TABLE, &[], budget, pool)? {
+    let words = match plan(case_b, &TABLE, &[], &[], budget, pool)? {
         Planned::Finished(plan) => format!("finished, cost {}, order {}", plan.cost, flown(plan.order())),
         Planned::Stopped(stopped) => match stopped.known {
             Some(known) => {
@@ -68,8 +69,14 @@ fn with_charges(bound: Bound, pool: &mut [u32]) -> Result<String, Box<dyn Error>
         table[place * PLACES + place] = charge;
     }
     let landings: u32 = charges.iter().skip(usize::from(bound.ends_away())).sum();
-    let plan = plan(Job { bound, ..CASE_A }, &table, &[], NO_BUDGET, pool)?.finished()?;
+    let plan = plan(Job { bound, ..CASE_A }, &table, &[], &[], NO_BUDGET, pool)?.finished()?;
     Ok(format!("cost {}, {landings} of it landings, order {}", plan.cost, flown(plan.order())))
+}
+
+/// Case a with a pair: the cheapest order of those that fly its first stop before its second.
+fn with_pair(pair: Pair, pool: &mut [u32]) -> Result<String, Box<dyn Error>> {
+    let plan = plan(CASE_A, &TABLE, &[], &[pair], NO_BUDGET, pool)?.finished()?;
+    Ok(format!("cost {}, order {}", plan.cost, flown(plan.order())))
 }
 
 fn flown(order: &[u8]) -> String {

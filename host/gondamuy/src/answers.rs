@@ -30,13 +30,13 @@ pub struct Counts {
 /// # let table = [0, 4, 7, 9, 5, 0, 2, 6, 3, 8, 0, 1, 6, 5, 4, 0];
 /// # let job = Job { n: 3, selection: Selection::Fifo, rules: Rules::NONE, bound: Bound::Plain };
 /// # let mut pool = [Record::default(); 20];
-/// let cost = plan_records(job, &table, &[], 5, &mut pool)?.cost; // no such field: of which of the two?
+/// let cost = plan_records(job, &table, &[], &[], 5, &mut pool)?.cost; // no such field: of which of the two?
 /// # Ok::<(), Refused>(())
 /// ```
 #[derive(Clone, Copy, Debug, PartialEq, Eq)]
 #[must_use = "the search may have been stopped, with no plan"]
 pub enum Planned {
-    /// The search finished: a cheapest order.
+    /// The search finished: a cheapest order of those that respect the pairs.
     Finished(Plan),
     /// The budget was spent before that: what is known up to there.
     Stopped(Stopped),
@@ -81,7 +81,7 @@ fn flown(order: &[u8; ORDER_PLACES]) -> &[u8] {
     &order[..stops]
 }
 
-/// A cheapest order of the stops: no order costs less.
+/// A cheapest order of the stops: no order that respects the pairs costs less.
 #[derive(Clone, Copy, Debug, PartialEq, Eq)]
 #[must_use]
 pub struct Plan {
@@ -99,15 +99,16 @@ impl Plan {
     }
 }
 
-/// A search that its budget stopped (request A.3). Every order costs at least `floor`; a cheapest one costs at most
-/// what the known one does, if one is known.
+/// A search that its budget stopped (request A.3). Every order that respects the pairs costs at least `floor`; a
+/// cheapest one of them costs at most what the known one does, if one is known. Orders that do not respect them play no
+/// part (request A.6).
 ///
 /// A larger budget that stops the same search has no lower floor and, where the smaller one has a known order, one that
 /// is no dearer.
 #[derive(Clone, Copy, Debug, PartialEq, Eq)]
 #[must_use]
 pub struct Stopped {
-    /// What every order costs at least: the least bound among the active nodes.
+    /// What every order that respects the pairs costs at least: the least bound among the active nodes.
     pub floor: u32,
     /// The cheapest order that is known: the starting order, or one that the search came upon. Another may be cheaper.
     pub known: Option<KnownOrder>,
@@ -123,10 +124,14 @@ impl Stopped {
     }
 }
 
-/// What is known, and that the search was stopped.
+/// What is known, and that the search was stopped. An order is allowed if it respects the pairs that were handed in.
 impl fmt::Display for Stopped {
     fn fmt(&self, out: &mut fmt::Formatter) -> fmt::Result {
-        write!(out, "stopped by its budget of {}: no order costs less than {}", self.counts.branched, self.floor)?;
+        write!(
+            out,
+            "stopped by its budget of {}: no allowed order costs less than {}",
+            self.counts.branched, self.floor
+        )?;
         match self.known {
             Some(known) => write!(out, ", and one that costs {} is known", known.cost),
             None => write!(out, ", and no order is known"),
@@ -136,7 +141,8 @@ impl fmt::Display for Stopped {
 
 impl Error for Stopped {}
 
-/// The cheapest order that a stopped search knows, which need not be a cheapest order of the stops.
+/// The cheapest order that a stopped search knows, which respects the pairs and need not be a cheapest order of the
+/// stops.
 #[derive(Clone, Copy, Debug, PartialEq, Eq)]
 pub struct KnownOrder {
     /// What it costs.
@@ -175,7 +181,8 @@ impl fmt::Display for Refused {
 
 impl Error for Refused {}
 
-/// An order to start from. No exchange of two of its stops makes it cheaper; another order may be.
+/// An order to start from, which respects the pairs. No exchange of two of its stops that respects them makes it
+/// cheaper; another order may be.
 #[derive(Clone, Copy, Debug, PartialEq, Eq)]
 pub struct FirstOrder {
     /// What it costs.
@@ -184,7 +191,8 @@ pub struct FirstOrder {
 }
 
 impl FirstOrder {
-    /// The stops as they are flown, as [`plan`](crate::plan) and [`write`](crate::write) take a starting order.
+    /// The stops as they are flown, as [`plan`](crate::plan) with the same pairs and [`write`](crate::write) take a
+    /// starting order.
     pub fn order(&self) -> &[u8] {
         flown(&self.order)
     }
@@ -205,7 +213,7 @@ impl TryFrom<raw::FirstOrder> for FirstOrder {
     }
 }
 
-/// What a job file holds.
+/// What a job file holds. Pairs are no part of it (request A.6): they are a file of their own.
 #[derive(Clone, Copy, Debug, PartialEq, Eq)]
 pub struct Contents {
     /// The job.

@@ -11,8 +11,10 @@
 //! use gondamuy::NO_BUDGET;
 //!
 //! let job = Job { n: 2, selection: 0, rules: 16, bound: 0 };
-//! assert_eq!(plan(job, &[0; 9], &[], NO_BUDGET, &mut [0; 6]).number, 4); // rules are 15 at most
-//! let stopped = plan(Job { rules: 15, ..job }, &[0; 9], &[], 0, &mut [0; 6]);
+//! assert_eq!(plan(job, &[0; 9], &[], &[], NO_BUDGET, &mut [0; 6]).number, 4); // rules are 15 at most
+//! let job = Job { rules: 15, ..job };
+//! assert_eq!(plan(job, &[0; 9], &[], &[2, 1, 2], NO_BUDGET, &mut [0; 6]).number, 11); // no whole number of pairs
+//! let stopped = plan(job, &[0; 9], &[], &[2, 1], 0, &mut [0; 6]);
 //! assert_eq!((stopped.number, stopped.mark), (0, 1));
 //! assert!(!stopped.is_finished());
 //! ```
@@ -44,17 +46,18 @@ pub const NOT_STOPPED: u32 = 0;
 /// The mark of a search that its budget stopped, beside number 0.
 pub const STOPPED: u32 = 1;
 
-/// A cheapest order (number 0, mark 0), what a stopped search knows (number 0, mark 1), or a refusal (number 1 to 7).
+/// A cheapest order (number 0, mark 0), what a stopped search knows (number 0, mark 1), or a refusal (number 1 to 7 or
+/// 11).
 #[repr(C)]
 #[derive(Clone, Copy, Debug, Default, PartialEq, Eq)]
 pub struct Report {
-    /// 0, or the number of the refusal: 1 to 6 come with zeros, 7 with the counts.
+    /// 0, or the number of the refusal: 1 to 6 and 11 come with zeros, 7 with the counts.
     pub number: u32,
     /// [`STOPPED`] if the budget stopped the search, else [`NOT_STOPPED`].
     pub mark: u32,
     /// The cost of the order.
     pub cost: u32,
-    /// What every order costs at least, if the search was stopped; else 0.
+    /// What every order that respects the pairs costs at least, if the search was stopped; else 0.
     pub floor: u32,
     /// The stops as they are flown, zeros past n; all zeros if none is known. There are orders that cost 0, so that it
     /// is the order, and not the cost, that tells.
@@ -72,13 +75,13 @@ pub struct Report {
 }
 
 impl Report {
-    /// Whether the search finished, so that its order is a cheapest one.
+    /// Whether the search finished, so that its order is a cheapest one of those that respect the pairs.
     pub fn is_finished(&self) -> bool {
         self.number == 0 && self.mark == NOT_STOPPED
     }
 }
 
-/// An order to start from (number 0) or a refusal (number 1 to 4) and zeros.
+/// An order to start from (number 0) or a refusal (number 1 to 4 or 11) and zeros.
 #[repr(C)]
 #[derive(Clone, Copy, Debug, Default, PartialEq, Eq)]
 pub struct FirstOrder {
@@ -147,9 +150,10 @@ pub struct Record {
     pub second: u32,
 }
 
-/// Puts the stops 1 to n into the cheapest order, within a budget of branchings: [`crate::plan`] of any numbers.
-pub fn plan(job: Job, table: &[u32], start: &[u8], budget: u64, pool: &mut [u32]) -> Report {
-    // SAFETY: the slices are valid for their lengths, and `pool`, lent as mutable, overlaps neither of the others.
+/// Puts the stops 1 to n into the cheapest order that respects the pairs, within a budget of branchings:
+/// [`crate::plan`] of any numbers, with the bytes of a pair file as `pairs`.
+pub fn plan(job: Job, table: &[u32], start: &[u8], pairs: &[u8], budget: u64, pool: &mut [u32]) -> Report {
+    // SAFETY: the slices are valid for their lengths, and `pool`, lent as mutable, overlaps none of the others.
     unsafe {
         border::gondamuy_plan(
             job,
@@ -157,6 +161,8 @@ pub fn plan(job: Job, table: &[u32], start: &[u8], budget: u64, pool: &mut [u32]
             table.len(),
             start.as_ptr(),
             start.len(),
+            pairs.as_ptr(),
+            pairs.len(),
             budget,
             pool.as_mut_ptr(),
             pool.len(),
@@ -166,8 +172,8 @@ pub fn plan(job: Job, table: &[u32], start: &[u8], budget: u64, pool: &mut [u32]
 
 /// `plan` with a pool of records: the same call over the same memory. No record is a part record, so number 6 comes
 /// from an empty pool alone.
-pub fn plan_records(job: Job, table: &[u32], start: &[u8], budget: u64, pool: &mut [Record]) -> Report {
-    plan(job, table, start, budget, words(pool))
+pub fn plan_records(job: Job, table: &[u32], start: &[u8], pairs: &[u8], budget: u64, pool: &mut [Record]) -> Report {
+    plan(job, table, start, pairs, budget, words(pool))
 }
 
 /// The memory of some records as the pool's words.
@@ -176,13 +182,14 @@ pub fn words(pool: &mut [Record]) -> &mut [u32] {
     unsafe { slice::from_raw_parts_mut(pool.as_mut_ptr().cast(), pool.len() * RECORD_WORDS) }
 }
 
-/// Makes an order of the stops 1 to n to start from: [`crate::first_order`] of any numbers.
-pub fn first_order(n: u32, bound: u32, table: &[u32]) -> FirstOrder {
-    // SAFETY: the slice is valid for its length.
-    unsafe { border::gondamuy_first_order(n, bound, table.as_ptr(), table.len()) }
+/// Makes an order of the stops 1 to n to start from: [`crate::first_order`] of any numbers, with the bytes of a pair
+/// file as `pairs`.
+pub fn first_order(n: u32, bound: u32, table: &[u32], pairs: &[u8]) -> FirstOrder {
+    // SAFETY: the slices are valid for their lengths.
+    unsafe { border::gondamuy_first_order(n, bound, table.as_ptr(), table.len(), pairs.as_ptr(), pairs.len()) }
 }
 
-/// Reads a job file: [`crate::read`] with its number.
+/// Reads a job file, which has no pairs: [`crate::read`] with its number.
 pub fn read(file: &[u8]) -> Reading {
     // SAFETY: the slice is valid for its length.
     unsafe { border::gondamuy_read(file.as_ptr(), file.len()) }

@@ -18,7 +18,9 @@ pub enum Refusal {
     /// 4: an unknown selection, rule or bound. A file or a [`raw`](crate::raw) call may have one, a [`Job`](crate::Job)
     /// has none.
     Choice = 4,
-    /// 5: the starting order leaves a stop out, or has one twice or one that is not there. Hand in another, or none.
+    /// 5: the starting order leaves a stop out, has one twice or one that is not there, or is against the pairs: it has
+    /// a drop before its pick-up. Hand in another, or none. It is held to the pairs only where they are not refused
+    /// themselves.
     Start = 5,
     /// 6: the pool has no record, or one that is not whole.
     Pool = 6,
@@ -33,11 +35,14 @@ pub enum Refusal {
     Layout = 9,
     /// 10: the buffer is too short for the job's file. [`LONGEST_FILE`](crate::LONGEST_FILE) bytes are always enough.
     ShortBuffer = 10,
+    /// 11: there are more than [`MOST_PAIRS`](crate::MOST_PAIRS) pairs, or a stop in them is not there or stands in them
+    /// twice; or their file is of odd length, which no [`Pair`](crate::Pair)s are. It comes between 5 and 6.
+    Pairs = 11,
 }
 
 impl Refusal {
     /// All of them, by number from 1 on.
-    const ALL: [Refusal; 10] = [
+    const ALL: [Refusal; 11] = [
         Refusal::Stops,
         Refusal::TableLength,
         Refusal::Leg,
@@ -48,6 +53,7 @@ impl Refusal {
         Refusal::ShortFile,
         Refusal::Layout,
         Refusal::ShortBuffer,
+        Refusal::Pairs,
     ];
 
     /// The refusal of a number, if there is one.
@@ -80,12 +86,17 @@ impl Refusal {
             Refusal::TableLength => "the table's length is not (n+1) squared",
             Refusal::Leg => "a leg is above 1,000,000 or a landing charge is above 100,000",
             Refusal::Choice => "selection is above 3, rules above 15 or bound above 3",
-            Refusal::Start => "the starting order is neither empty nor a permutation of 1 to n",
+            Refusal::Start => {
+                "the starting order is neither empty nor a permutation of 1 to n, or is against the pairs"
+            }
             Refusal::Pool => "the pool has no whole record, or a part record",
             Refusal::Full => "the pool is full",
             Refusal::ShortFile => "the file is shorter than 13 bytes",
             Refusal::Layout => "the file's length or its places are not those of a job file",
             Refusal::ShortBuffer => "the write buffer is shorter than the file",
+            Refusal::Pairs => {
+                "the pairs' length is odd or above 16, or a stop in them is outside 1 to n or stands there twice"
+            }
         }
     }
 }

@@ -1,7 +1,7 @@
 //! The sizes of documents 01 and 02 by name.
 
 /// Raised with every change of a call, of a struct or of what a number means, as `GONDAMUY_VERSION` is.
-pub const VERSION: u32 = 6;
+pub const VERSION: u32 = 7;
 
 /// Stops of a day at most.
 pub const MOST_STOPS: usize = 16;
@@ -23,6 +23,12 @@ pub const DEAREST_CHARGE: u32 = 100_000;
 
 /// Words in a record of the pool.
 pub const RECORD_WORDS: usize = 6;
+
+/// Pairs of a job at most (request A.6).
+pub const MOST_PAIRS: usize = 8;
+
+/// Bytes of the longest pair file.
+pub const MOST_PAIR_BYTES: usize = 2 * MOST_PAIRS;
 
 /// Bytes of the longest job file: a buffer that every job's file fits.
 pub const LONGEST_FILE: usize = 4 * TABLE_NUMBERS + ORDER_PLACES + 13;

@@ -9,12 +9,21 @@ extern "C" {
         table_len: usize,
         start: *const u8,
         start_len: usize,
+        pairs: *const u8,
+        pairs_len: usize,
         budget: u64,
         pool: *mut u32,
         pool_len: usize,
     ) -> Report;
 
-    pub fn gondamuy_first_order(n: u32, bound: u32, table: *const u32, table_len: usize) -> FirstOrder;
+    pub fn gondamuy_first_order(
+        n: u32,
+        bound: u32,
+        table: *const u32,
+        table_len: usize,
+        pairs: *const u8,
+        pairs_len: usize,
+    ) -> FirstOrder;
 
     pub fn gondamuy_read(file: *const u8, file_len: usize) -> Reading;
 
