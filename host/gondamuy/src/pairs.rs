@@ -1,6 +1,6 @@
 //! Pick-up before drop (request A.6): pairs by name, and the bytes of a pair file, which are the same memory.
 
-use std::mem::{align_of, offset_of, size_of};
+use std::mem::{align_of, offset_of, size_of, size_of_val};
 use std::slice;
 
 use crate::Refusal;
@@ -32,7 +32,7 @@ const _: () = assert!(offset_of!(Pair, pick_up) == 0 && offset_of!(Pair, drop) =
 /// ```
 pub fn pair_file(pairs: &[Pair]) -> &[u8] {
     // SAFETY: a pair is two bytes in a row (above), and the borrow goes over.
-    unsafe { slice::from_raw_parts(pairs.as_ptr().cast(), pairs.len() * size_of::<Pair>()) }
+    unsafe { slice::from_raw_parts(pairs.as_ptr().cast(), size_of_val(pairs)) }
 }
 
 /// The pairs of a pair file: the same memory, and nothing is copied. A file of odd length is refused, as a call of

@@ -9,6 +9,7 @@
 //! 3 8 - 1
 //! 6 5 4 -
 //! charges 5 10 20 30      # home's landing charge, then each stop's; or none, or no such line
+//! pairs 1 3               # the first stop before the second, a comma between pairs; or none, or no such line
 //! selection LLB-FIFO      # or LLB-LIFO, FIFO, LIFO, or 0 to 3
 //! rules U/DBAS            # and AS/DB, BFS/DB, DB/AS, or none, or their sum
 //! bound close             # or plain, plain-away, close-away, or 0 to 3
@@ -22,6 +23,7 @@
 
 mod names;
 mod numbers;
+mod pairs;
 mod parse;
 mod table;
 
@@ -38,6 +40,9 @@ pub struct Job {
     pub bound: u32,
     /// The starting order, or nothing.
     pub start: Vec<u8>,
+    /// The bytes of the pair file (request A.6), the pick-up and the drop of each pair in turn; or nothing. They are no
+    /// part of the job file.
+    pub pairs: Vec<u8>,
 }
 
 impl Job {
@@ -61,7 +66,7 @@ impl Job {
 
 /// The text of a job, with the choices in words.
 pub fn text(job: &Job) -> String {
-    let mut text = format!("stops {}\ntable\n{}", job.n, table::text(job));
+    let mut text = format!("stops {}\ntable\n{}{}", job.n, table::text(job), pairs::text(&job.pairs));
     let (selection, words) = names::selection(job.selection);
     text += &format!("selection {selection} # {words}\n");
     let (rules, words) = names::rules(job.rules);

@@ -4,6 +4,7 @@ use std::fmt;
 
 use crate::names::{by_name, list, Named, ALL_RULES, BOUNDS, RULES, SELECTIONS};
 use crate::numbers::{number, numbers};
+use crate::pairs::pairs;
 use crate::table::{self, Charges, Row};
 use crate::Job;
 
@@ -45,6 +46,7 @@ pub struct Parsed {
     rules: usize,
     bound: usize,
     start: usize,
+    pairs: Option<usize>,
 }
 
 impl Parsed {
@@ -55,8 +57,14 @@ impl Parsed {
             3 => self.dear_row().unwrap_or(self.charges),
             4 => self.unknown_choice(),
             5 => self.start,
+            11 => self.pairs.unwrap_or(self.table),
             _ => self.table,
         }
+    }
+
+    /// The line of the pairs, where there is one, though it may say that there are none.
+    pub fn line_of_pairs(&self) -> Option<usize> {
+        self.pairs
     }
 
     /// The line that a refusal of its first order speaks of, which looks at no choice but the bound (request A.5).
@@ -97,6 +105,7 @@ struct Lines {
     rules: Option<At<u32>>,
     bound: Option<At<u32>>,
     start: Option<At<Vec<u8>>>,
+    pairs: Option<At<Vec<u8>>>,
     /// A number at the front of a line opens a row of the table.
     in_table: bool,
 }
@@ -129,12 +138,13 @@ impl Lines {
             "table" if rest.is_empty() => set(&mut self.table, line, first, Vec::new()),
             "table" => Err("the table's rows begin on the line behind `table`".to_string()),
             "charges" => set(&mut self.charges, line, first, table::charges(rest)?),
+            "pairs" => set(&mut self.pairs, line, first, pairs(rest)?),
             "selection" => set(&mut self.selection, line, first, choice(rest, &SELECTIONS)?),
             "rules" => set(&mut self.rules, line, first, rules(rest)?),
             "bound" => set(&mut self.bound, line, first, choice(rest, &BOUNDS)?),
             "start" if rest == ["none"] => set(&mut self.start, line, first, Vec::new()),
             "start" => set(&mut self.start, line, first, numbers(rest, "stop")?),
-            _ => Err(format!("`{first}` is none of stops, table, charges, selection, rules, bound, start")),
+            _ => Err(format!("`{first}` is none of stops, table, charges, pairs, selection, rules, bound, start")),
         }
     }
 
@@ -157,6 +167,7 @@ impl Lines {
             rules: rules.line,
             bound: bound.line,
             start: start.line,
+            pairs: self.pairs.as_ref().map(|pairs| pairs.line),
             job: Job {
                 n: stops.value,
                 table,
@@ -164,6 +175,7 @@ impl Lines {
                 rules: rules.value,
                 bound: bound.value,
                 start: start.value,
+                pairs: self.pairs.map_or(Vec::new(), |pairs| pairs.value),
             },
         })
     }

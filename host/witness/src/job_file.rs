@@ -35,6 +35,7 @@ impl Contents {
     }
 }
 
+/// Without the job's pairs, which no file holds.
 impl From<&jobtext::Job> for Contents {
     fn from(job: &jobtext::Job) -> Contents {
         Contents {

@@ -1,9 +1,9 @@
 //! Reads a job as plain text (see `jobtext`) from standard input and prints
 //! the report and the pool's words, six to a line. On the command line stands
 //! the number of records in the pool; behind it there may be `pairs` and the
-//! bytes of a pair file (without it none), then `budget` and a number of
-//! branchings (without it the largest), then `trace`: the state at the start
-//! and after each step is printed first.
+//! bytes of a pair file (without it those of the text, if it has any), then
+//! `budget` and a number of branchings (without it the largest), then `trace`:
+//! the state at the start and after each step is printed first.
 
 use std::io::{Read, Write};
 use std::process::ExitCode;
@@ -28,7 +28,7 @@ fn main() -> ExitCode {
 /// What the command line asks for.
 struct Asked {
     records: usize,
-    pairs: Vec<u8>,
+    pairs: Option<Vec<u8>>,
     budget: u64,
     traced: bool,
 }
@@ -38,8 +38,11 @@ impl Asked {
         let (records, rest) = words.split_first()?;
         let records = number(records).filter(|&records| records <= MOST_RECORDS)?;
         let (pairs, rest) = match rest {
-            ["pairs", rest @ ..] => leading_bytes(rest),
-            _ => (Vec::new(), rest),
+            ["pairs", rest @ ..] => {
+                let (bytes, rest) = leading_bytes(rest);
+                (Some(bytes), rest)
+            }
+            _ => (None, rest),
         };
         let (budget, rest) = match rest {
             ["budget", budget, rest @ ..] => (number(budget)?, rest),
@@ -73,7 +76,8 @@ fn answer() -> Result<(), String> {
     let job = Contents::from(&parsed.job);
     let mut pool = vec![0u32; records * WORDS];
     let mut lines = Vec::new();
-    let request = Request { pairs: &pairs, budget, ..job.request() };
+    let pairs = pairs.as_ref().unwrap_or(&parsed.job.pairs);
+    let request = Request { pairs, budget, ..job.request() };
     let report = plan_watched(&request, &mut pool, &mut |state| {
         if traced {
             lines.push(state_text(state));
