@@ -13,7 +13,7 @@ const AWAY: [Bound; 2] = [Bound::PlainAway, Bound::CloseAway];
 const FIFO_PLAIN: Job = Job { n: 3, selection: Selection::Fifo, rules: Rules::NONE, bound: Bound::PlainAway };
 
 fn finished(job: Job, table: &[u32], start: &[u8], pool: &mut [Record]) -> Plan {
-    plan_records(job, table, start, NO_BUDGET, pool).unwrap().finished().unwrap()
+    plan_records(job, table, start, &[], NO_BUDGET, pool).unwrap().finished().unwrap()
 }
 
 /// 3 out and 20 for landing there. Neither the leg back nor the landing at home is flown.
@@ -25,7 +25,7 @@ fn one_stop() {
             let plan = finished(Job { n: 1, bound, ..FIFO_PLAIN }, &table, &[], &mut pool);
             assert_eq!((plan.cost, plan.order()), (23, &[1][..]));
             assert_eq!(pool[0], Record { size: 1, set: 1, path: 23, bound: 23, first: 0, second: 0 });
-            assert_eq!(first_order(1, bound, &table).unwrap().cost, 23);
+            assert_eq!(first_order(1, bound, &table, &[]).unwrap().cost, 23);
         }
     }
 }
@@ -45,9 +45,9 @@ fn plain_of_table_t() {
 fn close_of_table_t() {
     let job = Job { bound: Bound::CloseAway, ..FIFO_PLAIN };
     let mut pool = [Record::default(); 3];
-    let Planned::Stopped(at_once) = plan_records(job, &T, &[], 0, &mut pool).unwrap() else { panic!() };
+    let Planned::Stopped(at_once) = plan_records(job, &T, &[], &[], 0, &mut pool).unwrap() else { panic!() };
     assert_eq!((at_once.floor, at_once.known, pool[0].bound), (7, None, 7));
-    let Planned::Stopped(after) = plan_records(job, &T, &[], 1, &mut pool).unwrap() else { panic!() };
+    let Planned::Stopped(after) = plan_records(job, &T, &[], &[], 1, &mut pool).unwrap() else { panic!() };
     assert_eq!((after.floor, pool.map(|record| record.bound)), (7, [7, 13, 16]));
     assert_eq!(pool.map(|record| record.path), [4, 7, 9]);
 }
@@ -58,7 +58,8 @@ fn a_starting_order_costs_its_path() {
     let job = Job { selection: Selection::Lifo, rules: Rules::UPPER_COST, bound: Bound::CloseAway, ..FIFO_PLAIN };
     let plan = finished(job, &T, &[1, 2, 3], &mut [Record::default(); 1]);
     assert_eq!((plan.cost, plan.counts.branched), (7, 0));
-    let Planned::Stopped(known) = plan_records(job, &T, &[1, 3, 2], 0, &mut [Record::default(); 1]).unwrap() else {
+    let Planned::Stopped(known) = plan_records(job, &T, &[1, 3, 2], &[], 0, &mut [Record::default(); 1]).unwrap()
+    else {
         panic!()
     };
     assert_eq!((known.known.unwrap().cost, known.floor, known.far_off()), (14, 7, Some(7)));
@@ -71,7 +72,7 @@ fn landings_at_the_stops() {
     for bound in AWAY {
         let plan = finished(Job { bound, ..FIFO_PLAIN }, &table, &[], &mut [Record::default(); 6]);
         assert_eq!((plan.cost, plan.order()), (7 + 60, &[1, 2, 3][..]));
-        assert_eq!(first_order(3, bound, &table).unwrap().cost, 7 + 60);
+        assert_eq!(first_order(3, bound, &table, &[]).unwrap().cost, 7 + 60);
     }
 }
 
@@ -88,7 +89,7 @@ fn another_order() {
     ] {
         let plan = finished(Job { n: 2, bound, ..FIFO_PLAIN }, &table, &[], &mut [Record::default(); 2]);
         assert_eq!((plan.cost, plan.order()), (cost, &order[..]), "{bound:?}");
-        let first = first_order(2, bound, &table).unwrap();
+        let first = first_order(2, bound, &table, &[]).unwrap();
         assert_eq!((first.cost, first.order()), (cost, &order[..]), "{bound:?}");
     }
 }
@@ -97,7 +98,7 @@ fn another_order() {
 #[test]
 fn the_dearest_day() {
     let table = charged(&level(16, DEAREST_LEG), &[DEAREST_CHARGE; 17]);
-    assert_eq!(first_order(16, Bound::PlainAway, &table).unwrap().cost, 17_600_000);
+    assert_eq!(first_order(16, Bound::PlainAway, &table, &[]).unwrap().cost, 17_600_000);
     let job = Job { n: 16, selection: Selection::LeastBoundLatest, bound: Bound::CloseAway, ..FIFO_PLAIN };
     let plan = finished(job, &table, &[], &mut [Record::default(); 121]);
     assert_eq!((plan.cost, plan.counts.branched), (17_600_000, 16));
@@ -125,7 +126,7 @@ fn where_check_4_comes() {
     for bound in [1 << 16, 1 << 31, u32::MAX] {
         assert_eq!(numbers(raw::Job { bound, ..CASE_A }, &T, &[1, 1, 3])[..3], [4; 3]);
         let zeros = raw::FirstOrder { number: 4, ..raw::FirstOrder::default() };
-        assert_eq!(raw::first_order(3, bound, &T), zeros);
+        assert_eq!(raw::first_order(3, bound, &T, &[]), zeros);
     }
 }
 

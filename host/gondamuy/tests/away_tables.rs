@@ -1,11 +1,11 @@
 //! What a day that ends away changes (request A.5), over random days of 1 to 6 stops under all choices, half of them
-//! with landing charges. The same library plans each of them twice:
+//! with landing charges and half of them with pairs (request A.6). The same library plans each of them twice:
 //!
 //! - with its flights home and with others: the same, to the last word of the pool, for 20,000 days, within a budget or
 //!   none, and for their first orders;
 //! - ending away and, where the flights home cost nothing, ending at home: the same again, for 20,000 days;
-//! - ending away and ending at home, for 10,000 days of up to 5 stops: each order is the cheapest of all n! by the costs
-//!   of its own day, and the one that ends away costs no more;
+//! - ending away and ending at home, for 10,000 days of up to 5 stops: each order is the cheapest of all that respect the
+//!   pairs by the costs of its own day, and the one that ends away costs no more;
 //! - by close and by plain, earliest and latest first, for 10,000 days: the same cost and no more work.
 
 mod common;
@@ -35,12 +35,12 @@ fn at_home(job: &Job) -> Job {
 /// The report, and the words of a pool of so many records.
 fn planned(job: &Job, budget: u64, records: usize) -> (Report, Vec<u32>) {
     let mut pool = vec![1; records * RECORD_WORDS];
-    let report = plan(choices(job), &job.table, &job.start, budget, &mut pool);
+    let report = plan(choices(job), &job.table, &job.start, &job.pairs, budget, &mut pool);
     (report, pool)
 }
 
 fn first(job: &Job) -> FirstOrder {
-    first_order(job.n, job.bound, &job.table)
+    first_order(job.n, job.bound, &job.table, &job.pairs)
 }
 
 /// How often each number was seen, and how many searches were stopped.
@@ -111,7 +111,7 @@ fn held_to_all_orders() {
         saved += (ending_away.cost < ending_home.cost) as u32;
         other_orders += (ending_away.order != ending_home.order) as u32;
     }
-    assert!(other_orders > 2_000 && saved > 5_000, "{other_orders} {saved}");
+    assert!(other_orders > 1_000 && saved > 5_000, "{other_orders} {saved}");
 }
 
 /// Two searches that both end away come out at one cost, and under FIFO and LIFO close is at least as close as plain.

@@ -1,19 +1,22 @@
 //! Best so far, and how far off (request A.3), through the wrapper: worked jobs, and what a stopped search may say,
-//! held to all n! orders: 6,000 jobs of 1 to 5 stops under all choices, half of them with landing charges (request A.4)
-//! and half of them for days that end away (request A.5), within every budget from 0 to one more than they need.
+//! held to all n! orders: 6,000 jobs of 1 to 5 stops under all choices, half of them with landing charges (request A.4),
+//! half of them for days that end away (request A.5) and half of them with pairs (request A.6), within every budget from
+//! 0 to one more than they need.
 
 mod common;
 
 use common::{choices, least_cost, order_cost, random_job};
 use gondamuy::raw::{self, Report};
-use gondamuy::{plan, plan_records, words, Bound, Counts, Job, Plan, Planned, Record, Refusal, Rules, Selection};
+use gondamuy::{
+    pairs_of, plan, plan_records, words, Bound, Counts, Job, Plan, Planned, Record, Refusal, Rules, Selection,
+};
 use gondamuy::{Stopped, NO_BUDGET, RECORD_WORDS};
-use samples::{Random, T};
+use samples::{respects, Random, T};
 
 const CASE_B: Job = Job { n: 3, selection: Selection::Fifo, rules: Rules::NONE, bound: Bound::Plain };
 
 fn stopped(job: Job, table: &[u32], start: &[u8], budget: u64, pool: &mut [Record]) -> Stopped {
-    plan_records(job, table, start, budget, pool).unwrap().finished().unwrap_err()
+    plan_records(job, table, start, &[], budget, pool).unwrap().finished().unwrap_err()
 }
 
 fn counts([branched, generated, eliminated, active, most]: [u64; 5]) -> Counts {
@@ -26,7 +29,10 @@ fn case_b_at_once() {
     let at_once = stopped(CASE_B, &T, &[], 0, &mut pool);
     assert_eq!(at_once, Stopped { floor: 0, known: None, counts: counts([0, 1, 0, 1, 1]) });
     assert_eq!((at_once.far_off(), pool), (None, [Record::default(); 6]));
-    assert_eq!(at_once.to_string(), "stopped by its budget of 0: no order costs less than 0, and no order is known");
+    assert_eq!(
+        at_once.to_string(),
+        "stopped by its budget of 0: no allowed order costs less than 0, and no order is known"
+    );
 }
 
 #[test]
@@ -40,7 +46,7 @@ fn case_b_after_five_branchings() {
     assert_eq!(pool[6], Record::default());
     assert_eq!(
         after.to_string(),
-        "stopped by its budget of 5: no order costs less than 8, and one that costs 13 is known"
+        "stopped by its budget of 5: no allowed order costs less than 8, and one that costs 13 is known"
     );
 }
 
@@ -51,7 +57,7 @@ fn case_b_to_its_finish() {
     let nearly = stopped(CASE_B, &T, &[], 9, &mut pool);
     assert_eq!((nearly.floor, nearly.far_off()), (13, Some(0)));
     for budget in [10, 11, NO_BUDGET] {
-        let plan = plan_records(CASE_B, &T, &[], budget, &mut pool).unwrap().finished().unwrap();
+        let plan = plan_records(CASE_B, &T, &[], &[], budget, &mut pool).unwrap().finished().unwrap();
         assert_eq!((plan.cost, plan.order()), (13, &[1, 2, 3][..]));
         assert_eq!(plan.counts, counts([10, 16, 0, 6, 6]));
     }
@@ -63,7 +69,7 @@ fn a_spent_budget_comes_before_a_full_pool() {
     let mut pool = [Record::default(); 5];
     assert_eq!(stopped(CASE_B, &T, &[], 3, &mut pool).counts, counts([3, 8, 0, 5, 5]));
     for budget in [4, 10, NO_BUDGET] {
-        let refused = plan_records(CASE_B, &T, &[], budget, &mut pool).unwrap_err();
+        let refused = plan_records(CASE_B, &T, &[], &[], budget, &mut pool).unwrap_err();
         assert_eq!((refused.refusal, refused.counts), (Refusal::Full, counts([3, 8, 0, 5, 5])));
     }
 }
@@ -83,7 +89,7 @@ fn a_free_order_is_known() {
 fn finished_at_once() {
     let mut pool = [Record::default(); 1];
     for budget in [0, 1, NO_BUDGET] {
-        let plan = plan_records(CASE_B, &[0; 16], &[2, 3, 1], budget, &mut pool).unwrap().finished().unwrap();
+        let plan = plan_records(CASE_B, &[0; 16], &[2, 3, 1], &[], budget, &mut pool).unwrap().finished().unwrap();
         assert_eq!((plan.cost, plan.order(), plan.counts), (0, &[2, 3, 1][..], counts([0, 1, 0, 1, 1])));
     }
 }
@@ -102,7 +108,7 @@ fn a_stopped_report_is_no_plan() {
     // No call has a floor above the cost, but anybody can make such a report up.
     let told = Report { floor: 9, ..told };
     assert_eq!(Planned::try_from(told).unwrap().finished().unwrap_err().far_off(), Some(0));
-    for number in 1..=7 {
+    for number in (1..=7).chain([11]) {
         let told = Report { number, ..Report::default() };
         assert!(!told.is_finished());
         assert_eq!(Planned::try_from(told).unwrap_err().refusal.number(), number);
@@ -128,10 +134,12 @@ struct Told {
     plan: Plan,
 }
 
-fn within_each_budget(job: Job, table: &[u32], start: &[u8], pool: &mut [u32]) -> Told {
+fn within_each_budget(text: &jobtext::Job, pool: &mut [u32]) -> Told {
+    let job = Job::try_from(choices(text)).unwrap();
+    let pairs = pairs_of(&text.pairs).unwrap();
     let mut stopped = Vec::new();
     for budget in 0.. {
-        match plan(job, table, start, budget, pool).unwrap() {
+        match plan(job, &text.table, &text.start, pairs, budget, pool).unwrap() {
             Planned::Stopped(answer) => stopped.push(answer),
             Planned::Finished(plan) => return Told { stopped, plan },
         }
@@ -150,7 +158,7 @@ struct Seen {
 /// The known order is one and costs no less than the cheapest, and it is off by no more than it costs above the floor.
 fn hold_known(text: &jobtext::Job, answer: &Stopped, least: u32, seen: &mut Seen) {
     let known = answer.known.unwrap();
-    assert!(is_order(known.order(), text.n), "{answer:?} {text:?}");
+    assert!(is_order(known.order(), text.n) && respects(&text.pairs, known.order()), "{answer:?} {text:?}");
     assert_eq!(order_cost(text, known.order()), known.cost, "{answer:?} {text:?}");
     assert!(least <= known.cost && known.cost - least <= answer.far_off().unwrap(), "{answer:?} {text:?}");
     seen.off += (known.cost > least) as u32;
@@ -187,15 +195,14 @@ fn held_to_all_orders() {
         let n = 1 + random.below(if round % 10 == 0 { 5 } else { 4 }) as usize;
         let most = random.pick(&[0, 1, 2, 9, 1_000, 1_000_000]);
         let text = random_job(&mut random, n, most);
-        let job = Job::try_from(choices(&text)).unwrap();
         let least = least_cost(&text);
         let mut pool = random.words(400 * RECORD_WORDS);
-        let Told { stopped, plan: found } = within_each_budget(job, &text.table, &text.start, &mut pool);
+        let Told { stopped, plan: found } = within_each_budget(&text, &mut pool);
         hold_stopped(&text, &stopped, least, &mut seen);
         assert_eq!((found.cost, found.counts.branched), (least, stopped.len() as u64), "{text:?}");
         for budget in [found.counts.branched + 1, NO_BUDGET] {
-            let without = plan(job, &text.table, &text.start, budget, &mut pool).unwrap();
-            assert_eq!(without, Planned::Finished(found), "{text:?}");
+            let report = raw::plan(choices(&text), &text.table, &text.start, &text.pairs, budget, &mut pool);
+            assert_eq!(Planned::try_from(report), Ok(Planned::Finished(found)), "{text:?}");
         }
     }
     assert!([seen.unknown, seen.off, seen.close].iter().all(|&k| k > 2_000), "{seen:?}");
@@ -210,10 +217,11 @@ fn the_floor_is_the_least_active_bound() {
         let n = 1 + random.below(6) as usize;
         let text = random_job(&mut random, n, 9);
         let job = Job::try_from(choices(&text)).unwrap();
+        let pairs = pairs_of(&text.pairs).unwrap();
         let mut pool = vec![Record::default(); 400];
         words(&mut pool).copy_from_slice(&random.words(400 * RECORD_WORDS));
         let budget = random.below(20);
-        let Ok(Planned::Stopped(answer)) = plan_records(job, &text.table, &text.start, budget, &mut pool) else {
+        let Ok(Planned::Stopped(answer)) = plan_records(job, &text.table, &text.start, pairs, budget, &mut pool) else {
             continue;
         };
         let active = &pool[..answer.counts.active as usize];

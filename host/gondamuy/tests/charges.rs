@@ -16,7 +16,7 @@ const FIFO_PLAIN: gondamuy::Job =
     gondamuy::Job { n: 3, selection: Selection::Fifo, rules: Rules::NONE, bound: Bound::Plain };
 
 fn finished(job: gondamuy::Job, table: &[u32], pool: &mut [Record]) -> Plan {
-    plan_records(job, table, &[], NO_BUDGET, pool).unwrap().finished().unwrap()
+    plan_records(job, table, &[], &[], NO_BUDGET, pool).unwrap().finished().unwrap()
 }
 
 /// 3 out and 20 for landing there, 5 back and 7 for landing at home.
@@ -29,7 +29,7 @@ fn one_stop() {
         assert_eq!((plan.cost, plan.order()), (35, &[1][..]));
         assert_eq!(pool[0], Record { size: 1, set: 1, path: 23, bound: 35, first: 0, second: 0 });
     }
-    assert_eq!(first_order(1, Bound::Plain, &table).unwrap().cost, 35);
+    assert_eq!(first_order(1, Bound::Plain, &table, &[]).unwrap().cost, 35);
 }
 
 /// The path costs of the nodes 1, 2 and 3 have their landings and not home's, which a whole order's bound has.
@@ -37,7 +37,7 @@ fn one_stop() {
 fn paths_pay_the_stops_alone() {
     let table = charged(&T, &CHARGES);
     let mut pool = [Record::default(); 6];
-    let Planned::Stopped(after) = plan_records(FIFO_PLAIN, &table, &[], 1, &mut pool).unwrap() else { panic!() };
+    let Planned::Stopped(after) = plan_records(FIFO_PLAIN, &table, &[], &[], 1, &mut pool).unwrap() else { panic!() };
     let costs = [0, 1, 2].map(|k| (pool[k].path, pool[k].bound));
     assert_eq!((after.floor, costs), (14, [(14, 14), (27, 27), (39, 39)]));
     let plan = finished(FIFO_PLAIN, &table, &mut pool);
@@ -52,9 +52,9 @@ fn close_bounds_pay_every_landing() {
     let table = charged(&T, &CHARGES);
     let job = gondamuy::Job { bound: Bound::Close, ..FIFO_PLAIN };
     let mut pool = [Record::default(); 3];
-    let Planned::Stopped(at_once) = plan_records(job, &table, &[], 0, &mut pool).unwrap() else { panic!() };
+    let Planned::Stopped(at_once) = plan_records(job, &table, &[], &[], 0, &mut pool).unwrap() else { panic!() };
     assert_eq!((at_once.floor, pool[0].path, pool[0].bound), (10 + LANDINGS, 0, 10 + LANDINGS));
-    let Planned::Stopped(after) = plan_records(job, &table, &[], 1, &mut pool).unwrap() else { panic!() };
+    let Planned::Stopped(after) = plan_records(job, &table, &[], &[], 1, &mut pool).unwrap() else { panic!() };
     assert_eq!(pool.map(|record| record.bound), [10, 18, 19].map(|bound| bound + LANDINGS));
     assert_eq!((after.floor, pool.map(|record| record.path)), (10 + LANDINGS, [14, 27, 39]));
 }
@@ -65,7 +65,7 @@ fn close_bounds_pay_every_landing() {
 fn the_nearest_stop_is_landed_at() {
     let legs = [0, 1, 2, 2, 0, 2, 2, 1, 0];
     for (charges, order) in [([0, 0, 0], [1, 2]), ([9, 1, 0], [1, 2]), ([0, 2, 0], [2, 1]), ([9, 3, 1], [2, 1])] {
-        let first = first_order(2, Bound::Plain, &charged(&legs, &charges)).unwrap();
+        let first = first_order(2, Bound::Plain, &charged(&legs, &charges), &[]).unwrap();
         assert_eq!((first.cost, first.order()), (5 + charges.iter().sum::<u32>(), &order[..]), "{charges:?}");
     }
 }
@@ -75,13 +75,13 @@ fn the_nearest_stop_is_landed_at() {
 #[test]
 fn the_dearest_day() {
     let table = charged(&level(16, DEAREST_LEG), &[DEAREST_CHARGE; 17]);
-    assert_eq!(first_order(16, Bound::Close, &table).unwrap().cost, 18_700_000);
+    assert_eq!(first_order(16, Bound::Close, &table, &[]).unwrap().cost, 18_700_000);
     let job = gondamuy::Job { n: 16, selection: Selection::LeastBoundLatest, bound: Bound::Close, ..FIFO_PLAIN };
     let mut pool = [Record::default(); 121];
     let plan = finished(job, &table, &mut pool);
     assert_eq!((plan.cost, plan.counts.branched), (18_700_000, 16));
     let job = gondamuy::Job { n: 16, selection: Selection::Lifo, ..FIFO_PLAIN };
-    let Planned::Stopped(after) = plan_records(job, &table, &[], 16, &mut pool).unwrap() else { panic!() };
+    let Planned::Stopped(after) = plan_records(job, &table, &[], &[], 16, &mut pool).unwrap() else { panic!() };
     assert_eq!((after.known.unwrap().cost, after.floor), (18_700_000, 1_100_000));
     assert_eq!(pool[120].path, 17_600_000);
 }
@@ -123,7 +123,7 @@ fn where_check_3_comes() {
         assert_eq!(numbers(CASE_A, &dear, &[1, 1, 3]), [3; 4]);
         for words in [0, 5] {
             let mut pool = [7; 5];
-            let report = raw::plan(CASE_A, &dear, &[], NO_BUDGET, &mut pool[..words]);
+            let report = raw::plan(CASE_A, &dear, &[], &[], NO_BUDGET, &mut pool[..words]);
             assert_eq!((report, pool), (raw::Report { number: 3, ..raw::Report::default() }, [7; 5]));
         }
         let mut buffer = [7; 20];

@@ -1,5 +1,6 @@
 //! What landing charges change (request A.4), over random days of 1 to 6 stops under all choices, half of which end away
-//! (request A.5), where home's charge is not paid. The same library plans each of them twice:
+//! (request A.5), where home's charge is not paid, and half of which have pairs (request A.6). The same library plans
+//! each of them twice:
 //!
 //! - with its charges and with them put into the legs: the same, to the last word of the pool, for 20,000 days, within
 //!   a budget or none, and for their first orders;
@@ -31,7 +32,7 @@ fn over(form: fn(usize, &[u32]) -> Vec<u32>, job: &Job) -> Job {
 /// The report, and the words of a pool of so many records.
 fn planned(job: &Job, budget: u64, records: usize) -> (Report, Vec<u32>) {
     let mut pool = vec![1; records * RECORD_WORDS];
-    let report = plan(choices(job), &job.table, &job.start, budget, &mut pool);
+    let report = plan(choices(job), &job.table, &job.start, &job.pairs, budget, &mut pool);
     (report, pool)
 }
 
@@ -54,7 +55,7 @@ fn charges_put_into_the_legs() {
         let (report, pool) = planned(&job, budget, records);
         let in_the_legs = over(folded, &job);
         assert_eq!((report, pool), planned(&in_the_legs, budget, records), "{job:?}");
-        let first = |job: &Job| first_order(job.n, job.bound, &job.table);
+        let first = |job: &Job| first_order(job.n, job.bound, &job.table, &job.pairs);
         assert_eq!(first(&job), first(&in_the_legs), "{job:?}");
         seen[report.number as usize] += 1;
         stopped += report.mark;
@@ -78,7 +79,7 @@ fn every_landing_is_paid_once() {
         assert!(with.is_finished() && without.is_finished(), "{job:?}");
         assert_eq!(with.cost, without.cost + landings(&job), "{job:?}");
         assert_eq!(with.cost, legs(&job, &with.order[..job.n as usize]) + landings(&job), "{job:?}");
-        let first = first_order(job.n, job.bound, &job.table);
+        let first = first_order(job.n, job.bound, &job.table, &job.pairs);
         assert_eq!(first.cost, legs(&job, &first.order[..job.n as usize]) + landings(&job), "{job:?}");
     }
 }
@@ -122,7 +123,8 @@ fn close_searches_take_the_same_steps() {
 #[test]
 fn plain_searches_may_take_others() {
     let found = |n: u32, table: &[u32]| {
-        let job = Job { n, table: table.to_vec(), selection: 0, rules: 1, bound: 0, start: Vec::new() };
+        let job =
+            Job { n, table: table.to_vec(), selection: 0, rules: 1, bound: 0, start: Vec::new(), pairs: Vec::new() };
         let (report, _) = planned(&job, NO_BUDGET, 10);
         (report.cost, report.order[..n as usize].to_vec(), report.branched)
     };

@@ -1,8 +1,9 @@
 //! The proved planner against the second planner: every field of the report and every word of the pool, over random
-//! jobs of many kinds, half of them with landing charges (request A.4) and half of them for days that end away (request
-//! A.5), without a starting order and with one, at times the first order of request A.1. Most are planned without a
-//! budget and, in the same pool, within one (request A.3), and then the two reports are held to each other as well;
-//! `large_jobs_within_a_budget` has those that are planned within one alone.
+//! jobs of many kinds, half of them with landing charges (request A.4), half of them for days that end away (request A.5)
+//! and half of them with pairs (request A.6), without a starting order and with one, at times the first order of request
+//! A.1. Most are planned without a budget and, in the same pool, within one (request A.3), and then the two reports are
+//! held to each other as well; `large_jobs_within_a_budget` has those that are planned within one alone. Test file
+//! `refusals` has the jobs that are refused before a search.
 
 mod common;
 
@@ -22,12 +23,12 @@ fn compare(job: &Job, budget: u64, pool: &[u32]) -> (Report, usize) {
     let mut most = 0;
     let with_branched = job.rules & 4 != 0;
     let contents = Contents::from(job);
-    let request = Request { budget, ..contents.request() };
+    let request = Request { pairs: &job.pairs, budget, ..contents.request() };
     let expected = plan_watched(&request, &mut theirs, &mut |state| {
         let branched = if with_branched { state.branched.len() } else { 0 };
         most = most.max(state.active.len() + branched);
     });
-    let report = plan(choices(job), &job.table, &job.start, budget, &mut ours);
+    let report = plan(choices(job), &job.table, &job.start, &job.pairs, budget, &mut ours);
     assert_eq!(report, told(&expected), "budget {budget}, {job:?}");
     assert!(ours == theirs, "the pools differ: budget {budget}, {job:?}");
     (report, most)
@@ -42,7 +43,7 @@ struct Both {
 }
 
 /// Plans both ways, and holds what the budget changes to what it may change: a search that ends by itself before it is
-/// spent, and every refusal 1 to 6, are the same; all others are stopped there, those that would fill the pool too.
+/// spent, and every refusal but 7, are the same; all others are stopped there, those that would fill the pool too.
 fn both(random: &mut Random, job: &Job, words: usize) -> Both {
     let pool = random.words(words);
     let (without, needed) = compare(job, NO_BUDGET, &pool);
@@ -123,9 +124,10 @@ fn up_to_sixteen_stops() {
             job.bound |= 1;
             // Small pools: such jobs end soon, with an order or full. Depth first
             // they need not, where the pool holds all that waits on the way down,
-            // unless the branched nodes are kept too.
+            // unless the branched nodes are kept too. With pairs fewer wait.
             let records = [1, 17, 40, 90, 200, 400][round];
-            if job.selection == 3 && n > 8 && 2 * records > n * (n - 1) {
+            let waiting = n * (n - 1) / if job.pairs.is_empty() { 2 } else { 4 };
+            if job.selection == 3 && n > 8 && records > waiting {
                 job.rules |= 4;
             }
             both(&mut random, &job, records * RECORD_WORDS);
@@ -162,61 +164,11 @@ fn pilots_of_twelve_stops() {
     for _ in 0..6 {
         let mut job = random_job(&mut random, 12, 1_000);
         (job.selection, job.rules, job.bound) = (3, 1, job.bound | 1);
-        for start in [nearest(12, &job.table), first_stops(12, job.bound, &job.table)] {
+        let own = if job.pairs.is_empty() { nearest(12, &job.table) } else { random.order_with(12, &job.pairs) };
+        for start in [own, first_stops(12, job.bound, &job.table, &job.pairs)] {
             job.start = start;
             let found = both(&mut random, &job, 120 * RECORD_WORDS);
             assert!(found.without.is_finished(), "{job:?}");
         }
     }
-}
-
-/// A leg or a charge too dear in a table of n stops, whatever length it has been given: in half of the cases the least
-/// charge that is, home's or a stop's.
-fn spoil_number(random: &mut Random, table: &mut [u32], n: usize) {
-    let charged: Vec<usize> = (0..=n).map(|place| place * (n + 2)).filter(|&at| at < table.len()).collect();
-    match random.below(2) {
-        0 => table[random.below(table.len() as u64) as usize] = random.pick(&[1_000_001, u32::MAX]),
-        _ => table[random.pick(&charged)] = 100_001,
-    }
-}
-
-/// Each cause by itself and several at once: the lowest number, whatever the budget, and the pool untouched.
-#[test]
-fn every_refusal() {
-    let mut random = Random(4);
-    let mut seen = [0; 8];
-    for _ in 0..10_000 {
-        let n = 1 + random.below(4) as usize;
-        let mut job = random_job(&mut random, n, 9);
-        let mut words = 60;
-        let faults = random.below(64);
-        if faults & 1 != 0 {
-            job.n = random.pick(&[0, 17, 18, u32::MAX]);
-        }
-        if faults & 2 != 0 {
-            let len = job.table.len();
-            job.table.resize(random.pick(&[0, 1, len - 1, len + 1]), 0);
-        }
-        if faults & 4 != 0 && !job.table.is_empty() {
-            spoil_number(&mut random, &mut job.table, n);
-        }
-        if faults & 8 != 0 {
-            match random.below(3) {
-                0 => job.selection = random.pick(&[4, u32::MAX]),
-                1 => job.rules = random.pick(&[16, u32::MAX]),
-                _ => job.bound = random.pick(&[4, 5, 6, 7, 256, u32::MAX]),
-            }
-        }
-        if faults & 16 != 0 {
-            job.start = (0..random.below(7)).map(|_| random.below(7) as u8).collect();
-        }
-        if faults & 32 != 0 {
-            words = random.pick(&[0, 1, 5, 7, 61]);
-        }
-        let found = both(&mut random, &job, words);
-        for report in [found.without, found.within] {
-            seen[report.number as usize] += 1;
-        }
-    }
-    assert!(seen.iter().all(|&k| k > 10), "{seen:?}");
 }

@@ -5,7 +5,7 @@ use std::fs;
 use std::path::Path;
 
 use gondamuy::{raw, Bound, Job, Refusal, Rules, Selection};
-use gondamuy::{DEAREST_CHARGE, DEAREST_LEG, MOST_STOPS, NO_BUDGET, RECORD_WORDS, VERSION};
+use gondamuy::{DEAREST_CHARGE, DEAREST_LEG, MOST_PAIRS, MOST_STOPS, NO_BUDGET, RECORD_WORDS, VERSION};
 
 /// The lines of a file, by its way from the wrapper's folder.
 fn lines(file: &str) -> Vec<String> {
@@ -37,6 +37,7 @@ fn the_same_numbers() {
         ("DEAREST_LEG", DEAREST_LEG),
         ("DEAREST_CHARGE", DEAREST_CHARGE),
         ("RECORD_WORDS", RECORD_WORDS as u32),
+        ("MOST_PAIRS", MOST_PAIRS as u32),
         ("SELECTION_LEAST_BOUND_EARLIEST", Selection::LeastBoundEarliest as u32),
         ("SELECTION_LEAST_BOUND_LATEST", Selection::LeastBoundLatest as u32),
         ("SELECTION_FIFO", Selection::Fifo as u32),
@@ -64,6 +65,7 @@ fn the_same_numbers() {
         ("REFUSED_SHORT_FILE", Refusal::ShortFile as u32),
         ("REFUSED_LAYOUT", Refusal::Layout as u32),
         ("REFUSED_SHORT_BUFFER", Refusal::ShortBuffer as u32),
+        ("REFUSED_PAIRS", Refusal::Pairs as u32),
     ];
     let told: HashMap<String, u32> = told.into_iter().map(|(name, number)| (name.to_string(), number)).collect();
     let found: HashMap<String, u32> = header().iter().filter_map(|line| named(line)).collect();
@@ -80,15 +82,16 @@ fn the_same_budget_for_none() {
     assert_eq!(found, [NO_BUDGET]);
 }
 
-/// What a refusal says stands in the line above its name.
+/// What a refusal says opens the comment above its name.
 #[test]
 fn the_same_words() {
     let header = header();
-    for number in 1..=10 {
+    for number in 1..=11 {
         let refusal = Refusal::of(number).unwrap();
         let is_it = |line: &String| named(line).is_some_and(|(name, k)| name.starts_with("REFUSED_") && k == number);
         let at = header.iter().position(is_it).unwrap();
-        assert!(header[at - 1].starts_with(&format!("/* {}.", refusal.words())), "{refusal}: {}", header[at - 1]);
+        let comment = header[..at].iter().rfind(|line| line.starts_with("/* ")).unwrap();
+        assert!(comment.starts_with(&format!("/* {}.", refusal.words())), "{refusal}: {comment}");
     }
 }
 

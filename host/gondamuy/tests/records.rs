@@ -28,11 +28,11 @@ fn the_fields_are_the_words() {
     }
 }
 
-/// Every choice, jobs that finish, that a budget stops, that fill the pool and that are refused.
+/// Every choice, with pairs and without, jobs that finish, that a budget stops, that fill the pool and that are refused.
 #[test]
 fn the_same_plan_over_both_views() {
     let mut random = Random(12);
-    let mut seen = [0; 8];
+    let mut seen = [0; 12];
     let mut stopped = 0;
     for _ in 0..20_000 {
         let n = 1 + random.below(5) as usize;
@@ -50,20 +50,22 @@ fn the_same_plan_over_both_views() {
         let stops = random.pick(&[n as u32, n as u32, n as u32, n as u32, n as u32, n as u32, 0, 17]);
         let choices = [random.below(4), random.below(16), random.below(4) + random.below(20) / 19 * 4];
         let [selection, rules, bound] = choices.map(|k| k as u32);
-        let order = random.order(n);
+        let pairs = random.maybe_paired(n);
+        let order = random.order_with(n, &pairs);
         let start = random.pick(&[Vec::new(), order, vec![1, 1]]);
+        let pairs = if random.below(20) == 0 { random.bad_pairs(n) } else { pairs };
         let job = Job { n: stops, selection, rules, bound };
         let capacity = random.pick(&[0, 1, 2, 5, 40, 400, 400, 400]);
         let mut flat = random.words(capacity * RECORD_WORDS);
         let mut pool = records(&flat);
         let budget = random.pick(&[0, 3, 20, NO_BUDGET, NO_BUDGET, NO_BUDGET]);
-        let of_words = plan(job, &table, &start, budget, &mut flat);
-        let of_records = plan_records(job, &table, &start, budget, &mut pool);
+        let of_words = plan(job, &table, &start, &pairs, budget, &mut flat);
+        let of_records = plan_records(job, &table, &start, &pairs, budget, &mut pool);
         assert_eq!(of_words, of_records);
         assert_eq!(flat, words(&mut pool));
         assert_eq!(pool, records(&flat));
         seen[of_records.number as usize] += 1;
         stopped += of_records.mark;
     }
-    assert!(seen.iter().all(|&k| k > 100) && stopped > 1_000, "{seen:?} {stopped}");
+    assert!([0, 1, 2, 3, 4, 5, 6, 7, 11].iter().all(|&k| seen[k] > 100) && stopped > 1_000, "{seen:?} {stopped}");
 }

@@ -1,4 +1,4 @@
-//! The worked calls of host/vectors, for document 01 with requests A.1 to A.5: every field of the answers and, by its
+//! The worked calls of host/vectors, for document 01 with requests A.1 to A.6: every field of the answers and, by its
 //! hash, every word of the pool. `.ci/jobs` holds the program `plan` to the files.
 
 use gondamuy::raw::{first_order, plan, read, FirstOrder, Job, Report};
@@ -10,7 +10,7 @@ use vectors::{fnv1a, Run};
 fn worked_first_orders() {
     for call in vectors::first() {
         let told = FirstOrder { number: call.number, cost: call.cost, order: call.order };
-        assert_eq!(first_order(call.n, call.bound, &call.table), told, "{call:?}");
+        assert_eq!(first_order(call.n, call.bound, &call.table, &call.pairs), told, "{call:?}");
     }
 }
 
@@ -23,7 +23,8 @@ fn worked_runs() {
         let told = Report { number, mark, cost, floor, order, branched, generated, eliminated, active, most };
         let mut pool = call.pool();
         let job = Job { n, selection, rules, bound };
-        assert_eq!(plan(job, &call.table, &call.start, call.budget, &mut pool), told, "{call:?}");
+        let report = plan(job, &call.table, &call.start, &call.pairs, call.budget, &mut pool);
+        assert_eq!(report, told, "{call:?}");
         assert_eq!(fnv1a(&pool), call.words, "{call:?}");
     }
 }
@@ -39,7 +40,7 @@ fn printed(input: &[u8]) -> String {
         return refused(reading.number);
     }
     let mut pool = vec![0; 2_000 * RECORD_WORDS];
-    let report = plan(reading.job, reading.table(), reading.start(), NO_BUDGET, &mut pool);
+    let report = plan(reading.job, reading.table(), reading.start(), &[], NO_BUDGET, &mut pool);
     if !report.is_finished() {
         return refused(report.number);
     }

@@ -10,7 +10,7 @@ fn parsed(text: &str) -> Job {
 
 /// A day of one stop with home's charge, the stop's, and this bound.
 fn job(home: u32, stop: u32, bound: u32) -> Job {
-    Job { n: 1, table: vec![home, 3, 4, stop], selection: 3, rules: 1, bound, start: Vec::new() }
+    Job { n: 1, table: vec![home, 3, 4, stop], selection: 3, rules: 1, bound, start: Vec::new(), pairs: Vec::new() }
 }
 
 #[test]

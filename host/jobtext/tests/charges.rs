@@ -8,7 +8,7 @@ const LINES: [&str; 8] =
 fn job(charges: [u32; 3]) -> Job {
     let [home, first, second] = charges;
     let table = vec![home, 3, 4, 5, first, 6, 7, 8, second];
-    Job { n: 2, table, selection: 0, rules: 0, bound: 0, start: Vec::new() }
+    Job { n: 2, table, selection: 0, rules: 0, bound: 0, start: Vec::new(), pairs: Vec::new() }
 }
 
 /// The lines, and one more in front.

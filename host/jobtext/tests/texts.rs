@@ -15,7 +15,15 @@ const LINES: [&str; 9] = [
 ];
 
 fn job() -> Job {
-    Job { n: 2, table: vec![0, 3, 4, 5, 0, 6, 7, 8, 0], selection: 0, rules: 6, bound: 0, start: Vec::new() }
+    Job {
+        n: 2,
+        table: vec![0, 3, 4, 5, 0, 6, 7, 8, 0],
+        selection: 0,
+        rules: 6,
+        bound: 0,
+        start: Vec::new(),
+        pairs: Vec::new(),
+    }
 }
 
 /// The lines with one of them replaced, counted from 1.
@@ -78,13 +86,13 @@ fn faults_name_their_lines() {
     assert_eq!(fault(&with(2, "stops")), "line 2: the number of stops is one number");
     assert_eq!(
         fault(&with(2, "stop 2")),
-        "line 2: `stop` is none of stops, table, charges, selection, rules, bound, start"
+        "line 2: `stop` is none of stops, table, charges, pairs, selection, rules, bound, start"
     );
     assert_eq!(fault(&with(1, "stops 2")), "line 2: `stops` stands on line 1 already");
     assert_eq!(fault(&with(3, "table 0 3 4")), "line 3: the table's rows begin on the line behind `table`");
     assert_eq!(
         fault(&with(1, "0 3 4")),
-        "line 1: `0` is none of stops, table, charges, selection, rules, bound, start"
+        "line 1: `0` is none of stops, table, charges, pairs, selection, rules, bound, start"
     );
     assert_eq!(fault(&with(5, "5 0")), "line 5: a row of 2 entries, and 2 stops have 3");
     assert_eq!(fault(&with(6, "")), "line 3: a table of 2 rows, and 2 stops have 3");
@@ -128,7 +136,7 @@ fn no_other_line_between_the_rows() {
     assert_eq!(parsed(&with(5, "\n5 0 6 # from the first stop\n# the second\n")), job());
     assert_eq!(
         fault(&with(5, "5 0 6\nstart 2 1")),
-        "line 7: `7` is none of stops, table, charges, selection, rules, bound, start"
+        "line 7: `7` is none of stops, table, charges, pairs, selection, rules, bound, start"
     );
 }
 

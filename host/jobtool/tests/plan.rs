@@ -2,7 +2,7 @@
 
 mod common;
 
-use common::{bytes, ends_away, landings_of, run, string, ENDS_AWAY, NAMES};
+use common::{bytes, ends_away, landings_of, pairs_of, run, string, with_pairs, ENDS_AWAY, NAMES};
 use jobtext::{parse, Job};
 use witness::job_file::Contents;
 use witness::{Report, Request, LARGEST_BUDGET, WORDS};
@@ -121,7 +121,7 @@ fn a_zero_byte_makes_a_job_file() {
 fn told(name: &str, budget: u64) -> (Report, Job) {
     let job = parse(&string(name, "txt")).unwrap().job;
     let contents = Contents::from(&job);
-    let request = Request { budget, ..contents.request() };
+    let request = Request { pairs: &job.pairs, budget, ..contents.request() };
     (witness::plan(&request, &mut vec![0; 2_000 * WORDS]), job)
 }
 
@@ -134,15 +134,20 @@ fn samples() {
             let landings = landings_of(&job);
             let number = budget.to_string();
             let words = if budget == LARGEST_BUDGET { vec![] } else { vec!["budget", &number] };
-            let said = plan(&words, &bytes(name, "job"));
+            let pair_file = with_pairs(name);
+            let with: Vec<&str> = pair_file.iter().map(String::as_str).chain(words.iter().copied()).collect();
+            let said = plan(&with, &bytes(name, "job"));
             assert_eq!(plan(&words, &bytes(name, "txt")), said, "{name} {budget}");
             let stops: String = report.order[..job.n as usize].iter().map(|stop| format!(" {stop}")).collect();
             let Report { cost, floor, branched, .. } = report;
+            let orders = if job.pairs.is_empty() { "order" } else { "order that respects the pairs" };
             let begins = match (report.number, report.mark) {
                 (0, 0) => {
-                    format!("finished after {branched} branchings\na cheapest order costs {cost}{landings}:{stops}\n")
+                    format!(
+                        "finished after {branched} branchings\na cheapest {orders} costs {cost}{landings}:{stops}\n"
+                    )
                 }
-                (0, _) => format!(": the budget is spent\nno order costs less than {floor}\n"),
+                (0, _) => format!(": the budget is spent\nno {orders} costs less than {floor}\n"),
                 _ => format!("refused {}", report.number),
             };
             let text = match report.number {
@@ -157,7 +162,8 @@ fn samples() {
                 "branched {branched}, generated {generated}, eliminated {eliminated}, active {active}, most {most}\n"
             );
             let end = if ends_away(&job) { ENDS_AWAY } else { "" };
-            assert!(text.ends_with(&format!("\n{end}{counts}")), "{name} {budget}: {text}");
+            let pairs = if report.number == 0 { pairs_of(&job) } else { String::new() };
+            assert!(text.ends_with(&format!("\n{pairs}{end}{counts}")), "{name} {budget}: {text}");
             assert_eq!(text.contains(ENDS_AWAY), !end.is_empty(), "{name} {budget}: {text}");
         }
     }
@@ -171,9 +177,11 @@ fn arguments() {
         (&["records", "6", "budget"], "`budget` without its number\n"),
         (&["budget", "5", "budget", "5"], "`budget` twice\n"),
         (&["records", "6", "budget", "5", "records", "6"], "`records` twice\n"),
-        (&["5"], "`5` in the place of `budget` or `records`\n"),
-        (&["pool", "6"], "`pool` in the place of `budget` or `records`\n"),
-        (&["budget", "5", "6"], "`6` in the place of `budget` or `records`\n"),
+        (&["pairs"], "`pairs` without its file\n"),
+        (&["pairs", "day.pairs", "pairs", "day.pairs"], "`pairs` twice\n"),
+        (&["5"], "`5` in the place of `budget`, `records` or `pairs`\n"),
+        (&["pool", "6"], "`pool` in the place of `budget`, `records` or `pairs`\n"),
+        (&["budget", "5", "6"], "`6` in the place of `budget`, `records` or `pairs`\n"),
     ];
     for (words, fault) in told {
         assert_eq!(plan(words, b"").unwrap_err(), fault, "{words:?}");

@@ -6,25 +6,30 @@ mod common;
 
 use std::fs;
 
-use common::{bytes, folder, string, NAMES};
+use common::{bytes, folder, string, NAMES, PAIRED};
 use gondamuy::raw::{self, plan, read, write};
 use gondamuy::{LONGEST_FILE, NO_BUDGET, RECORD_WORDS};
 use jobtext::{parse, Job};
 
+fn of_text(name: &str) -> Job {
+    parse(&string(name, "txt")).map_err(|fault| fault.to_string()).unwrap().job
+}
+
 /// The job of the text, its table and its starting order.
 fn job(name: &str) -> (raw::Job, Vec<u32>, Vec<u8>) {
-    let Job { n, table, selection, rules, bound, start } =
-        parse(&string(name, "txt")).map_err(|fault| fault.to_string()).unwrap().job;
+    let Job { n, table, selection, rules, bound, start, .. } = of_text(name);
     (raw::Job { n, selection, rules, bound }, table, start)
 }
 
+/// Three for each, and a fourth with its pairs.
 #[test]
-fn three_files_for_each() {
+fn files_for_each() {
     let mut found: Vec<String> =
         fs::read_dir(folder()).unwrap().map(|entry| entry.unwrap().file_name().into_string().unwrap()).collect();
     found.sort();
     let mut told: Vec<String> =
         NAMES.iter().flat_map(|name| ["expected", "job", "txt"].map(|kind| format!("{name}.{kind}"))).collect();
+    told.extend(PAIRED.iter().map(|name| format!("{name}.pairs")));
     told.sort();
     assert_eq!(found, told);
 }
@@ -42,13 +47,24 @@ fn text_and_file_agree() {
     }
 }
 
+/// A text with pairs has a pair file, and no other has one.
+#[test]
+fn text_and_pair_file_agree() {
+    for name in NAMES {
+        let pairs = if PAIRED.contains(&name) { bytes(name, "pairs") } else { Vec::new() };
+        assert_eq!(of_text(name).pairs, pairs, "{name}");
+        assert_eq!(pairs.is_empty(), !PAIRED.contains(&name), "{name}");
+    }
+}
+
+/// What the program prints, which plans without pairs.
 #[test]
 fn both_planners_give_what_is_expected() {
     for name in NAMES {
         let expected = string(name, "expected");
         assert_eq!(witness::program::output(&bytes(name, "job")), expected, "{name}");
         let (job, table, start) = job(name);
-        let report = plan(job, &table, &start, NO_BUDGET, &mut vec![0; 2_000 * RECORD_WORDS]);
+        let report = plan(job, &table, &start, &[], NO_BUDGET, &mut vec![0; 2_000 * RECORD_WORDS]);
         let first = match report.is_finished() {
             true => format!("cost {}", report.cost),
             false => format!("refused {}", report.number),
@@ -71,5 +87,6 @@ fn choices_of_each() {
     assert_eq!(choices("office-full"), (16, 0, 15, 1, 0));
     assert_eq!(choices("strips"), (11, 3, 1, 1, 11));
     assert_eq!(choices("camps"), (10, 3, 1, 3, 10));
+    assert_eq!(choices("taxi"), (12, 3, 1, 1, 12));
     assert_eq!(string("office-full", "expected"), "refused 7\n");
 }

@@ -2,7 +2,7 @@
 
 mod common;
 
-use common::{ends_away, landings_of, run, string, ENDS_AWAY, NAMES};
+use common::{ends_away, landings_of, pairs_of, run, string, ENDS_AWAY, NAMES};
 use jobtext::{parse, Job};
 
 const TEXT: &str = "stops 2\ntable\n0 3 4\n5 0 6\n7 8 0\nselection LIFO\nrules U/DBAS DB/AS\nbound close\nstart 2 1\n";
@@ -84,12 +84,14 @@ fn first_orders_of_the_samples() {
     for name in NAMES {
         let text = string(name, "txt");
         let job = parse(&text).unwrap().job;
-        let told = witness::first_order(job.n.into(), job.bound.into(), &job.table);
+        let told = witness::first_order(job.n.into(), job.bound.into(), &job.table, &job.pairs);
         let stops = &told.order[..job.n as usize];
         let line: String = stops.iter().map(|stop| format!(" {stop}")).collect();
         let landings = landings_of(&job);
-        let end = if ends_away(&job) { format!("first: {ENDS_AWAY}") } else { String::new() };
-        let lines = format!("first cost {}{landings}\nfirst order{line}\n{end}", told.cost);
+        let end = if ends_away(&job) { ENDS_AWAY.to_string() } else { String::new() };
+        let day: String =
+            [pairs_of(&job), end].iter().filter(|l| !l.is_empty()).map(|l| format!("first: {l}")).collect();
+        let lines = format!("first cost {}{landings}\nfirst order{line}\n{day}", told.cost);
         assert_eq!(first(&[], &text).unwrap(), lines, "{name}");
         let started = first(&["start"], &text).unwrap();
         let start = stops.iter().map(|&stop| stop as u8).collect();
@@ -127,8 +129,8 @@ fn refused_files() {
 #[test]
 fn numbers_in_words() {
     assert_eq!(run(&["refusal", "7"], b"").unwrap(), b"7: the pool is full\n");
-    assert_eq!(run(&["refusal", "11"], b"").unwrap(), b"11: no such number\n");
-    let words = [&["refusal"][..], &["first", "order"], &["read"], &[]];
+    assert_eq!(run(&["refusal", "12"], b"").unwrap(), b"12: no such number\n");
+    let words = [&["refusal"][..], &["first", "order"], &["read"], &["write", "pairs"], &["show", "pairs"], &[]];
     let numbers = ["x", "+7", "-7", "7.0", "4294967296", ""].map(|word| ["refusal", word]);
     for arguments in numbers.iter().map(|pair| &pair[..]).chain(words) {
         assert!(run(arguments, b"").unwrap_err().starts_with("jobtool write"), "{arguments:?}");

@@ -1,12 +1,15 @@
 //! What the tests and the bench try planners on: a fixed generator with the
 //! tables and orders drawn from it, and some that need none. Module `charges`
-//! has landing charges on the tables' diagonals, module `away` flights home.
+//! has landing charges on the tables' diagonals, module `away` flights home,
+//! module `pairs` pick-ups and drops.
 
 mod away;
 mod charges;
+mod pairs;
 
 pub use away::free_flights_home;
 pub use charges::{charged, charges, folded, uncharged};
+pub use pairs::respects;
 
 /// Document 01's table T, of three stops.
 pub const T: [u32; 16] = [0, 4, 7, 9, 5, 0, 2, 6, 3, 8, 0, 1, 6, 5, 4, 0];

@@ -8,6 +8,10 @@ const TEXT: &str = "stops 3\ntable\n0 4 7 9\n5 0 2 6\n3 8 0 1\n6 5 4 0\nselectio
 
 /// What it writes, or what it complains of with a status of failure.
 fn run(arguments: &str) -> Result<String, String> {
+    run_on(TEXT, arguments)
+}
+
+fn run_on(text: &str, arguments: &str) -> Result<String, String> {
     let mut command = Command::new(env!("CARGO_BIN_EXE_witness"))
         .args(arguments.split_whitespace())
         .stdin(Stdio::piped())
@@ -16,14 +20,14 @@ fn run(arguments: &str) -> Result<String, String> {
         .spawn()
         .unwrap();
     // Faulty arguments end it before it reads.
-    let _ = command.stdin.take().unwrap().write_all(TEXT.as_bytes());
+    let _ = command.stdin.take().unwrap().write_all(text.as_bytes());
     let output = command.wait_with_output().unwrap();
-    let text = |bytes| String::from_utf8(bytes).unwrap();
+    let told = |bytes| String::from_utf8(bytes).unwrap();
     if output.status.success() {
-        return Ok(text(output.stdout));
+        return Ok(told(output.stdout));
     }
     assert!(output.stdout.is_empty());
-    Err(text(output.stderr))
+    Err(told(output.stderr))
 }
 
 fn lines(front: [u32; 4], stops: &str, counts: [u64; 5], pool: &str) -> String {
@@ -58,6 +62,15 @@ fn pairs() {
     assert_eq!(run("1 pairs 2"), Ok(lines([11, 0, 0, 0], NO_STOPS, [0; 5], "0 0 0 0 0 0\n")));
     assert!(run("3 pairs 2 1").unwrap().starts_with("number 0\nmark 0\ncost 18\nfloor 0\norder 2 3 1 0"));
     assert_eq!((run("6 pairs"), run("6 pairs budget 5 trace")), (run("6"), run("6 budget 5 trace")));
+}
+
+/// A text's own pairs are taken where the command line has none, and others there take their place.
+#[test]
+fn pairs_of_the_text() {
+    let text = format!("{TEXT}pairs 2 1\n");
+    assert_eq!(run_on(&text, "3"), run("3 pairs 2 1"));
+    assert_eq!(run_on(&text, "3 pairs 3 2"), run("3 pairs 3 2"));
+    assert_eq!(run_on(&text, "6 pairs"), run("6"));
 }
 
 /// A trace has the start and as many steps as there are branchings.

@@ -5,14 +5,13 @@
 
 mod common;
 
-use common::paired::{order_with, some_pairs};
 use common::{away_choices, choices, for_each_table, table_of_kind, Job};
 use samples::Random;
 use witness::{Report, LARGEST_BUDGET, STOPPED};
 
 /// Two orders, the cheaper one first.
 fn two_orders(random: &mut Random, job: &Job) -> (Vec<u32>, Vec<u32>) {
-    let [x, y] = [0, 1].map(|_| order_with(random, job.n, &job.pairs));
+    let [x, y] = [0, 1].map(|_| random.order_with(job.n, &job.pairs));
     if job.cost(&x) <= job.cost(&y) {
         (x, y)
     } else {
@@ -24,7 +23,7 @@ fn two_orders(random: &mut Random, job: &Job) -> (Vec<u32>, Vec<u32>) {
 fn maybe_pairs(random: &mut Random, n: usize) -> Vec<u8> {
     match random.below(2) {
         0 => Vec::new(),
-        _ => some_pairs(random, n),
+        _ => random.some_pairs(n),
     }
 }
 
@@ -90,7 +89,7 @@ fn finish_both(random: &mut Random, n: usize, table: &[u32]) -> u32 {
     let mut finished = Vec::new();
     for _ in 0..2 {
         let choice = random.pick(&choices);
-        let start = if random.below(2) == 0 { Vec::new() } else { order_with(random, n, &pairs) };
+        let start = if random.below(2) == 0 { Vec::new() } else { random.order_with(n, &pairs) };
         let job = Job::new(n, table, choice, &start).paired(&pairs).within(random.below(40));
         let (report, _) = job.run(1 + random.below(40) as usize);
         finished.extend((report.number == 0 && report.mark == 0).then_some(report.cost));
@@ -150,8 +149,8 @@ fn other_pairs_are_not_compared() {
     let (mut costs, mut counts) = (0, 0);
     for_each_table(&mut Random(30), 4, 20, |random, table| {
         let (a, b) = pair(random, 4, table);
-        let pairs = some_pairs(random, 4);
-        let a = Job { start: order_with(random, 4, &pairs), ..a.paired(&pairs) };
+        let pairs = random.some_pairs(4);
+        let a = Job { start: random.order_with(4, &pairs), ..a.paired(&pairs) };
         let (of_a, of_b) = (a.run(65).0, b.run(65).0);
         costs += (of_a.cost != of_b.cost) as u32;
         counts += (of_a.branched > of_b.branched) as u32;

@@ -4,7 +4,7 @@
 mod common;
 
 use common::course::course;
-use common::paired::{all_choices, pairs_of, some_pairs};
+use common::paired::all_choices;
 use common::{ample, for_each_table, Job};
 use samples::{folded, nearest, Random};
 use witness::{first_order, FirstOrder};
@@ -136,7 +136,7 @@ fn days_with_pairs() {
     for n in 1..=16 {
         for_each_table(&mut random, n, 8, |random, table| {
             for table in [table, &few_free(random, n)] {
-                for pairs in [pairs_of(random, n, 0), pairs_of(random, n, n / 2), some_pairs(random, n)] {
+                for pairs in [random.pairs(n, 0), random.pairs(n, n / 2), random.some_pairs(n)] {
                     let bound = random.below(4);
                     check_first_order(&Job { bound, ..over(n, table) }.paired(&pairs));
                 }
@@ -154,7 +154,7 @@ fn pairs_matter() {
     let mut random = Random(58);
     let (mut turned, mut forbidden, mut exchanged) = (0, 0, 0);
     for_each_table(&mut random, 5, 100, |random, table| {
-        let job = over(5, table).paired(&some_pairs(random, 5));
+        let job = over(5, table).paired(&random.some_pairs(5));
         let (near, first) = (nearest_stops(&job), first(&job));
         turned += (near != nearest_of_all(&job)) as u32;
         exchanged += (!job.pairs.is_empty() && job.cost(&near) > first.cost) as u32;

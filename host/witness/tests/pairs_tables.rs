@@ -3,7 +3,7 @@
 
 mod common;
 
-use common::paired::{all_choices, for_each_paired_job, order_with, pairs_of, some_pairs};
+use common::paired::{all_choices, for_each_paired_job};
 use common::{ample, check_finished, for_each_table, table_of_kind, Job};
 use samples::{Random, KINDS};
 use witness::legs::Legs;
@@ -38,8 +38,8 @@ fn enumeration_of_six_stops() {
     let mut random = Random(133);
     for (i, choice) in all_choices().into_iter().enumerate() {
         let table = table_of_kind(&mut random, 6, i % KINDS.len());
-        let pairs = pairs_of(&mut random, 6, 1 + i % 3);
-        for start in [Vec::new(), order_with(&mut random, 6, &pairs)] {
+        let pairs = random.pairs(6, 1 + i % 3);
+        for start in [Vec::new(), random.order_with(6, &pairs)] {
             check_least(&Job::new(6, &table, choice, &start).paired(&pairs));
         }
     }
@@ -67,7 +67,7 @@ fn every_node_has_a_child() {
         for_each_table(&mut Random(134), n, 3, |random, table| {
             let all: usize = (1..=n).product();
             for count in 0..=n / 2 {
-                let file = pairs_of(random, n, count);
+                let file = random.pairs(n, count);
                 let (legs, pairs) = (Legs::new(n, table), Pairs::read(n, &file).unwrap());
                 let orders = Job::new(n, table, [0, 0, 0], &[]).paired(&file).orders();
                 assert_eq!(orders.len(), all >> count, "{file:?}");
@@ -96,8 +96,8 @@ fn every_branching_makes_a_child() {
 fn some_job(random: &mut Random, n: usize) -> Job {
     let kind = random.below(KINDS.len() as u64) as usize;
     let table = table_of_kind(random, n, kind);
-    let pairs = some_pairs(random, n);
-    let start = if random.below(2) == 0 { Vec::new() } else { order_with(random, n, &pairs) };
+    let pairs = random.some_pairs(n);
+    let start = if random.below(2) == 0 { Vec::new() } else { random.order_with(n, &pairs) };
     Job::new(n, &table, random.pick(&all_choices()), &start).paired(&pairs)
 }
 

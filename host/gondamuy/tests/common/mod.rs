@@ -3,7 +3,7 @@
 
 use gondamuy::{raw, LONGEST_FILE, NO_BUDGET};
 use jobtext::Job;
-use samples::Random;
+use samples::{respects, Random};
 use witness::enumerate::all_orders;
 
 /// The numbers of a job as the calls take them.
@@ -23,13 +23,14 @@ pub fn bytes(job: &Job) -> Vec<u8> {
     file
 }
 
-/// What each call says of a job of few stops: `plan`, `first_order`, `write`, and `read` of its file.
+/// What each call says of a job of few stops without pairs: `plan`, `first_order`, `write`, and `read` of its file.
 pub fn numbers(job: raw::Job, table: &[u32], start: &[u8]) -> [u32; 4] {
     let raw::Job { n, selection, rules, bound } = job;
-    let file = bytes(&Job { n, table: table.to_vec(), selection, rules, bound, start: start.to_vec() });
-    let planned = raw::plan(job, table, start, NO_BUDGET, &mut [0; 600]).number;
+    let (table_of, start_of) = (table.to_vec(), start.to_vec());
+    let file = bytes(&Job { n, table: table_of, selection, rules, bound, start: start_of, pairs: Vec::new() });
+    let planned = raw::plan(job, table, start, &[], NO_BUDGET, &mut [0; 600]).number;
     let written = raw::write(job, table, start, &mut [0; LONGEST_FILE]).number;
-    [planned, raw::first_order(n, bound, table).number, written, raw::read(&file).number]
+    [planned, raw::first_order(n, bound, table, &[]).number, written, raw::read(&file).number]
 }
 
 /// What the second planner reports, field by field as the library does.
@@ -52,23 +53,25 @@ pub fn some_budget(random: &mut Random, own: u64) -> u64 {
     }
 }
 
-/// The first order of n stops, as `plan` takes a starting order.
-pub fn first_stops(n: usize, bound: u32, table: &[u32]) -> Vec<u8> {
-    raw::first_order(n as u32, bound, table).order[..n].to_vec()
+/// The first order of n stops, as `plan` with the same pairs takes a starting order.
+pub fn first_stops(n: usize, bound: u32, table: &[u32], pairs: &[u8]) -> Vec<u8> {
+    raw::first_order(n as u32, bound, table, pairs).order[..n].to_vec()
 }
 
 /// A job of n stops that every check lets pass: in half of the cases with landing charges, in half of them for a day
-/// that ends away, and in half of them from the first order, else from none or from any.
+/// that ends away, in half of them with pairs, and in half of them from the first order, else from none or from any that
+/// respects the pairs.
 pub fn random_job(random: &mut Random, n: usize, most: u32) -> Job {
     let table = random.table(n, 0, most);
     let table = random.maybe_charged(n, table);
     let bound = random.below(4) as u32;
+    let pairs = random.maybe_paired(n);
     let start = match random.below(4) {
         0 => Vec::new(),
-        1 => random.order(n),
-        _ => first_stops(n, bound, &table),
+        1 => random.order_with(n, &pairs),
+        _ => first_stops(n, bound, &table, &pairs),
     };
-    Job { n: n as u32, table, selection: random.below(4) as u32, rules: random.below(16) as u32, bound, start }
+    Job { n: n as u32, table, selection: random.below(4) as u32, rules: random.below(16) as u32, bound, start, pairs }
 }
 
 /// What an order costs on the job's day, by the table alone: its legs with their landings, and the flight home only
@@ -80,10 +83,11 @@ pub fn order_cost(job: &Job, order: &[u8]) -> u32 {
     places.windows(2).map(|pair| job.table[pair[0] * side + pair[1]] + job.table[pair[1] * (side + 1)]).sum()
 }
 
-/// The least that one of all n! orders costs.
+/// The least that one of all n! orders costs, of those that respect the pairs.
 pub fn least_cost(job: &Job) -> u32 {
     let stops = |order: Vec<usize>| order.into_iter().map(|stop| stop as u8).collect::<Vec<u8>>();
-    all_orders(job.n as usize).into_iter().map(|order| order_cost(job, &stops(order))).min().unwrap()
+    let allowed = all_orders(job.n as usize).into_iter().map(stops).filter(|order| respects(&job.pairs, order));
+    allowed.map(|order| order_cost(job, &order)).min().unwrap()
 }
 
 /// As `random_job`, over 1 to 16 stops and legs of every size.
@@ -132,6 +136,19 @@ pub fn spoil_table(random: &mut Random, job: &mut Job) {
     }
 }
 
+/// Those of numbers 1 to 3 that are among some causes. What else is to be spoilt goes first, as it looks at n.
+pub fn spoil_day(random: &mut Random, job: &mut Job, causes: &[u32]) {
+    if causes.contains(&3) {
+        spoil_table(random, job);
+    }
+    if causes.contains(&2) {
+        spoil_length(random, job);
+    }
+    if causes.contains(&1) {
+        spoil_stops(random, job);
+    }
+}
+
 /// Number 4: a selection, rules or a bound that are not known; `more` are added to 4, 16 and 4.
 pub fn spoil_choice(random: &mut Random, job: &mut Job, more: &[u32]) {
     let more = random.pick(more);
@@ -139,6 +156,15 @@ pub fn spoil_choice(random: &mut Random, job: &mut Job, more: &[u32]) {
         0 => job.selection = 4 + more,
         1 => job.rules = 16 + more,
         _ => job.bound = 4 + more,
+    }
+}
+
+/// Number 11: pairs that do not pass. A starting order becomes any order of the stops.
+pub fn spoil_pairs(random: &mut Random, job: &mut Job) {
+    let n = job.n as usize;
+    job.pairs = random.bad_pairs(n);
+    if !job.start.is_empty() {
+        job.start = random.order(n);
     }
 }
 

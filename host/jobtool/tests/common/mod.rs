@@ -8,15 +8,23 @@ use std::process::{Command, Stdio};
 
 use jobtext::Job;
 
-pub const NAMES: [&str; 7] = ["camps", "case-a", "office", "office-full", "pilot", "pilot-first", "strips"];
+pub const NAMES: [&str; 8] = ["camps", "case-a", "office", "office-full", "pilot", "pilot-first", "strips", "taxi"];
+
+/// Those that have a pair file too.
+pub const PAIRED: [&str; 1] = ["taxi"];
 
 pub fn folder() -> PathBuf {
     Path::new(env!("CARGO_MANIFEST_DIR")).join("../../jobs/samples")
 }
 
-/// A file of a sample: its job file (`job`), its text (`txt`), or what `plan` prints (`expected`).
+/// A file of a sample: its job file (`job`), its pair file (`pairs`), its text (`txt`), or what `plan` prints
+/// (`expected`).
+pub fn path(name: &str, kind: &str) -> PathBuf {
+    folder().join(format!("{name}.{kind}"))
+}
+
 pub fn bytes(name: &str, kind: &str) -> Vec<u8> {
-    fs::read(folder().join(format!("{name}.{kind}"))).unwrap()
+    fs::read(path(name, kind)).unwrap()
 }
 
 pub fn string(name: &str, kind: &str) -> String {
@@ -36,6 +44,23 @@ pub fn landings_of(job: &Job) -> String {
     match job.charges().skip(usize::from(ends_away(job))).sum() {
         0u32 => String::new(),
         landings => format!(", {landings} of it landings"),
+    }
+}
+
+/// What is told of pairs.
+pub fn pairs_of(job: &Job) -> String {
+    let each: Vec<String> = job.pairs.chunks(2).map(|pair| format!("{} before {}", pair[0], pair[1])).collect();
+    match each.is_empty() {
+        true => String::new(),
+        false => format!("pick-up before drop: {}\n", each.join(", ")),
+    }
+}
+
+/// The words behind a command for the job file of a sample: its pair file, if it has one.
+pub fn with_pairs(name: &str) -> Vec<String> {
+    match PAIRED.contains(&name) {
+        true => vec!["pairs".to_string(), path(name, "pairs").into_os_string().into_string().unwrap()],
+        false => Vec::new(),
     }
 }
 

@@ -2,7 +2,7 @@
 //! alone: where the pick-up stands in an order and where the drop.
 
 use super::{away_choices, choices, for_each_table, Job};
-use samples::Random;
+use samples::{respects, Random};
 use witness::enumerate::all_orders;
 
 impl Job {
@@ -24,39 +24,6 @@ impl Job {
     }
 }
 
-pub fn respects(pairs: &[u8], order: &[u32]) -> bool {
-    let place = |stop: u8| order.iter().position(|&s| s == stop.into()).unwrap_or(order.len());
-    pairs.chunks(2).all(|pair| place(pair[1]) == order.len() || place(pair[0]) < place(pair[1]))
-}
-
-/// So many pairs, of stops drawn at random.
-pub fn pairs_of(random: &mut Random, n: usize, pairs: usize) -> Vec<u8> {
-    let mut stops: Vec<u8> = random.order(n);
-    stops.truncate(2 * pairs);
-    stops
-}
-
-/// As many pairs as n stops can have or fewer, at times none.
-pub fn some_pairs(random: &mut Random, n: usize) -> Vec<u8> {
-    let most = n as u64 / 2;
-    let pairs = random.below(most + 1) as usize;
-    pairs_of(random, n, pairs)
-}
-
-/// A random order in which the two stops of a pair change places if they stand
-/// the wrong way round.
-pub fn order_with(random: &mut Random, n: usize, pairs: &[u8]) -> Vec<u32> {
-    let mut order: Vec<u32> = random.order(n);
-    for pair in pairs.chunks(2) {
-        let places = [0, 1].map(|at| order.iter().position(|&s| s == pair[at].into()).unwrap());
-        if places[0] > places[1] {
-            order.swap(places[0], places[1]);
-        }
-    }
-    assert!(respects(pairs, &order));
-    order
-}
-
 /// All 256 choices of selection, rules and bound.
 pub fn all_choices() -> Vec<[u64; 3]> {
     [choices(), away_choices()].concat()
@@ -68,8 +35,8 @@ pub fn all_choices() -> Vec<[u64; 3]> {
 pub fn for_each_paired_job(seed: u64, n: usize, tables: usize, mut check: impl FnMut(&Job)) {
     for_each_table(&mut Random(seed), n, tables, |random, table| {
         let pairs = 1 + random.below((n as u64 / 2).max(1)) as usize;
-        let pairs = pairs_of(random, n, pairs.min(n / 2));
-        let start = order_with(random, n, &pairs);
+        let pairs = random.pairs(n, pairs.min(n / 2));
+        let start = random.order_with(n, &pairs);
         for choice in all_choices() {
             check(&Job::new(n, table, choice, &[]).paired(&pairs));
             check(&Job::new(n, table, choice, &start).paired(&pairs));
