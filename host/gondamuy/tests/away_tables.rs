@@ -10,9 +10,9 @@
 
 mod common;
 
-use common::{choices, least_cost, order_cost, random_job};
-use gondamuy::raw::{first_order, plan, FirstOrder, Report};
-use gondamuy::{NO_BUDGET, RECORD_WORDS};
+use common::{least_cost, order_cost, planned, random_job};
+use gondamuy::raw::{first_order, FirstOrder, Report};
+use gondamuy::NO_BUDGET;
 use jobtext::Job;
 use samples::{free_flights_home, Random};
 
@@ -30,13 +30,6 @@ fn away_job(random: &mut Random, most_stops: u64) -> Job {
 /// The same day ending at home.
 fn at_home(job: &Job) -> Job {
     Job { bound: job.bound - 2, ..job.clone() }
-}
-
-/// The report, and the words of a pool of so many records.
-fn planned(job: &Job, budget: u64, records: usize) -> (Report, Vec<u32>) {
-    let mut pool = vec![1; records * RECORD_WORDS];
-    let report = plan(choices(job), &job.table, &job.start, &job.pairs, budget, &mut pool);
-    (report, pool)
 }
 
 fn first(job: &Job) -> FirstOrder {

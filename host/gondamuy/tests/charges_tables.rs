@@ -10,8 +10,8 @@
 
 mod common;
 
-use common::{choices, order_cost, random_job};
-use gondamuy::raw::{first_order, plan, Report};
+use common::{order_cost, planned, random_job};
+use gondamuy::raw::{first_order, Report};
 use gondamuy::{NO_BUDGET, RECORD_WORDS};
 use jobtext::Job;
 use samples::{charged, folded, level, uncharged, Random, T};
@@ -27,13 +27,6 @@ fn charged_job(random: &mut Random, most: u32) -> Job {
 /// The same day over another form of its table.
 fn over(form: fn(usize, &[u32]) -> Vec<u32>, job: &Job) -> Job {
     Job { table: form(job.n as usize, &job.table), ..job.clone() }
-}
-
-/// The report, and the words of a pool of so many records.
-fn planned(job: &Job, budget: u64, records: usize) -> (Report, Vec<u32>) {
-    let mut pool = vec![1; records * RECORD_WORDS];
-    let report = plan(choices(job), &job.table, &job.start, &job.pairs, budget, &mut pool);
-    (report, pool)
 }
 
 /// What every order pays for landings: one at each stop, and one at home if the day ends there.

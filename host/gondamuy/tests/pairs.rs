@@ -8,8 +8,6 @@ use samples::{charged, level, T};
 
 const FIFO_PLAIN: Job = Job { n: 3, selection: Selection::Fifo, rules: Rules::NONE, bound: Bound::Plain };
 
-const BOUNDS: [Bound; 4] = [Bound::Plain, Bound::Close, Bound::PlainAway, Bound::CloseAway];
-
 fn pair(pick_up: u8, drop: u8) -> Pair {
     Pair { pick_up, drop }
 }
@@ -218,20 +216,6 @@ fn where_check_11_comes() {
     assert_eq!(numbers(CASE_A, &T, &[1, 2, 3], &[3, 1]), [5, 0]);
     assert_eq!(raw::plan(CASE_A, &T, &[1, 2, 3], &[3, 1], NO_BUDGET, &mut []).number, 5);
     assert_eq!(raw::plan(CASE_A, &T, &[3, 1, 2], &[3, 1], NO_BUDGET, &mut []).number, 6);
-}
-
-/// In which sequence the pairs stand plays no part.
-#[test]
-fn pairs_in_another_sequence() {
-    let table: Vec<u32> = (0..36).map(|k| if k % 7 == 0 { 0 } else { 100 + k * k % 37 }).collect();
-    for bound in BOUNDS {
-        let job = Job { n: 5, bound, ..FIFO_PLAIN };
-        let [one, other] = [[pair(3, 1), pair(2, 5)], [pair(2, 5), pair(3, 1)]].map(|pairs| {
-            let mut pool = [Record::default(); 60];
-            (finished(job, &table, &[], &pairs, &mut pool), pool, first_order(5, bound, &table, &pairs).unwrap())
-        });
-        assert_eq!(one, other);
-    }
 }
 
 /// A job file is the same with pairs and without, so whoever plans what is read from it must hand them in again.

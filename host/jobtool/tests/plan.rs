@@ -2,7 +2,7 @@
 
 mod common;
 
-use common::{bytes, ends_away, landings_of, pairs_of, run, string, with_pairs, ENDS_AWAY, NAMES};
+use common::{bytes, ends_away, landings_of, run, string, told_of_pairs, with_pairs, ENDS_AWAY, NAMES};
 use jobtext::{parse, Job};
 use witness::job_file::Contents;
 use witness::{Report, Request, LARGEST_BUDGET, WORDS};
@@ -162,7 +162,7 @@ fn samples() {
                 "branched {branched}, generated {generated}, eliminated {eliminated}, active {active}, most {most}\n"
             );
             let end = if ends_away(&job) { ENDS_AWAY } else { "" };
-            let pairs = if report.number == 0 { pairs_of(&job) } else { String::new() };
+            let pairs = if report.number == 0 { told_of_pairs(&job) } else { String::new() };
             assert!(text.ends_with(&format!("\n{pairs}{end}{counts}")), "{name} {budget}: {text}");
             assert_eq!(text.contains(ENDS_AWAY), !end.is_empty(), "{name} {budget}: {text}");
         }

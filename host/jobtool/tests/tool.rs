@@ -2,7 +2,7 @@
 
 mod common;
 
-use common::{ends_away, landings_of, pairs_of, run, string, ENDS_AWAY, NAMES};
+use common::{ends_away, landings_of, run, string, told_of_pairs, ENDS_AWAY, NAMES};
 use jobtext::{parse, Job};
 
 const TEXT: &str = "stops 2\ntable\n0 3 4\n5 0 6\n7 8 0\nselection LIFO\nrules U/DBAS DB/AS\nbound close\nstart 2 1\n";
@@ -90,7 +90,7 @@ fn first_orders_of_the_samples() {
         let landings = landings_of(&job);
         let end = if ends_away(&job) { ENDS_AWAY.to_string() } else { String::new() };
         let day: String =
-            [pairs_of(&job), end].iter().filter(|l| !l.is_empty()).map(|l| format!("first: {l}")).collect();
+            [told_of_pairs(&job), end].iter().filter(|l| !l.is_empty()).map(|l| format!("first: {l}")).collect();
         let lines = format!("first cost {}{landings}\nfirst order{line}\n{day}", told.cost);
         assert_eq!(first(&[], &text).unwrap(), lines, "{name}");
         let started = first(&["start"], &text).unwrap();

@@ -1,7 +1,7 @@
 //! What the tests share: random jobs, what their orders cost, and ways to spoil them.
 #![allow(dead_code)]
 
-use gondamuy::{raw, LONGEST_FILE, NO_BUDGET};
+use gondamuy::{raw, LONGEST_FILE, NO_BUDGET, RECORD_WORDS};
 use jobtext::Job;
 use samples::{respects, Random};
 use witness::enumerate::all_orders;
@@ -31,6 +31,13 @@ pub fn numbers(job: raw::Job, table: &[u32], start: &[u8]) -> [u32; 4] {
     let planned = raw::plan(job, table, start, &[], NO_BUDGET, &mut [0; 600]).number;
     let written = raw::write(job, table, start, &mut [0; LONGEST_FILE]).number;
     [planned, raw::first_order(n, bound, table, &[]).number, written, raw::read(&file).number]
+}
+
+/// The report of a job with its pairs, and the words of a pool of so many records.
+pub fn planned(job: &Job, budget: u64, records: usize) -> (raw::Report, Vec<u32>) {
+    let mut pool = vec![1; records * RECORD_WORDS];
+    let report = raw::plan(choices(job), &job.table, &job.start, &job.pairs, budget, &mut pool);
+    (report, pool)
 }
 
 /// What the second planner reports, field by field as the library does.

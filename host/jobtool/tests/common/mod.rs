@@ -48,7 +48,7 @@ pub fn landings_of(job: &Job) -> String {
 }
 
 /// What is told of pairs.
-pub fn pairs_of(job: &Job) -> String {
+pub fn told_of_pairs(job: &Job) -> String {
     let each: Vec<String> = job.pairs.chunks(2).map(|pair| format!("{} before {}", pair[0], pair[1])).collect();
     match each.is_empty() {
         true => String::new(),
