@@ -1,7 +1,7 @@
 //! Writes the job file of document 01's case a (three stops, least bound first, rule 1, close), reads it back and plans
-//! it; plans case b (earliest first, no rules, plain) within three budgets, of which the first two stop it; plans case a
-//! with a landing charge at each place, for a day that ends at home and for one that ends at the last stop; and plans it
-//! with a passenger who is fetched at stop 3 and set down at stop 1. A refusal ends it with a status other than 0.
+//! it; plans case b (earliest first, no rules, plain) within three budgets, of which the first two stop it; plans case
+//! a with a landing charge at each place, for a day that ends at home and for one that ends at the last stop; and plans
+//! it with a passenger who is fetched at stop 3 and set down at stop 1. A refusal ends it with a status other than 0.
 
 use std::error::Error;
 use std::process::ExitCode;

@@ -74,8 +74,8 @@ pub enum Bound {
 }
 
 impl Bound {
-    /// Whether the day ends at the last stop. Costs and floors of two searches over one table with the same pairs may be
-    /// held against each other only where this says the same of both bounds.
+    /// Whether the day ends at the last stop. Costs and floors of two searches over one table with the same pairs may
+    /// be held against each other only where this says the same of both bounds.
     pub const fn ends_away(self) -> bool {
         matches!(self, Bound::PlainAway | Bound::CloseAway)
     }

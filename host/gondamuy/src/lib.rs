@@ -20,8 +20,8 @@
 //! **A search that its budget stopped is no plan.** It is answered too, and not refused: what it knows is a
 //! [`Stopped`], and only what comes as [`Planned::Finished`] is a cheapest order.
 //!
-//! **A job file has no pairs.** They are a file of their own ([`pairs_of`], [`pair_file`]); who plans what was read from
-//! a job file hands them in beside it, or plans without them.
+//! **A job file has no pairs.** They are a file of their own ([`pairs_of`], [`pair_file`]); who plans what was read
+//! from a job file hands them in beside it, or plans without them.
 //!
 //! What is chosen has a type ([`Job`], [`Pair`]); what is refused is an error with its number and its words
 //! ([`Refusal`]). Each call is one of module [`raw`], which has the plain numbers.
@@ -108,10 +108,10 @@ pub use sizes::*;
 /// # Pick-up before drop
 ///
 /// In each of the pairs `pick_up` is flown before `drop`, at once or with other stops between (request A.6). A stop
-/// stands in one pair at most. Orders that go the other way are not searched and play no part: cheapest, floor and known
-/// order are of those that respect the pairs. A starting order that goes the other way is refused by 5; pairs that do
-/// not fit the stops are refused by 11. Costs, floors and counts of two searches are held against each other only where
-/// both have the same pairs.
+/// stands in one pair at most. Orders that go the other way are not searched and play no part: cheapest, floor and
+/// known order are of those that respect the pairs. A starting order that goes the other way is refused by 5; pairs
+/// that do not fit the stops are refused by 11. Costs, floors and counts of two searches are held against each other
+/// only where both have the same pairs.
 ///
 /// ```
 /// # use gondamuy::*;
@@ -174,15 +174,15 @@ pub fn plan_records(
 
 /// Makes an order of the stops 1 to n to start from, where nobody has typed one (request A.1).
 ///
-/// `n`, `table` and `pairs` are as for [`plan`], and `bound` is that of the job that is to start from the order: it says
-/// whether the leg home is in what an order costs ([`Bound::ends_away`], request A.5), and nothing else. From each place
-/// on, home first, the nearest stop left is flown: of those whose pick-up, if they have one, is flown already (request
-/// A.6), the one that is cheapest to fly to and land at, the lowest number of several. Then two stops change places as
-/// long as that lowers the cost and the pairs are respected: of all such exchanges the one that lowers it most, of
-/// several the one that begins earliest in the order, then the one that ends earliest. The order respects the pairs and
-/// costs no more than that of the nearest stops, and no exchange of two of its stops that respects the pairs makes it
-/// cheaper; but another order may be cheaper still, and [`plan`] finds one that is cheapest. Refused by the first of 1,
-/// 2, 3 and 11 that applies.
+/// `n`, `table` and `pairs` are as for [`plan`], and `bound` is that of the job that is to start from the order: it
+/// says whether the leg home is in what an order costs ([`Bound::ends_away`], request A.5), and nothing else. From each
+/// place on, home first, the nearest stop left is flown: of those whose pick-up, if they have one, is flown already
+/// (request A.6), the one that is cheapest to fly to and land at, the lowest number of several. Then two stops change
+/// places as long as that lowers the cost and the pairs are respected: of all such exchanges the one that lowers it
+/// most, of several the one that begins earliest in the order, then the one that ends earliest. The order respects the
+/// pairs and costs no more than that of the nearest stops, and no exchange of two of its stops that respects the pairs
+/// makes it cheaper; but another order may be cheaper still, and [`plan`] finds one that is cheapest. Refused by the
+/// first of 1, 2, 3 and 11 that applies.
 ///
 /// [`plan`] does not make one by itself. As a starting order with the same pairs it is never refused by 5; with other
 /// pairs it may be:
@@ -216,9 +216,9 @@ pub fn read(file: &[u8]) -> Result<Contents, Refusal> {
 }
 
 /// Writes a job's file at the front of `buffer` and gives its length; the bytes behind it stay as they were. `job` with
-/// its n, `table` and `start` are as for [`plan`]. Pairs go into no job file ([`pair_file`] has their bytes), and `start`
-/// is not held to them. Refused by the first of 1, 2, 3, 5 and 10 that applies, which leaves the whole buffer as it was.
-/// [`LONGEST_FILE`] bytes are enough for every job.
+/// its n, `table` and `start` are as for [`plan`]. Pairs go into no job file ([`pair_file`] has their bytes), and
+/// `start` is not held to them. Refused by the first of 1, 2, 3, 5 and 10 that applies, which leaves the whole buffer
+/// as it was. [`LONGEST_FILE`] bytes are enough for every job.
 ///
 /// ```
 /// # use gondamuy::*;

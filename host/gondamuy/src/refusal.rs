@@ -35,8 +35,8 @@ pub enum Refusal {
     Layout = 9,
     /// 10: the buffer is too short for the job's file. [`LONGEST_FILE`](crate::LONGEST_FILE) bytes are always enough.
     ShortBuffer = 10,
-    /// 11: there are more than [`MOST_PAIRS`](crate::MOST_PAIRS) pairs, or a stop in them is not there or stands in them
-    /// twice; or their file is of odd length, which no [`Pair`](crate::Pair)s are. It comes between 5 and 6.
+    /// 11: there are more than [`MOST_PAIRS`](crate::MOST_PAIRS) pairs, or a stop in them is not there or stands in
+    /// them twice; or their file is of odd length, which no [`Pair`](crate::Pair)s are. It comes between 5 and 6.
     Pairs = 11,
 }
 

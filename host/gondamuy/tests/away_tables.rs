@@ -4,8 +4,8 @@
 //! - with its flights home and with others: the same, to the last word of the pool, for 20,000 days, within a budget or
 //!   none, and for their first orders;
 //! - ending away and, where the flights home cost nothing, ending at home: the same again, for 20,000 days;
-//! - ending away and ending at home, for 10,000 days of up to 5 stops: each order is the cheapest of all that respect the
-//!   pairs by the costs of its own day, and the one that ends away costs no more;
+//! - ending away and ending at home, for 10,000 days of up to 5 stops: each order is the cheapest of all that respect
+//!   the pairs by the costs of its own day, and the one that ends away costs no more;
 //! - by close and by plain, earliest and latest first, for 10,000 days: the same cost and no more work.
 
 mod common;

@@ -1,7 +1,7 @@
 //! Best so far, and how far off (request A.3), through the wrapper: worked jobs, and what a stopped search may say,
-//! held to all n! orders: 6,000 jobs of 1 to 5 stops under all choices, half of them with landing charges (request A.4),
-//! half of them for days that end away (request A.5) and half of them with pairs (request A.6), within every budget from
-//! 0 to one more than they need.
+//! held to all n! orders: 6,000 jobs of 1 to 5 stops under all choices, half of them with landing charges (request
+//! A.4), half of them for days that end away (request A.5) and half of them with pairs (request A.6), within every
+//! budget from 0 to one more than they need.
 
 mod common;
 

@@ -1,6 +1,6 @@
-//! What landing charges change (request A.4), over random days of 1 to 6 stops under all choices, half of which end away
-//! (request A.5), where home's charge is not paid, and half of which have pairs (request A.6). The same library plans
-//! each of them twice:
+//! What landing charges change (request A.4), over random days of 1 to 6 stops under all choices, half of which end
+//! away (request A.5), where home's charge is not paid, and half of which have pairs (request A.6). The same library
+//! plans each of them twice:
 //!
 //! - with its charges and with them put into the legs: the same, to the last word of the pool, for 20,000 days, within
 //!   a budget or none, and for their first orders;

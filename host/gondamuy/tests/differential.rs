@@ -1,9 +1,9 @@
 //! The proved planner against the second planner: every field of the report and every word of the pool, over random
-//! jobs of many kinds, half of them with landing charges (request A.4), half of them for days that end away (request A.5)
-//! and half of them with pairs (request A.6), without a starting order and with one, at times the first order of request
-//! A.1. Most are planned without a budget and, in the same pool, within one (request A.3), and then the two reports are
-//! held to each other as well; `large_jobs_within_a_budget` has those that are planned within one alone. Test file
-//! `refusals` has the jobs that are refused before a search.
+//! jobs of many kinds, half of them with landing charges (request A.4), half of them for days that end away (request
+//! A.5) and half of them with pairs (request A.6), without a starting order and with one, at times the first order of
+//! request A.1. Most are planned without a budget and, in the same pool, within one (request A.3), and then the two
+//! reports are held to each other as well; `large_jobs_within_a_budget` has those that are planned within one alone.
+//! Test file `refusals` has the jobs that are refused before a search.
 
 mod common;
 

@@ -1,13 +1,13 @@
 //! The first order (request A.1): every field against the second planner's, and what `plan` makes of it as a starting
 //! order:
 //!
-//! - 60,000 tables of 1 to 6 stops and 20,000 of 7 to 16, half of them with landing charges (request A.4) and half of them
-//!   with pairs (request A.6), most of them with so few values that ties are common, and the dearest table; each with
-//!   every bound (request A.5);
+//! - 60,000 tables of 1 to 6 stops and 20,000 of 7 to 16, half of them with landing charges (request A.4) and half of
+//!   them with pairs (request A.6), most of them with so few values that ties are common, and the dearest table; each
+//!   with every bound (request A.5);
 //! - 128,000 calls with causes 1 to 4 and 11, each in half of them and in every mixture, where the number is known
 //!   beforehand;
-//! - 20,000 plans of 1 to 6 stops under all choices and 100 of 7 to 16 in the pilot's way, each with and without it, and
-//!   with pairs in half of those of up to 12 stops.
+//! - 20,000 plans of 1 to 6 stops under all choices and 100 of 7 to 16 in the pilot's way, each with and without it,
+//!   and with pairs in half of those of up to 12 stops.
 
 mod common;
 
@@ -125,8 +125,8 @@ fn every_mixture_of_causes() {
     }
 }
 
-/// Plans with and without it, with the same pairs, in a pool and within a budget that are large enough without: the same
-/// cost, no more than the order's own, and no more work.
+/// Plans with and without it, with the same pairs, in a pool and within a budget that are large enough without: the
+/// same cost, no more than the order's own, and no more work.
 fn started(job: Job, table: &[u32], pairs: &[u8], records: usize) -> (Report, Report) {
     let first = first_order(job.n, job.bound, table, pairs);
     let mut pool = vec![0; records * RECORD_WORDS];

@@ -56,8 +56,8 @@ fn children_that_are_not_generated() {
     assert_eq!((plan.counts.branched, plan.counts.generated, plan.counts.most), (6, 9, 3));
 }
 
-/// The empty node's close bound is case k's with pairs too, and the floor of a search that was stopped at once; the best
-/// of the orders that respect them costs more.
+/// The empty node's close bound is case k's with pairs too, and the floor of a search that was stopped at once; the
+/// best of the orders that respect them costs more.
 #[test]
 fn bounds_look_at_no_pairs() {
     let job = Job { bound: Bound::Close, ..FIFO_PLAIN };
@@ -68,8 +68,8 @@ fn bounds_look_at_no_pairs() {
     assert_eq!((at_once.floor, at_once.known), (10, None));
 }
 
-/// A starting order is known from the beginning if it respects the pairs. Otherwise it is refused by 5 and the pool is as
-/// it was; without the pair it passes.
+/// A starting order is known from the beginning if it respects the pairs. Otherwise it is refused by 5 and the pool is
+/// as it was; without the pair it passes.
 #[test]
 fn starting_orders() {
     let dirty = [Record { size: 9, set: 9, path: 9, bound: 9, first: 9, second: 9 }; 2];

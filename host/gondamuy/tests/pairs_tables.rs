@@ -1,10 +1,10 @@
-//! What pairs change (request A.6), over random days of 2 to 6 stops under all choices, half of them with landing charges
-//! and half of them for days that end away. The same library plans each of them several times:
+//! What pairs change (request A.6), over random days of 2 to 6 stops under all choices, half of them with landing
+//! charges and half of them for days that end away. The same library plans each of them several times:
 //!
 //! - with its pairs and without, for 10,000 days: with them the order respects them and is the cheapest of all that do,
 //!   and costs as much as without where the order found without respects them;
-//! - with its pairs in another sequence: the same, to the last word of the pool, for 10,000 days, within a budget or none,
-//!   and for their first orders;
+//! - with its pairs in another sequence: the same, to the last word of the pool, for 10,000 days, within a budget or
+//!   none, and for their first orders;
 //! - with its pairs under other choices, for 10,000 days that end at the same place: the same cost.
 
 mod common;

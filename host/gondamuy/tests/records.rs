@@ -28,7 +28,8 @@ fn the_fields_are_the_words() {
     }
 }
 
-/// Every choice, with pairs and without, jobs that finish, that a budget stops, that fill the pool and that are refused.
+/// Every choice, with pairs and without, jobs that finish, that a budget stops, that fill the pool and that are
+/// refused.
 #[test]
 fn the_same_plan_over_both_views() {
     let mut random = Random(12);

@@ -1,14 +1,14 @@
-//! Job files and pair files from plain text (see `jobtext`) and back, a first order for a text, and plans of either. What
-//! is written, read, made and planned goes through the proved writer and reader, the proved first order and the proved
-//! planner; this tool is not proved.
+//! Job files and pair files from plain text (see `jobtext`) and back, a first order for a text, and plans of either.
+//! What is written, read, made and planned goes through the proved writer and reader, the proved first order and the
+//! proved planner; this tool is not proved.
 //!
 //! ```text
 //! jobtool write [pairs PAIR-FILE] < TEXT > FILE
 //!                                 the job file of a text, and its pair file
 //! jobtool show [pairs PAIR-FILE] < FILE
 //!                                 the text of a job file with its pairs, or why it is refused
-//! jobtool first < TEXT            `first cost` and `first order`: what it costs, and its stops; the pairs, if there are
-//!                                 any; and that the day ends away, if it does
+//! jobtool first < TEXT            `first cost` and `first order`: what it costs, and its stops; the pairs, if there
+//!                                 are any; and that the day ends away, if it does
 //! jobtool first start < TEXT      the job anew as text, with that order as its starting order
 //! jobtool plan [pairs PAIR-FILE] [budget N] [records R] < TEXT-OR-FILE
 //!                                 the plan of a job in words, or what a search stopped after N branchings knows
@@ -118,8 +118,8 @@ fn with_first(bytes: &[u8]) -> Result<(Job, FirstOrder), String> {
     Ok((parsed.job, first))
 }
 
-/// Two lines, and behind them what is said of the day. Each begins with `first`, so that nobody takes it for a line that
-/// `plan` prints.
+/// Two lines, and behind them what is said of the day. Each begins with `first`, so that nobody takes it for a line
+/// that `plan` prints.
 fn first_of(bytes: &[u8]) -> Result<Vec<u8>, String> {
     let (job, first) = with_first(bytes)?;
     let cost = with_landings(first.cost, &job);

@@ -22,8 +22,8 @@ pub struct Asked {
 }
 
 impl Asked {
-    /// `budget` and `records`, each with its number, and `pairs` with its file, in any sequence; each may be left out. Or
-    /// which word is wrong.
+    /// `budget` and `records`, each with its number, and `pairs` with its file, in any sequence; each may be left out.
+    /// Or which word is wrong.
     pub fn of(words: &[&str]) -> Result<Asked, String> {
         let (mut budget, mut records, mut pairs) = (None, None, None);
         for two in words.chunks(2) {

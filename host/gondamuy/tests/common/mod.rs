@@ -66,8 +66,8 @@ pub fn first_stops(n: usize, bound: u32, table: &[u32], pairs: &[u8]) -> Vec<u8>
 }
 
 /// A job of n stops that every check lets pass: in half of the cases with landing charges, in half of them for a day
-/// that ends away, in half of them with pairs, and in half of them from the first order, else from none or from any that
-/// respects the pairs.
+/// that ends away, in half of them with pairs, and in half of them from the first order, else from none or from any
+/// that respects the pairs.
 pub fn random_job(random: &mut Random, n: usize, most: u32) -> Job {
     let table = random.table(n, 0, most);
     let table = random.maybe_charged(n, table);
