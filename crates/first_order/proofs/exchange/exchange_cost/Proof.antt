@@ -10,13 +10,6 @@ use Rattle.first_order.proofs.exchange.exchange_cost.Tie as tie
 abbrev entry : tie.After-exchange-stops → tie.Start
 entry c = c .before .before .before
 
-allowed-cost-requires : tie.Need-allowed-cost-requires
-allowed-cost-requires c κs =
-    let changed = c .before .before .before in
-    let a = entry changed .args in
-    let pre = entry changed .pre in
-    rw (changed .exchange-stops .ensures) (exchanged-exchangeable (pre .0) (a .p) (a .q) (pre .1 .0) (pre .1 .1))
-
 returns : tie.Need-returns
 returns c =
     let spent = c .before .before .before .before in
@@ -27,6 +20,13 @@ returns c =
       rw is at (spent .allowed-cost .ensures),
       c .before .before .exchange-stops2 .ensures ∙ rw is (exchanged-twice (a .x .now) (a .p) (a .q) (pre .1 .0) (pre .1 .1)),
     )
+
+allowed-cost-requires : tie.Need-allowed-cost-requires
+allowed-cost-requires c κs =
+    let changed = c .before .before .before in
+    let a = entry changed .args in
+    let pre = entry changed .pre in
+    rw (changed .exchange-stops .ensures) (exchanged-exchangeable (pre .0) (a .p) (a .q) (pre .1 .0) (pre .1 .1))
 
 pub exchange-cost-spec : {M : Type 1} → statement M
 exchange-cost-spec =

@@ -38,6 +38,17 @@ fewer c = omega arith
 paired : (c : tie.In-loop Inv-loop μ-loop) → let a = c .before .before .before .args in Pairing (length (a .x .now)) (pairsIn (a .precedence))
 paired c = c .before .before .before .pre .1
 
+loop-again : tie.Need-loop-again Inv-loop μ-loop
+loop-again c =
+    let n = c .before in
+    let r = n .before in
+    let t = r .before in
+    let l = t .before .loop in (
+      simp length-set (l .inv .0),
+      rw (add-one, take-suc-set _ _ _ (t .loop-test .taken))
+          (underway-again (l .inv .1) (paired t) (fewer t) (r .ready .result) (r .ready .ensures .stops) _ _ (n .nearest-stop .ensures) (c .without .ensures)),
+    )
+
 nearest-stop-requires : tie.Need-nearest-stop-requires Inv-loop μ-loop
 nearest-stop-requires c κs =
     let l = c .before in
@@ -56,17 +67,6 @@ found c =
 
 without-requires : tie.Need-without-requires Inv-loop μ-loop
 without-requires c κs = (c .before .before .before .loop .inv .1 .small, found c .0)
-
-loop-again : tie.Need-loop-again Inv-loop μ-loop
-loop-again c =
-    let n = c .before in
-    let r = n .before in
-    let t = r .before in
-    let l = t .before .loop in (
-      simp length-set (l .inv .0),
-      rw (add-one, take-suc-set _ _ _ (t .loop-test .taken))
-          (underway-again (l .inv .1) (paired t) (fewer t) (r .ready .result) (r .ready .ensures .stops) _ _ (n .nearest-stop .ensures) (c .without .ensures)),
-    )
 
 returns : tie.Need-returns Inv-loop μ-loop
 returns c =
