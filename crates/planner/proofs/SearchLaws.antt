@@ -1,39 +1,40 @@
--- The loop of turns (`src/run.rt`, `search`): how it begins, that a turn keeps what it stands on, and that it ends.
+-- The loop of turns (`src/run.rt`, `turns`): how it begins, that a turn keeps what it stands on, and that it ends.
 --   run-begins      the start is a state of the run
 --   turn-keeps      a turn that goes on leads to a state of the run, which pool and counts show
 --   turn-falls      each turn branches one node more, and no run branches more nodes than there are
-use mathlib.Core.Path.{_≡_, _∙_}
+--   settle-ready, floor-ready    what `settle` and `floor` ask
+--   turns-end       a turn that does not go on ends the run
+use mathlib.Core.Path.{_≡_, ap, subst, _∙_}
 use mathlib.Core.List.{List}
-use Prim.Native.Nat.{ℕ, _-_, _<_}
+use Prim.Native.Nat.{ℕ, _+_, _-_, _/_, _≤_, _<_}
 use native.Mathlib.Omega.{arith}
 use lib.ListN.{length, length-map}
+use Rattle.sizes.specs.Sizes.{recordWords}
 use Rattle.search.specs.Problem.{Problem, Choices, State, start}
-use Rattle.search.specs.Run.{Stepped, Steps, none, more}
+use Rattle.search.specs.Run.{Next, Stepped, Steps, none, more}
 use Rattle.search.proofs.Outcome.{next-stepped}
 use Rattle.search.proofs.Budget.{stepped-adds}
 use Rattle.orders.specs.Orders.{Node, nodes}
-use Rattle.stops.specs.Tables.{rows}
-use Rattle.stops.specs.Bounds.{endsAway}
+use Rattle.records.specs.Records.{recordsIn}
 use Rattle.records.specs.Code.{records}
-use Rattle.answer.specs.Call.{Call}
+use Rattle.records.proofs.ViewLaws.{length-records}
+use Rattle.answer.specs.declared.Report.{Report}
 use Rattle.answer.specs.Answer.{given}
-use Rattle.answer.proofs.Passes.{Passes}
-use Rattle.children.specs.Code.{Table, settingOf, problemOf, choicesOf, encodeOf}
+use Rattle.children.specs.Code.{Table, problemOf, choicesOf, encodeOf}
 use Rattle.children.specs.declared.setting.Setting.{Setting}
-use Rattle.children.proofs.SettingLaws.{setting-counts, call-rows, call-starts}
+use Rattle.children.proofs.SettingLaws.{setting-counts}
 use Rattle.step.specs.Code.{Shown}
 use Rattle.step.specs.declared.Run.{Run}
 use Rattle.step.proofs.ExpandLaws.{same-records}
-use Rattle.planner.specs.Code.{Running, Turned, recordsOf}
+use Rattle.planner.specs.Code.{Running, Turned, Begins, Told, Settled, Ran, recordsOf, nextOf}
 use Rattle.planner.specs.declared.run.Turn.the-variants.{Go}
+use Rattle.planner.proofs.TurnLaws.{turn-chooses}
 
 pub run-begins :
-    (c : Call) → Passes c → {t : Table} → t ≡ rows (c .job .n) (endsAway (c .job .bound)) (c .table) → {w : List ℕ} {r : Run}
-    → (let d = settingOf c in
-    Shown d w r (recordsOf d t (start (problemOf d t) (given (c .start))))
-    → Running d t (c .start) w r (start (problemOf d t) (given (c .start))))
-run-begins c ok e shown =
-    record { rows = call-rows c e ok; selects = ok .selection; starts = call-starts c e ok; steps = none; shows = shown }
+    {d : Setting} {t : Table} {first w₀ w : List ℕ} {r : Run} → Begins d t first w₀
+    → Shown d w r (recordsOf d t (start (problemOf d t) (given first))) → Running d t first w r (start (problemOf d t) (given first))
+run-begins begins shown =
+    record { rows = begins .rows; selects = begins .selects; starts = begins .starts; steps = none; shows = shown }
 
 -- the run counts the branched nodes
 branched-shown :
@@ -72,3 +73,29 @@ module _
           branched-shown d t (turned .0) (turned .2),
           stepped-adds P C (length (records w)) stepped,
         )
+
+-- The end, in a pool as long as at the entry. A turn that does not go on leaves it as it was.
+module _ {d : Setting} {t : Table} {first w : List ℕ} {r : Run} {s : State Node} (here : Running d t first w r s) where
+  pub settle-ready :
+      (w₀ w₁ : List ℕ) → length w ≡ length w₀ → length w₁ ≡ length w
+      → (recordsIn w₀ ≡ length (records w₁)) × (r .active + r .far ≤ recordsIn w₀)
+  unfolding recordsIn
+  settle-ready w₀ w₁ long kept =
+      let whole : length (records w) ≡ length w₀ / recordWords = length-records w ∙ ap (λ (m : ℕ). m / recordWords) long in
+      omega (arith, same-records w w₁ kept, here .shows .fits)
+
+  pub floor-ready : (w₁ : List ℕ) → length w₁ ≡ length w → (0 < r .active) × (r .active ≤ length (records w₁))
+  floor-ready w₁ kept = omega (arith, turn-chooses here, same-records w w₁ kept)
+
+  pub turns-end :
+      {w₀ w₁ w₂ : List ℕ} {y : Next Node} {q : Report} → length w ≡ length w₀ → (nextOf d t w s ≡ y) × (w₁ ≡ w)
+      → Settled (recordsIn w₀) w₁ r w₂ → Told d w₁ r y q → Ran d t first w₀ q w₂
+  turns-end {w₀} {w₁} {w₂} {y} {q} long (ends, same) settled told = record {
+    last = w;
+    run = r;
+    state = s;
+    running = here;
+    told = rw ends (subst (λ (v : List ℕ). Told d v r y q) same told);
+    long = long;
+    settled = subst (λ (v : List ℕ). Settled (recordsIn w₀) v r w₂) same settled;
+  }

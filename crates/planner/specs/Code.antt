@@ -5,23 +5,26 @@
 --   nextOf       what comes next of it
 --   Turned       what a turn gives
 --   reported, placesOf, finishedBy, fullBy, stoppedBy    the report of a run that has ended, and by how it ended
+--   Begins       what the turns begin with
+--   Told, Settled, Ran    the turns have come to an end: what they tell of it, and how they leave the pool
 --   Ended        what is returned and left in the pool is what the call's run ends with
 use mathlib.Core.Path.{_≡_}
 use mathlib.Core.Bool.{cond}
-use mathlib.Core.List.{List, [], map}
+use mathlib.Core.List.{List, [], _++_, map, reverse}
 use mathlib.Core.Logic.{_⊎_}
 use mathlib.Core.Option.{Option·map}
-use Prim.Native.Nat.{ℕ, _≤_, _<_}
+use Prim.Native.Nat.{ℕ, _+_, _-_, _≤_, _<_}
 use lib.Dec.{eqb}
-use lib.ListN.{length, replicate}
+use lib.ListN.{length, take, drop, replicate}
 use Rattle.sizes.specs.Sizes.{orderPlaces, aboveEveryCost}
-use Rattle.lists.specs.Lists.{from, padded}
+use Rattle.lists.specs.Lists.{from, padded, least}
 use Rattle.search.specs.Problem.{State, start}
 use Rattle.search.specs.Run.{Next, Steps, finish, halt, overflow, go, next}
-use Rattle.orders.specs.Orders.{Node}
+use Rattle.orders.specs.Orders.{Node, Order}
 use Rattle.orders.specs.Pairs.{Allowed}
+use Rattle.stops.specs.Code.{emptyRecord}
 use Rattle.stops.specs.declared.node_record.Record.{Record}
-use Rattle.records.specs.Records.{stopAt}
+use Rattle.records.specs.Records.{stopAt, recordsIn}
 use Rattle.records.specs.Code.{records}
 use Rattle.answer.specs.Call.{Call, Answer}
 use Rattle.answer.specs.declared.Report.{Report}
@@ -95,6 +98,39 @@ unfoldable pub stoppedBy : ℕ → ℕ → Run → Report
 stoppedBy n floor r =
     cond (eqb (r .best .upper) aboveEveryCost) (reported 0 1 0 floor (replicate orderPlaces 0) r)
     (reported 0 1 (r .best .upper) floor (placesOf n (r .best)) r)
+
+-- rows that are in order, a selection that there is, a starting order, which respects the pairs, and room for e
+pub record Begins (d : Setting) (t : Table) (first w : List ℕ) : Type 0 where
+  pub rows : Rows d t
+  pub selects : d .selection ≤ 3
+  pub order : (first ≡ []) ⊎ Order (d .n) first
+  pub starts : (first ≡ []) ⊎ Allowed (d .n) (pairsBy d) first
+  pub room : 1 ≤ length (records w)
+
+-- the report of a state that pool and counts show, by what comes next of it
+abbrev pub Told : Setting → List ℕ → Run → Next Node → Report → Type 0
+Told d w r finish q = q ≡ finishedBy (d .n) r
+Told d w r halt q = q ≡ stoppedBy (d .n) (least (λ (x : Record). x .bound) (take (r .active) (records w))) r
+Told d w r overflow q = q ≡ fullBy r
+Told d w r (go s) q = ⊥
+
+-- w′ is what `settle` makes of w: the active records, the branched ones with the earliest first, empty ones
+pub record Settled (capacity : ℕ) (w : List ℕ) (r : Run) (w′ : List ℕ) : Type 0 where
+  pub kept : length w′ ≡ length w
+  pub layout :
+      records w′
+      ≡ take (r .active) (records w)
+      ++ (reverse (drop (capacity - r .far) (records w)) ++ replicate (capacity - (r .active + r .far)) emptyRecord)
+
+-- from the pool w the turns came to a state that last and run show; it is told of by q, and last is settled to w′
+pub record Ran (d : Setting) (t : Table) (first w : List ℕ) (q : Report) (w′ : List ℕ) : Type 0 where
+  pub last : List ℕ
+  pub run : Run
+  pub state : State Node
+  pub running : Running d t first last run state
+  pub told : Told d last run (nextOf d t last state) q
+  pub long : length last ≡ length w
+  pub settled : Settled (recordsIn w) last run w′
 
 abbrev pub Ended : Call → Report → List ℕ → Type 0
 Ended c q pool = _≡_ {A = Answer} (record { report = q; pool = pool }) (ending c (outcome c))

@@ -17,7 +17,7 @@ ghost use Rattle.answer.specs.Answer.{given};
 ghost use Rattle.pairs.specs.Code.{OfStops};
 ghost use Rattle.children.specs.Code.{settingBy, Rows, problemOf};
 ghost use Rattle.step.specs.Code.{Shown};
-ghost use Rattle.planner.specs.Code.{Running, Turned, Ended, recordsOf};
+ghost use Rattle.planner.specs.Code.{Running, Turned, Begins, Ran, Ended, recordsOf};
 use crate::report::finished;
 use crate::report::full;
 use crate::report::refused;
@@ -135,35 +135,11 @@ fn begun(setting: Setting, t: [[u32; PLACES]; PLACES], start: &[u8], w: &mut [u3
     }
 }
 
-// What a run goes by.
-fn setting_of(job: Job, pairs: &[u8], budget: u64) -> Setting
-    requires { ⌜ OfStops (now pairs) ⌝ }
-    ensures { λ r. ⌜ r ≡ settingBy job (now (pairs .entry)) budget ⌝ }
+// The turns of a run, until one of them ends it. The slots for a node's children are made once, and lent to each turn.
+fn turns(setting: Setting, t: [[u32; PLACES]; PLACES], start: &[u8], w: &mut [u32]) -> Report
+    requires { ⌜ Begins setting t (now start) (now w) ⌝ }
+    ensures { λ q. ⌜ Ran setting t (now (start .entry)) (now (w .entry)) q (now (w .exit)) ⌝ }
 {
-    Setting {
-        n: job.n,
-        selection: job.selection,
-        rules: job.rules,
-        bound: job.bound,
-        budget: budget,
-        precedence: precedence_of(pairs),
-    }
-}
-
-// The run of a call that every check let pass. The slots for a node's children are made once, and lent to each turn.
-pub fn search(
-    job: Job,
-    table: &[u32],
-    start: &[u8],
-    pairs: &[u8],
-    budget: u64,
-    w: &mut [u32],
-) -> Report
-    requires { ⌜ cause (callOf job (now table) (now start) (now pairs) budget (now w)) ≡ 0 ⌝ }
-    ensures { λ q. ⌜ Ended (callOf job (now (table .entry)) (now (start .entry)) (now (pairs .entry)) budget (now (w .entry))) q (now (w .exit)) ⌝ }
-{
-    let setting = setting_of(job, pairs, budget);
-    let t = rows(setting.n as usize, setting.bound, table);
     let capacity = w.len() / RECORD_WORDS;
     let mut r = begun(setting, t, start, w);
     let mut kids = [0u32; FAMILY_WORDS];
@@ -191,4 +167,36 @@ pub fn search(
             }
         }
     }
+}
+
+// What a run goes by.
+fn setting_of(job: Job, pairs: &[u8], budget: u64) -> Setting
+    requires { ⌜ OfStops (now pairs) ⌝ }
+    ensures { λ r. ⌜ r ≡ settingBy job (now (pairs .entry)) budget ⌝ }
+{
+    Setting {
+        n: job.n,
+        selection: job.selection,
+        rules: job.rules,
+        bound: job.bound,
+        budget: budget,
+        precedence: precedence_of(pairs),
+    }
+}
+
+// The run of a call that every check let pass.
+pub fn search(
+    job: Job,
+    table: &[u32],
+    start: &[u8],
+    pairs: &[u8],
+    budget: u64,
+    w: &mut [u32],
+) -> Report
+    requires { ⌜ cause (callOf job (now table) (now start) (now pairs) budget (now w)) ≡ 0 ⌝ }
+    ensures { λ q. ⌜ Ended (callOf job (now (table .entry)) (now (start .entry)) (now (pairs .entry)) budget (now (w .entry))) q (now (w .exit)) ⌝ }
+{
+    let setting = setting_of(job, pairs, budget);
+    let t = rows(setting.n as usize, setting.bound, table);
+    turns(setting, t, start, w)
 }

@@ -1,0 +1,226 @@
+-- `turns` meets its contract. The invariant: the pool has the length it had, there is a slot for each stop's child, and the pool shows with r
+-- a state of the run. The measure: the nodes that are not yet branched. `SearchLaws` has why the loop goes on and ends. No turn is refused: the
+-- selection is one that there is.
+use mathlib.Core.Path.{_≡_, refl, ap, _∙_, subst}
+use mathlib.Core.List.{List}
+use Prim.Native.Nat.{ℕ, _+_, _-_, _*_, _≤_}
+use native.Mathlib.Omega.{arith}
+use lib.ListN.{length}
+use borrow.Author.Needs.{needs}
+use Rattle.sizes.specs.Sizes.{mostStops, recordWords}
+use Rattle.search.specs.Problem.{State}
+use Rattle.orders.specs.Orders.{Node, nodes}
+use Rattle.records.specs.Records.{recordsIn}
+use Rattle.records.specs.Code.{records}
+use Rattle.records.proofs.ViewLaws.{length-records}
+use Rattle.planner.specs.Code.{Running, Turned, stoppedBy}
+use Rattle.planner.specs.declared.run.Turn.{Turn}
+use Rattle.planner.proofs.SearchLaws.{run-begins, turn-keeps, turn-falls, settle-ready, floor-ready, turns-end}
+use Rattle.planner.proofs.run.turns.Statement.{statement}
+use Rattle.planner.proofs.run.turns.Tie as tie
+
+abbrev Inv-loop : tie.InvT-loop
+Inv-loop setting t start w₀ capacity r₀ kids₀ w r kids =
+    ((length w ≡ length w₀) × (length kids ≡ mostStops * recordWords)) × ((s : State Node) × Running setting t start w r s)
+
+abbrev μ-loop : tie.MeasureT-loop
+μ-loop setting t start w₀ capacity r₀ kids₀ w r kids = nodes (setting .n) - r .branched
+
+-- the places before: the entry, seen from the run's beginning; this, seen from the loop's head; and this, seen from behind the turn
+abbrev entry : tie.After-begun Inv-loop μ-loop → tie.Start Inv-loop μ-loop
+entry c = c .before .before .before .before
+
+abbrev began : tie.At-loop Inv-loop μ-loop → tie.After-begun Inv-loop μ-loop
+began c = c .before .before .before
+
+abbrev head : tie.After-take-turn Inv-loop μ-loop → tie.At-loop Inv-loop μ-loop
+head c = c .before .before .before
+
+-- and the turn, seen from where its answer is known to be the end, a spent budget, a full pool, a refusal, or the next state
+abbrev finish : tie.After-enum-told Inv-loop μ-loop → tie.After-take-turn Inv-loop μ-loop
+finish c = c .before .before .before .before .before
+
+abbrev stop : tie.After-enum-told2 Inv-loop μ-loop → tie.After-take-turn Inv-loop μ-loop
+stop c = c .before .before .before .before .before
+
+abbrev full : tie.After-enum-told3 Inv-loop μ-loop → tie.After-take-turn Inv-loop μ-loop
+full c = c .before .before .before .before .before
+
+abbrev refusal : tie.After-next2 Inv-loop μ-loop → tie.After-take-turn Inv-loop μ-loop
+refusal c = c .before .before .before .before .before
+
+abbrev further : tie.After-next Inv-loop μ-loop → tie.After-take-turn Inv-loop μ-loop
+further c = c .before .before .before .before .before
+
+-- where the pool is settled, seen from the report
+abbrev settled : tie.After-finished Inv-loop μ-loop → tie.After-settle Inv-loop μ-loop
+settled c = c .before .before .before
+
+abbrev settled2 : tie.After-stopped Inv-loop μ-loop → tie.After-settle2 Inv-loop μ-loop
+settled2 c = c .before .before .before
+
+abbrev settled3 : tie.After-full Inv-loop μ-loop → tie.After-settle3 Inv-loop μ-loop
+settled3 c = c .before .before .before
+
+-- the pool after the turn
+abbrev pool : tie.After-take-turn Inv-loop μ-loop → List ℕ
+pool c = c .take-turn .last .1 .1 .0
+
+-- the pool at the loop's head has the length it had at the entry
+long : (c : tie.At-loop Inv-loop μ-loop) → length (c .loop .w) ≡ length (entry (began c) .args .w .now)
+long c = c .loop .inv .0 .0 ∙ began c .begun .kept .1 .1 .1 .0
+
+-- what the turn then gives, and that the pool keeps its length
+abbrev Gives : tie.After-take-turn Inv-loop μ-loop → Turn → Type 0
+Gives c q =
+    let a = entry (began (head c)) .args in
+    let loop = head c .loop in
+    Turned (a .setting) (a .t) (loop .w) (pool c) (loop .inv .1 .0) q
+
+turned : (c : tie.After-take-turn Inv-loop μ-loop) (q : Turn) → c .take-turn .result ≡ q → Gives c q
+turned c q e = let inv = head c .loop .inv in subst (Gives c) e (c .take-turn .ensures _ (inv .1 .0) (inv .1 .1))
+
+kept : (c : tie.After-take-turn Inv-loop μ-loop) → length (pool c) ≡ length (head c .loop .w)
+kept c = c .take-turn .kept .1 .1 .0
+
+begun-requires : tie.Need-begun-requires Inv-loop μ-loop
+begun-requires c κs = let b = c .before .before .before .pre in (b .rows, (b .order, b .room))
+
+loop-holds : tie.Need-loop-holds Inv-loop μ-loop
+loop-holds c =
+    let b = c .before .before in
+    ((refl, omega arith), (_, run-begins (entry b .pre) (b .begun .ensures)))
+
+take-turn-requires : tie.Need-take-turn-requires Inv-loop μ-loop
+take-turn-requires c κs =
+    let loop = c .before .before .loop in
+    ((_, loop .inv .1 .0, loop .inv .1 .1), omega (arith, length-records (loop .kids)))
+
+loop-less : tie.Need-loop-less Inv-loop μ-loop
+loop-less c =
+    let turn = further (c .before) in
+    turn-falls (head turn .loop .inv .1 .1) (turned turn _ (c .before .next .given .1)) (kept turn)
+
+loop-again : tie.Need-loop-again Inv-loop μ-loop
+loop-again c =
+    let turn = further (c .before) in
+    let inv = head turn .loop .inv in
+    ((kept turn ∙ inv .0 .0, turn .take-turn .kept .1 .1 .1 .1 .0 ∙ inv .0 .1), turn-keeps (inv .1 .1) (turned turn _ (c .before .next .given .1)) (kept turn))
+
+-- as many stops as there may be
+few : (c : tie.After-take-turn Inv-loop μ-loop) → entry (began (head c)) .args .setting .n ≤ mostStops
+few c = entry (began (head c)) .pre .rows .few
+
+-- where the turn ends the run, `settle` has what it asks
+settles :
+    (c : tie.After-take-turn Inv-loop μ-loop)
+    → let capacity = recordsIn (entry (began (head c)) .args .w .now) in
+    let r = head c .loop .r in (capacity ≡ length (records (pool c))) × (r .active + r .far ≤ capacity)
+settles c = settle-ready (head c .loop .inv .1 .1) _ (pool c) (long (head c)) (kept c)
+
+settle-requires : tie.Need-settle-requires Inv-loop μ-loop
+unfolding recordsIn
+settle-requires c κs = settles (finish (c .before))
+
+same-length : tie.Need-same-length Inv-loop μ-loop
+same-length c =
+    let s = settled c in
+    let turn = finish (s .before .before) in
+    s .settle .kept .0 ∙ kept turn ∙ long (head turn)
+
+returns : tie.Need-returns Inv-loop μ-loop
+unfolding recordsIn
+returns c =
+    let s = settled c in
+    let told = s .before .before in
+    let turn = finish told in
+    turns-end (head turn .loop .inv .1 .1) (long (head turn)) (turned turn _ (told .enum-told .given .1))
+    (record { kept = s .settle .kept .0; layout = s .settle .ensures }) (c .finished .ensures)
+
+floor-requires : tie.Need-floor-requires Inv-loop μ-loop
+floor-requires c κs =
+    let turn = stop (c .before) in
+    let ready = floor-ready (head turn .loop .inv .1 .1) (pool turn) (kept turn) in omega arith
+
+settle-requires-2 : tie.Need-settle-requires-2 Inv-loop μ-loop
+unfolding recordsIn
+settle-requires-2 c κs = settles (stop (c .before .before .before))
+
+same-length-2 : tie.Need-same-length-2 Inv-loop μ-loop
+same-length-2 c =
+    let s = settled2 c in
+    let turn = stop (s .before .before .before .before) in
+    s .settle2 .kept .0 ∙ kept turn ∙ long (head turn)
+
+returns-2 : tie.Need-returns-2 Inv-loop μ-loop
+unfolding recordsIn
+returns-2 c =
+    let s = settled2 c in
+    let least = s .before .before in
+    let told = least .before .before in
+    let turn = stop told in
+    turns-end (head turn .loop .inv .1 .1) (long (head turn)) (turned turn _ (told .enum-told2 .given .1))
+    (record { kept = s .settle2 .kept .0; layout = s .settle2 .ensures })
+    (c .stopped .ensures ∙ ap (λ (m : ℕ). stoppedBy (entry (began (head turn)) .args .setting .n) m (head turn .loop .r)) (least .floor .ensures))
+
+settle-requires-3 : tie.Need-settle-requires-3 Inv-loop μ-loop
+unfolding recordsIn
+settle-requires-3 c κs = settles (full (c .before))
+
+same-length-3 : tie.Need-same-length-3 Inv-loop μ-loop
+same-length-3 c =
+    let s = settled3 c in
+    let turn = full (s .before .before) in
+    s .settle3 .kept .0 ∙ kept turn ∙ long (head turn)
+
+returns-3 : tie.Need-returns-3 Inv-loop μ-loop
+unfolding recordsIn
+returns-3 c =
+    let s = settled3 c in
+    let told = s .before .before in
+    let turn = full told in
+    turns-end (head turn .loop .inv .1 .1) (long (head turn)) (turned turn _ (told .enum-told3 .given .1))
+    (record { kept = s .settle3 .kept .0; layout = s .settle3 .ensures }) (c .full .ensures)
+
+same-length-4 : tie.Need-same-length-4 Inv-loop μ-loop
+same-length-4 c = let turn = refusal (c .before .before) in kept turn ∙ long (head turn)
+
+returns-4 : tie.Need-returns-4 Inv-loop μ-loop
+returns-4 c =
+    let told = c .before .before in
+    let turn = refusal told in
+    absurd (omega (arith, turned turn _ (told .next2 .given .1) .0 .0, head turn .loop .inv .1 .1 .selects))
+
+pub turns-spec : {M : Type 1} → statement M
+turns-spec =
+    tie.close
+    (tie.spec
+    Inv-loop
+    μ-loop
+    begun-requires
+    loop-holds
+    (λ c. search needs)
+    take-turn-requires
+    (λ c. search needs)
+    loop-less
+    loop-again
+    (λ c. search needs)
+    settle-requires
+    (λ c κs. few (finish (c .before .before .before .before)))
+    same-length
+    returns
+    (λ c. search needs)
+    floor-requires
+    settle-requires-2
+    (λ c κs. few (stop (c .before .before .before .before .before .before)))
+    same-length-2
+    returns-2
+    (λ c. search needs)
+    settle-requires-3
+    (λ c κs. search needs)
+    same-length-3
+    returns-3
+    (λ c. search needs)
+    (λ c κs. search needs)
+    same-length-4
+    returns-4)
