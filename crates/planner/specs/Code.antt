@@ -5,7 +5,7 @@
 --   nextOf       what comes next of it
 --   Turned       what a turn gives
 --   reported, placesOf, finishedBy, fullBy, stoppedBy    the report of a run that has ended, and by how it ended
---   Begins       what the turns begin with
+--   rowsBy, Begins    the rows that a setting goes by, and what the turns begin with
 --   Told, Settled, Ran    the turns have come to an end: what they tell of it, and how they leave the pool
 --   Ended        what is returned and left in the pool is what the call's run ends with
 use mathlib.Core.Path.{_≡_}
@@ -22,6 +22,8 @@ use Rattle.search.specs.Problem.{State, start}
 use Rattle.search.specs.Run.{Next, Steps, finish, halt, overflow, go, next}
 use Rattle.orders.specs.Orders.{Node, Order}
 use Rattle.orders.specs.Pairs.{Allowed}
+use Rattle.stops.specs.Tables.{rows}
+use Rattle.stops.specs.Bounds.{endsAway}
 use Rattle.stops.specs.Code.{emptyRecord}
 use Rattle.stops.specs.declared.node_record.Record.{Record}
 use Rattle.records.specs.Records.{stopAt, recordsIn}
@@ -98,6 +100,10 @@ unfoldable pub stoppedBy : ℕ → ℕ → Run → Report
 stoppedBy n floor r =
     cond (eqb (r .best .upper) aboveEveryCost) (reported 0 1 0 floor (replicate orderPlaces 0) r)
     (reported 0 1 (r .best .upper) floor (placesOf n (r .best)) r)
+
+-- the rows of a table for a setting's day
+abbrev pub rowsBy : Setting → List ℕ → Table
+rowsBy d table = rows (d .n) (endsAway (d .bound)) table
 
 -- rows that are in order, a selection that there is, a starting order, which respects the pairs, and room for e
 pub record Begins (d : Setting) (t : Table) (first w : List ℕ) : Type 0 where

@@ -9,6 +9,7 @@ ghost use lib.ListN.{length, take};
 ghost use Rattle.sizes.specs.Sizes.{mostStops};
 ghost use Rattle.search.specs.Problem.{State, start};
 ghost use Rattle.orders.specs.Orders.{Node, Order};
+ghost use Rattle.stops.specs.Code.{Priced};
 ghost use Rattle.records.specs.Code.{records};
 ghost use Rattle.selection.specs.Code.{Chosen};
 ghost use Rattle.answer.specs.Call.{callOf};
@@ -17,7 +18,7 @@ ghost use Rattle.answer.specs.Answer.{given};
 ghost use Rattle.pairs.specs.Code.{OfStops};
 ghost use Rattle.children.specs.Code.{settingBy, Rows, problemOf};
 ghost use Rattle.step.specs.Code.{Shown};
-ghost use Rattle.planner.specs.Code.{Running, Turned, Begins, Ran, Ended, recordsOf};
+ghost use Rattle.planner.specs.Code.{Running, Turned, rowsBy, Begins, Ran, Ended, recordsOf};
 use crate::report::finished;
 use crate::report::full;
 use crate::report::refused;
@@ -135,11 +136,12 @@ fn begun(setting: Setting, t: [[u32; PLACES]; PLACES], start: &[u8], w: &mut [u3
     }
 }
 
-// The turns of a run, until one of them ends it. The slots for a node's children are made once, and lent to each turn.
-fn turns(setting: Setting, t: [[u32; PLACES]; PLACES], start: &[u8], w: &mut [u32]) -> Report
-    requires { ⌜ Begins setting t (now start) (now w) ⌝ }
-    ensures { λ q. ⌜ Ran setting t (now (start .entry)) (now (w .entry)) q (now (w .exit)) ⌝ }
+// The turns of a run over the rows of a table, until one of them ends it. The slots for a node's children are made once, and lent to each turn.
+fn turns(setting: Setting, table: &[u32], start: &[u8], w: &mut [u32]) -> Report
+    requires { ⌜ Priced (setting .n) (now table) × Begins setting (rowsBy setting (now table)) (now start) (now w) ⌝ }
+    ensures { λ q. ⌜ Ran setting (rowsBy setting (now (table .entry))) (now (start .entry)) (now (w .entry)) q (now (w .exit)) ⌝ }
 {
+    let t = rows(setting.n as usize, setting.bound, table);
     let capacity = w.len() / RECORD_WORDS;
     let mut r = begun(setting, t, start, w);
     let mut kids = [0u32; FAMILY_WORDS];
@@ -197,6 +199,5 @@ pub fn search(
     ensures { λ q. ⌜ Ended (callOf job (now (table .entry)) (now (start .entry)) (now (pairs .entry)) budget (now (w .entry))) q (now (w .exit)) ⌝ }
 {
     let setting = setting_of(job, pairs, budget);
-    let t = rows(setting.n as usize, setting.bound, table);
-    turns(setting, t, start, w)
+    turns(setting, table, start, w)
 }

@@ -1,7 +1,7 @@
 -- `turns` meets its contract. The invariant: the pool has the length it had, there is a slot for each stop's child, and the pool shows with r
 -- a state of the run. The measure: the nodes that are not yet branched. `SearchLaws` has why the loop goes on and ends. No turn is refused: the
 -- selection is one that there is.
-use mathlib.Core.Path.{_≡_, refl, ap, _∙_, subst}
+use mathlib.Core.Path.{_≡_, refl, ap, sym, _∙_, subst}
 use mathlib.Core.List.{List}
 use Prim.Native.Nat.{ℕ, _+_, _-_, _*_, _≤_}
 use native.Mathlib.Omega.{arith}
@@ -13,22 +13,31 @@ use Rattle.orders.specs.Orders.{Node, nodes}
 use Rattle.records.specs.Records.{recordsIn}
 use Rattle.records.specs.Code.{records}
 use Rattle.records.proofs.ViewLaws.{length-records}
-use Rattle.planner.specs.Code.{Running, Turned, stoppedBy}
+use Rattle.answer.specs.declared.Report.{Report}
+use Rattle.children.specs.Code.{Table}
+use Rattle.planner.specs.Code.{Running, Turned, rowsBy, Begins, Ran, stoppedBy}
 use Rattle.planner.specs.declared.run.Turn.{Turn}
 use Rattle.planner.proofs.SearchLaws.{run-begins, turn-keeps, turn-falls, settle-ready, floor-ready, turns-end}
 use Rattle.planner.proofs.run.turns.Statement.{statement}
 use Rattle.planner.proofs.run.turns.Tie as tie
 
 abbrev Inv-loop : tie.InvT-loop
-Inv-loop setting t start w₀ capacity r₀ kids₀ w r kids =
+Inv-loop setting table start w₀ t capacity r₀ kids₀ w r kids =
     ((length w ≡ length w₀) × (length kids ≡ mostStops * recordWords)) × ((s : State Node) × Running setting t start w r s)
 
 abbrev μ-loop : tie.MeasureT-loop
-μ-loop setting t start w₀ capacity r₀ kids₀ w r kids = nodes (setting .n) - r .branched
+μ-loop setting table start w₀ t capacity r₀ kids₀ w r kids = nodes (setting .n) - r .branched
 
--- the places before: the entry, seen from the run's beginning; this, seen from the loop's head; and this, seen from behind the turn
+-- the places before: the entry, seen from where the rows are known; these, seen from the run's beginning; this, seen from the loop's head; and this, seen
+-- from behind the turn
+abbrev first : tie.After-rows Inv-loop μ-loop → tie.Start Inv-loop μ-loop
+first c = c .before .before .before .before .before
+
+abbrev tabled : tie.After-begun Inv-loop μ-loop → tie.After-rows Inv-loop μ-loop
+tabled c = c .before .before
+
 abbrev entry : tie.After-begun Inv-loop μ-loop → tie.Start Inv-loop μ-loop
-entry c = c .before .before .before .before
+entry c = first (tabled c)
 
 abbrev began : tie.At-loop Inv-loop μ-loop → tie.After-begun Inv-loop μ-loop
 began c = c .before .before .before
@@ -70,12 +79,20 @@ pool c = c .take-turn .last .1 .1 .0
 long : (c : tie.At-loop Inv-loop μ-loop) → length (c .loop .w) ≡ length (entry (began c) .args .w .now)
 long c = c .loop .inv .0 .0 ∙ began c .begun .kept .1 .1 .1 .0
 
+-- the rows are those of the table
+its-rows : (c : tie.After-rows Inv-loop μ-loop) → let a = first c .args in c .rows .result ≡ rowsBy (a .setting) (a .table .now)
+its-rows c = c .rows .ensures
+
+-- and what the turns begin with is of them
+begins : (c : tie.After-rows Inv-loop μ-loop) → let a = first c .args in Begins (a .setting) (c .rows .result) (a .start .now) (a .w .now)
+begins c = let a = first c .args in subst (λ (t : Table). Begins (a .setting) t (a .start .now) (a .w .now)) (sym (its-rows c)) (first c .pre .1)
+
 -- what the turn then gives, and that the pool keeps its length
 abbrev Gives : tie.After-take-turn Inv-loop μ-loop → Turn → Type 0
 Gives c q =
-    let a = entry (began (head c)) .args in
+    let b = began (head c) in
     let loop = head c .loop in
-    Turned (a .setting) (a .t) (loop .w) (pool c) (loop .inv .1 .0) q
+    Turned (entry b .args .setting) (tabled b .rows .result) (loop .w) (pool c) (loop .inv .1 .0) q
 
 turned : (c : tie.After-take-turn Inv-loop μ-loop) (q : Turn) → c .take-turn .result ≡ q → Gives c q
 turned c q e = let inv = head c .loop .inv in subst (Gives c) e (c .take-turn .ensures _ (inv .1 .0) (inv .1 .1))
@@ -84,12 +101,12 @@ kept : (c : tie.After-take-turn Inv-loop μ-loop) → length (pool c) ≡ length
 kept c = c .take-turn .kept .1 .1 .0
 
 begun-requires : tie.Need-begun-requires Inv-loop μ-loop
-begun-requires c κs = let b = c .before .before .before .pre in (b .rows, (b .order, b .room))
+begun-requires c κs = let b = begins (c .before) in (b .rows, (b .order, b .room))
 
 loop-holds : tie.Need-loop-holds Inv-loop μ-loop
 loop-holds c =
     let b = c .before .before in
-    ((refl, omega arith), (_, run-begins (entry b .pre) (b .begun .ensures)))
+    ((refl, omega arith), (_, run-begins (begins (tabled b)) (b .begun .ensures)))
 
 take-turn-requires : tie.Need-take-turn-requires Inv-loop μ-loop
 take-turn-requires c κs =
@@ -107,9 +124,19 @@ loop-again c =
     let inv = head turn .loop .inv in
     ((kept turn ∙ inv .0 .0, turn .take-turn .kept .1 .1 .1 .1 .0 ∙ inv .0 .1), turn-keeps (inv .1 .1) (turned turn _ (c .before .next .given .1)) (kept turn))
 
+-- what comes to an end over the rows does so over the table's
+over :
+    (c : tie.After-take-turn Inv-loop μ-loop) {q : Report} {w : List ℕ}
+    → let b = began (head c) in let a = entry b .args in Ran (a .setting) (tabled b .rows .result) (a .start .now) (a .w .now) q w
+    → Ran (a .setting) (rowsBy (a .setting) (a .table .now)) (a .start .now) (a .w .now) q w
+over c {q} {w} ran =
+    let b = began (head c) in
+    let a = entry b .args in
+    subst (λ (t : Table). Ran (a .setting) t (a .start .now) (a .w .now) q w) (its-rows (tabled b)) ran
+
 -- as many stops as there may be
 few : (c : tie.After-take-turn Inv-loop μ-loop) → entry (began (head c)) .args .setting .n ≤ mostStops
-few c = entry (began (head c)) .pre .rows .few
+few c = begins (tabled (began (head c))) .rows .few
 
 -- where the turn ends the run, `settle` has what it asks
 settles :
@@ -134,8 +161,9 @@ returns c =
     let s = settled c in
     let told = s .before .before in
     let turn = finish told in
-    turns-end (head turn .loop .inv .1 .1) (long (head turn)) (turned turn _ (told .enum-told .given .1))
-    (record { kept = s .settle .kept .0; layout = s .settle .ensures }) (c .finished .ensures)
+    over turn
+    (turns-end (head turn .loop .inv .1 .1) (long (head turn)) (turned turn _ (told .enum-told .given .1))
+    (record { kept = s .settle .kept .0; layout = s .settle .ensures }) (c .finished .ensures))
 
 floor-requires : tie.Need-floor-requires Inv-loop μ-loop
 floor-requires c κs =
@@ -159,9 +187,10 @@ returns-2 c =
     let least = s .before .before in
     let told = least .before .before in
     let turn = stop told in
-    turns-end (head turn .loop .inv .1 .1) (long (head turn)) (turned turn _ (told .enum-told2 .given .1))
+    over turn
+    (turns-end (head turn .loop .inv .1 .1) (long (head turn)) (turned turn _ (told .enum-told2 .given .1))
     (record { kept = s .settle2 .kept .0; layout = s .settle2 .ensures })
-    (c .stopped .ensures ∙ ap (λ (m : ℕ). stoppedBy (entry (began (head turn)) .args .setting .n) m (head turn .loop .r)) (least .floor .ensures))
+    (c .stopped .ensures ∙ ap (λ (m : ℕ). stoppedBy (entry (began (head turn)) .args .setting .n) m (head turn .loop .r)) (least .floor .ensures)))
 
 settle-requires-3 : tie.Need-settle-requires-3 Inv-loop μ-loop
 unfolding recordsIn
@@ -179,8 +208,9 @@ returns-3 c =
     let s = settled3 c in
     let told = s .before .before in
     let turn = full told in
-    turns-end (head turn .loop .inv .1 .1) (long (head turn)) (turned turn _ (told .enum-told3 .given .1))
-    (record { kept = s .settle3 .kept .0; layout = s .settle3 .ensures }) (c .full .ensures)
+    over turn
+    (turns-end (head turn .loop .inv .1 .1) (long (head turn)) (turned turn _ (told .enum-told3 .given .1))
+    (record { kept = s .settle3 .kept .0; layout = s .settle3 .ensures }) (c .full .ensures))
 
 same-length-4 : tie.Need-same-length-4 Inv-loop μ-loop
 same-length-4 c = let turn = refusal (c .before .before) in kept turn ∙ long (head turn)
@@ -197,6 +227,8 @@ turns-spec =
     (tie.spec
     Inv-loop
     μ-loop
+    (λ c. search needs)
+    (λ c κs. c .before .before .before .before .pre .0)
     begun-requires
     loop-holds
     (λ c. search needs)
