@@ -232,8 +232,8 @@ static inline int gondamuy_ends_away(uint32_t bound)
  * What comes back, by number; of several refusals the first in the sequence 1, 2, 3, 4, 11 is returned:
  *   0           The order and its cost.
  *   1 to 4, 11  The number, and zeros in every other field.
- * Neither table nor pairs are written to. To start from the order, hand in the first n of first.order as start, with the
- * same pairs: 5 never comes from that. With other pairs it may. gondamuy_plan does not make one by itself.
+ * Neither table nor pairs are written to. To start from the order, hand in the first n of first.order as start, with
+ * the same pairs: 5 never comes from that. With other pairs it may. gondamuy_plan does not make one by itself.
  */
 struct gondamuy_first gondamuy_first_order(uint32_t n, uint32_t bound,
                                            const uint32_t *table, size_t table_len,

@@ -1,8 +1,8 @@
 /* Writes the job file of document 01's case a (three stops, least bound first, rule 1, close), reads it back and plans
  * it; plans case b (earliest first, no rules, plain) within three budgets, of which the first two stop it; plans case a
  * with a landing charge at each place, for a day that ends at home and for one that ends at the last stop; and plans it
- * with a passenger who is fetched at stop 3 and set down at stop 1. A refusal ends it with a status other than 0, and so
- * would a search of case a that did not finish. */
+ * with a passenger who is fetched at stop 3 and set down at stop 1. A refusal ends it with a status other than 0, and
+ * so would a search of case a that did not finish. */
 #include <inttypes.h>
 #include <stdio.h>
 #include <stdlib.h>

@@ -151,7 +151,7 @@ pub struct KnownOrder {
 }
 
 impl KnownOrder {
-    /// The stops as they are flown, as [`plan`](crate::plan) takes a starting order.
+    /// The stops as they are flown, as [`plan`](crate::plan) with the same pairs takes a starting order.
     pub fn order(&self) -> &[u8] {
         flown(&self.order)
     }

@@ -7,7 +7,7 @@ use std::fs;
 use std::path::Path;
 
 use common::{bytes, run, string};
-use gondamuy::Refusal;
+use gondamuy::{raw, Refusal};
 
 /// Document 01's table T in case a's way, with 3 before 1: without the pair 1 2 3 costs 13.
 const PAIRED: &str = "stops 3\ntable\n0 4 7 9\n5 0 2 6\n3 8 0 1\n6 5 4 0\npairs 3 1\n\
@@ -156,21 +156,40 @@ fn refused_texts() {
 #[test]
 fn refused_pair_files() {
     let file = bytes("case-a", "job");
-    let long: Vec<u8> = (1..=18).collect();
-    for (k, bad) in [&[3][..], &[3, 1, 2], &[0, 1], &[4, 1], &[2, 2], &[1, 2, 2, 3], &long].into_iter().enumerate() {
+    for (k, bad) in [&[3][..], &[3, 1, 2], &[0, 1], &[4, 1], &[2, 2], &[1, 2, 2, 3]].into_iter().enumerate() {
         let path = pair_file(&format!("bad-{k}"), bad);
         let said = format!("the pair file {path}: {}\n", Refusal::Pairs);
         assert_eq!(told(&["show", "pairs", &path], &file).unwrap_err(), said);
         assert_eq!(told(&["plan", "pairs", &path], &file).unwrap_err(), said);
         assert_eq!(told(&["plan", "pairs", &path], unpaired().as_bytes()).unwrap_err(), said);
     }
-    let started = run(&["write"], format!("{}start 1 2 3\n", unpaired()).as_bytes()).unwrap();
+    let started = format!("{}start 1 2 3\n", unpaired());
     let path = pair_file("against", &[3, 1]);
+    let said = told(&["plan", "pairs", &path], started.as_bytes()).unwrap_err();
+    assert_eq!(said, format!("line 10: {}\n", Refusal::Start));
+    let started = run(&["write"], started.as_bytes()).unwrap();
     for command in ["show", "plan"] {
         assert_eq!(told(&[command, "pairs", &path], &started).unwrap_err(), format!("{}\n", Refusal::Start));
     }
     let full = told(&["plan", "pairs", &path, "records", "1"], &file).unwrap_err();
     assert!(full.starts_with("refused 7: the pool is full\nbranched 0,"), "{full}");
+}
+
+/// A file that is too long is not cut to the eight pairs in front, which would pass.
+#[test]
+fn long_pair_files() {
+    let file = bytes("pilot-first", "job");
+    let mut pairs = raw::read(&file).start().to_vec();
+    let path = pair_file("long", &pairs);
+    assert!(told(&["show", "pairs", &path], &file).is_ok());
+    for stop in 1..=4 {
+        pairs.push(stop);
+        fs::write(&path, &pairs).unwrap();
+        for command in ["show", "plan"] {
+            let said = told(&[command, "pairs", &path], &file).unwrap_err();
+            assert_eq!(said, format!("the pair file {path}: {}\n", Refusal::Pairs));
+        }
+    }
 }
 
 #[test]

@@ -39,7 +39,7 @@ impl Random {
             1 => pairs.resize(self.pick(&[18, 20, 32, 256]), left),
             2 if pairs.is_empty() => pairs.extend([self.no_stop(n), left]),
             2 => pairs[at] = self.no_stop(n),
-            3 if !pairs.is_empty() => pairs.extend([left, pairs[at]]),
+            3 if !pairs.is_empty() => pairs.extend(self.pick(&[[left, pairs[at]], [pairs[at], left]])),
             _ => pairs.extend([left, left]),
         }
         pairs
