@@ -2,6 +2,7 @@
 
 use std::fs::{self, File};
 use std::io::Read;
+use std::os::unix::fs::MetadataExt;
 
 use gondamuy::{raw, Record, Refusal, MOST_PAIR_BYTES};
 use jobtext::Job;
@@ -16,8 +17,20 @@ pub fn read(path: &str) -> Result<Vec<u8>, String> {
     Ok(bytes)
 }
 
+/// Where the job file goes to the same file, it would take the pairs' place: then nothing is written.
 pub fn write(path: &str, pairs: &[u8]) -> Result<(), String> {
+    if same_file(path, "/dev/stdout") {
+        return Err(format!("the pair file {path} is where the job file goes"));
+    }
     fs::write(path, pairs).map_err(|fault| format!("the pair file {path} cannot be written: {fault}"))
+}
+
+/// Whether both are there and are one.
+fn same_file(one: &str, other: &str) -> bool {
+    match (fs::metadata(one), fs::metadata(other)) {
+        (Ok(one), Ok(other)) => (one.dev(), one.ino()) == (other.dev(), other.ino()),
+        _ => false,
+    }
 }
 
 /// A refusal of a job whose pairs stand in a file: that of the pairs with the file's name.

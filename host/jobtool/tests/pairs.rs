@@ -3,8 +3,9 @@
 
 mod common;
 
-use std::fs;
+use std::fs::{self, File};
 use std::path::Path;
+use std::process::Command;
 
 use common::{bytes, run, string};
 use gondamuy::{raw, Refusal};
@@ -62,6 +63,19 @@ fn text_to_files_and_back() {
 fn no_pair_is_lost_unsaid() {
     let said = "line 7: a job file has no pairs: `jobtool write pairs PAIR-FILE` writes them to a file of their own\n";
     assert_eq!(told(&["write"], PAIRED.as_bytes()).unwrap_err(), said);
+}
+
+/// The job file would stand where the pairs were.
+#[test]
+fn one_file_for_both() {
+    let (path, text) = (scratch("one"), scratch("text"));
+    fs::write(&text, PAIRED).unwrap();
+    let mut tool = Command::new(env!("CARGO_BIN_EXE_jobtool"));
+    tool.args(["write", "pairs", &path]).stdin(File::open(&text).unwrap()).stdout(File::create(&path).unwrap());
+    let output = tool.output().unwrap();
+    assert!(!output.status.success());
+    assert_eq!(output.stderr, format!("the pair file {path} is where the job file goes\n").into_bytes());
+    assert_eq!(fs::read(&path).unwrap(), []);
 }
 
 const OF_A: &str = "finished after 3 branchings\na cheapest order that respects the pairs costs 18: 2 3 1\n\
