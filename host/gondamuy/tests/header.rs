@@ -28,6 +28,24 @@ fn named(line: &str) -> Option<(String, u32)> {
     Some((name.strip_prefix("GONDAMUY_")?.to_string(), digits.parse().ok()?))
 }
 
+/// The refusals by their names in the header.
+fn refusals() -> [(&'static str, u32); 12] {
+    [
+        ("NOT_REFUSED", 0),
+        ("REFUSED_STOPS", Refusal::Stops as u32),
+        ("REFUSED_TABLE_LENGTH", Refusal::TableLength as u32),
+        ("REFUSED_LEG", Refusal::Leg as u32),
+        ("REFUSED_CHOICE", Refusal::Choice as u32),
+        ("REFUSED_START", Refusal::Start as u32),
+        ("REFUSED_POOL", Refusal::Pool as u32),
+        ("REFUSED_FULL", Refusal::Full as u32),
+        ("REFUSED_SHORT_FILE", Refusal::ShortFile as u32),
+        ("REFUSED_LAYOUT", Refusal::Layout as u32),
+        ("REFUSED_SHORT_BUFFER", Refusal::ShortBuffer as u32),
+        ("REFUSED_PAIRS", Refusal::Pairs as u32),
+    ]
+}
+
 #[test]
 fn the_same_numbers() {
     let rules = |rules| raw::Job::from(Job { n: 1, selection: Selection::Fifo, rules, bound: Bound::Plain }).rules;
@@ -54,20 +72,9 @@ fn the_same_numbers() {
         ("BOUND_CLOSE_AWAY", Bound::CloseAway as u32),
         ("NOT_STOPPED", raw::NOT_STOPPED),
         ("STOPPED", raw::STOPPED),
-        ("NOT_REFUSED", 0),
-        ("REFUSED_STOPS", Refusal::Stops as u32),
-        ("REFUSED_TABLE_LENGTH", Refusal::TableLength as u32),
-        ("REFUSED_LEG", Refusal::Leg as u32),
-        ("REFUSED_CHOICE", Refusal::Choice as u32),
-        ("REFUSED_START", Refusal::Start as u32),
-        ("REFUSED_POOL", Refusal::Pool as u32),
-        ("REFUSED_FULL", Refusal::Full as u32),
-        ("REFUSED_SHORT_FILE", Refusal::ShortFile as u32),
-        ("REFUSED_LAYOUT", Refusal::Layout as u32),
-        ("REFUSED_SHORT_BUFFER", Refusal::ShortBuffer as u32),
-        ("REFUSED_PAIRS", Refusal::Pairs as u32),
     ];
-    let told: HashMap<String, u32> = told.into_iter().map(|(name, number)| (name.to_string(), number)).collect();
+    let told: HashMap<String, u32> =
+        told.into_iter().chain(refusals()).map(|(name, number)| (name.to_string(), number)).collect();
     let found: HashMap<String, u32> = header().iter().filter_map(|line| named(line)).collect();
     assert_eq!(found, told);
 }
