@@ -5,11 +5,13 @@
 --   floor-holds, best-exists, best-between            the floor, the best of all orders and the order shown
 --   no-run-reaches                                    the largest 64-bit number
 use mathlib.Core.Path.{_≡_, refl, sym, _∙_, ap, subst}
+use mathlib.Core.Bool.{Bool, false, not}
 use mathlib.Core.List.{List, [], _∷_, List·Memᴰ·not-nil}
 use mathlib.Core.Logic.{_⊎_, inl, inr, _≢_}
 use mathlib.Core.Option.{Option}
 use Prim.Native.Nat.{ℕ, _≤_, _<_}
 use native.Mathlib.Omega.{arith}
+use lib.Dec.{T}
 use lib.ListN.{length, replicate, getD}
 use Rattle.sizes.specs.Sizes.{mostStops, orderPlaces, noBudget}
 use Rattle.lists.specs.Lists.{In, padded}
@@ -21,20 +23,20 @@ use Rattle.search.proofs.Optimal.{active-below}
 use Rattle.search.proofs.Bounded.{Bounded, counts-bounded}
 use Rattle.search.proofs.Budget.{steps-within, halts-exactly}
 use Rattle.orders.specs.Orders.{Node, size, Order}
-use Rattle.orders.specs.Pairs.{pairsOf}
+use Rattle.orders.specs.Pairs.{pairsOf, Pairing}
 use Rattle.orders.proofs.Tree.{nodes-rise}
 use Rattle.orders.proofs.Order.{order-complete}
-use Rattle.orders.proofs.Pairs.{allowed-leads, leads-allowed, in-ordersWith, ordersWith-in}
+use Rattle.orders.proofs.Pairs.{allowed-leads, leads-allowed, descends, in-ordersWith, ordersWith-in}
 use Rattle.days.specs.Days.{problem, choices}
 use Rattle.records.specs.Records.{recordsIn}
 use Rattle.answer.specs.Call.{Call, Answer, refusal}
 use Rattle.answer.specs.declared.Report.{Report}
-use Rattle.answer.specs.Checks.{cause}
+use Rattle.answer.specs.Checks.{cause₁₁, cause}
 use Rattle.answer.specs.Answer.{dayOf, problemOf, choicesOf, given, StateOf, stopsOf, costOf, floorOf, reportWith, ending}
 use Rattle.answer.specs.Ends.{ComesTo, StoppedAt, orderIn, AllowedOrder, HasOrder, Ended, planned, halted, filled, refused}
 use Rattle.answer.specs.Demands.{written, allowedOrders}
 use Rattle.answer.specs.Budget.{MarkedIff, StoppedAsWritten, OtherwiseZero, ExactBudget, WithinBudget, ShowsOrder, OrderOrZeros, FloorHolds, BestCost, BestExists, Between, NoRunReaches}
-use Rattle.answer.proofs.Passes.{Passes, passes}
+use Rattle.answer.proofs.Passes.{Passes, pairs-pass, pairs-pairing, passes}
 use Rattle.answer.proofs.Instance.{weight, call-weighs, root-light, call-pairing, call-lawful, bound-laws, selection-small, call-solvable, start-known, state-reached}
 use Rattle.answer.proofs.Known.{BestKnown, unknown, known, best-known, order-reported}
 use Rattle.answer.proofs.Ends.{stopped-answer}
@@ -133,13 +135,14 @@ floor-holds c a e m y i =
     let f : StoppedAt c a = stopped-as-written c a e m in
     rw (f .reported) (floor-below c (f .comes .passed) (f .comes .state) (f .comes .steps) y (in-ordersWith (c .job .n) (pairsOf (c .pairs)) y i))
 
--- from e an order is reached
-some-allowed : (c : Call) → cause c ≡ 0 → (x : Node) × AllowedOrder c x
+-- from e an order is reached, where the pairs pass
+some-allowed : (c : Call) → cause₁₁ (c .job .n) (c .pairs) ≡ false → (x : Node) × AllowedOrder c x
 unfolding problemOf problem
 some-allowed c passed =
-    let ok : Passes c = passes c passed in
-    let (x, whole, leads, low) = call-solvable c ok in
-    (x, leads-allowed (call-pairing c ok) (problemOf c) (λ y. refl) x whole leads)
+    let ok : Pairing (c .job .n) (pairsOf (c .pairs)) =
+    pairs-pairing (pairs-pass (c .job .n) (c .pairs) (subst (λ (b : Bool). T (not b)) (sym passed) tt)) in
+    let (x, whole, leads) = descends ok (problemOf c) (λ y. refl) [] in
+    (x, leads-allowed ok (problemOf c) (λ y. refl) x whole leads)
 
 pub best-exists : BestExists
 best-exists c passed = at (allowedOrders c) refl

@@ -14,7 +14,7 @@ use Rattle.search.proofs.Optimal.{ended-known, ended-least}
 use Rattle.orders.specs.Orders.{Node, size, Order}
 use Rattle.orders.proofs.Order.{order-complete}
 use Rattle.orders.proofs.Orders.{orders-in, in-orders, distinct-orders, length-orders}
-use Rattle.orders.specs.Pairs.{Pair, pairsOf, Allowed, respects}
+use Rattle.orders.specs.Pairs.{pairsOf}
 use Rattle.orders.proofs.Pairs.{allowed-leads, leads-allowed, in-ordersWith, ordersWith-in, distinct-ordersWith, respects-same}
 use Rattle.days.specs.Days.{Day, problem}
 use Rattle.records.specs.Records.{recordsIn}

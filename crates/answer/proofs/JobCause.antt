@@ -46,7 +46,7 @@ module _ (job : Job) (table start pairs : List ℕ) (budget : ℕ) (pool : List 
   unfolding cause callOf
   job-refuses k e h = e ∙ job-first job table start .own (λ z. h (e ∙ z)) (pairCause (job .n) start pairs (poolCause pool))
 
-  pub job-passes :
+  job-passes :
       (k : ℕ) → k ≡ jobCause job table start 0 → k ≡ 0
       → cause (callOf job table start pairs budget pool) ≡ pairCause (job .n) start pairs (poolCause pool)
   unfolding cause callOf

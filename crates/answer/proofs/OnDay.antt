@@ -18,7 +18,7 @@ use Rattle.search.specs.Run.{withBranched, held, Outcome, finished, stopped, fu
 use Rattle.search.proofs.Mapped.{Maps, ValidBest, ValidState}
 use Rattle.search.proofs.MappedRun.{start-valid}
 use Rattle.search.proofs.SameRun.{EndsValid, same-run}
-use Rattle.orders.specs.Orders.{Node, setOf, mask, size, complete, Partial, Order, nodes}
+use Rattle.orders.specs.Orders.{Node, setOf, mask, size, complete, Partial, nodes}
 use Rattle.orders.specs.Pairs.{pairsOf, Allowed}
 use Rattle.orders.proofs.Partial.{partial-root, partial-child}
 use Rattle.orders.proofs.Pairs.{kids-extend}
@@ -28,7 +28,7 @@ use Rattle.records.specs.Records.{orderWord, record-of, poolWords, recordsIn}
 use Rattle.answer.specs.Call.{Call}
 use Rattle.answer.specs.Checks.{cause}
 use Rattle.answer.specs.Answer.{dayOf, problemOf, choicesOf, given, stopsOf, costOf, outcome, floorOf, reportWith, wordsOf, ending, respond, answer}
-use Rattle.answer.specs.OnDay.{choicesOn, outcomeOf, wordsOn, floorOn, endingBy, answerBy, problemOn, answerOn, OnItsDay, SameFigures, FiguresDecide}
+use Rattle.answer.specs.OnDay.{choicesOn, outcomeOf, wordsOn, floorOn, endingBy, problemOn, answerOn, OnItsDay, SameFigures, FiguresDecide}
 use Rattle.answer.proofs.Passes.{Passes, passes}
 
 pub on-its-day : OnItsDay

@@ -4,37 +4,38 @@ use mathlib.Core.Bool.{Bool, true, false, not, _&&_, _||_}
 use mathlib.Core.List.{List, [], _∷_, _++_, map-id, List·Memᴰ·tail, List·Memᴰ·cases-cons, List·Memᴰ·not-nil, List·Memᴰ·append-cases, List·Memᴰ·eq-of-singleton}
 use mathlib.Core.Logic.{_⊎_, inl, inr, _≢_}
 use mathlib.Core.Option.{Option}
-use Prim.Native.Nat.{ℕ, zero, suc, _+_, _%_, _≤_}
+use Prim.Native.Nat.{ℕ, suc, _+_, _%_}
 use native.Mathlib.Omega.{arith}
-use lib.Dec.{T, T-not, eqb, ltb, leb}
+use lib.Dec.{T, T-not, eqb, leb}
 use lib.ListN.{length}
 use borrow.Author.Tests.{le-ltb}
 use Rattle.sizes.specs.Sizes.{mostPairBytes}
-use Rattle.lists.specs.Lists.{In, keep, all, Distinct, none, more}
+use Rattle.lists.specs.Lists.{In, all, Distinct, none, more}
 use Rattle.lists.proofs.Tests.{to-true, to-false, ne-neqb, equal-eqb, not-either}
 use Rattle.lists.proofs.Members.{in-head, in-all}
 use Rattle.lists.proofs.Distinct.{append-apart}
 use Rattle.search.specs.Problem.{Problem, Choices, State, upper, start}
-use Rattle.search.specs.Selection.{chosen, finishes, empty}
+use Rattle.search.specs.Selection.{finishes, empty}
 use Rattle.search.specs.Step.{step}
-use Rattle.search.specs.Run.{Steps, none as noStep, more as oneMore, Stepped}
+use Rattle.search.specs.Run.{Steps, none as noStep, more as oneMore}
 use Rattle.search.proofs.Mapped.{Maps, ValidBest, ValidState}
 use Rattle.search.proofs.MappedRun.{steps-valid, start-valid}
-use Rattle.orders.specs.Orders.{Node, stops, flown, left, extend, complete, count, Partial}
-use Rattle.orders.specs.Pairs.{Pair, pairsOf, Pairing, before, respects, Allowed}
+use Rattle.orders.specs.Orders.{Node, stops, flown, left, complete, count}
+use Rattle.orders.specs.Pairs.{Pair, pairsOf, before, respects, Allowed}
 use Rattle.orders.proofs.Sets.{stops-in, in-flown}
 use Rattle.orders.proofs.Order.{distinct-count, order-complete}
-use Rattle.orders.proofs.Pairs.{before-met, met-before, respects-root, in-children, in-ready, ready-respects, children-respect, child-some}
+use Rattle.orders.proofs.Before.{before-met, met-before}
+use Rattle.orders.proofs.Pairs.{respects-root, children-respect, child-respects, child-some}
 use Rattle.orders.proofs.PairFile.{pair-stops}
-use Rattle.days.specs.Days.{problem, choices}
+use Rattle.days.specs.Days.{problem}
 use Rattle.days.proofs.Walk.{problem-same}
 use Rattle.records.specs.Records.{recordsIn}
 use Rattle.answer.specs.Call.{Call, callOf, Answer, refusal}
-use Rattle.answer.specs.Checks.{cause₄, cause₅, cause₁₁, againstPairs, orLater, tableCause, jobCause, pairCause, poolCause, cause}
-use Rattle.answer.specs.Answer.{dayOf, problemOf, choicesOf, given, StateOf, reportWith, ending, answer}
+use Rattle.answer.specs.Checks.{cause₄, cause₅, cause₁₁, againstPairs, orLater, jobCause, pairCause, poolCause, cause}
+use Rattle.answer.specs.Answer.{dayOf, problemOf, choicesOf, given, reportWith, ending, respond, answer}
 use Rattle.answer.specs.Demands.{written}
 use Rattle.answer.specs.OnDay.{answerBy, problemOn}
-use Rattle.answer.specs.Pairs.{Apart, AllApart, GoodPairs, LetsPairsPass, Sequence, InSequence, RefusedAsByFive, BeforeMeans, OnlyRespecting, ChildrenRespect, BranchedYields, SequencePlaysNoPart}
+use Rattle.answer.specs.Pairs.{Apart, AllApart, GoodPairs, LetsPairsPass, InSequence, RefusedAsByFive, BeforeMeans, OnlyRespecting, ChildrenRespect, BranchedYields, SequencePlaysNoPart}
 use Rattle.answer.proofs.Passes.{Passes, PairsPass, passes, pairs-pass}
 use Rattle.answer.proofs.JobCause.{table-causes}
 use Rattle.answer.proofs.Instance.{call-pairing}
@@ -136,12 +137,32 @@ lets-pairs-pass n bytes = (there, back)
 
 -- ---- in which sequence the causes are looked at
 
-pub in-sequence : InSequence
-unfolding cause jobCause pairCause againstPairs
-in-sequence c passed known = record {
-  no-order = λ e. tables ∙ rw (known, e) refl;
-  no-pairs = λ e f. tables ∙ rw (known, e, f) refl;
-  against = λ e f g. tables ∙ rw (known, e, f, g) refl;
+-- a cause is the number of the report, and where there is none, that is 0 or 7
+cause-reported : (c : Call) (a : Answer) → written c a → (k : ℕ) → cause c ≡ suc k → a .report .number ≡ suc k
+unfolding answer respond refusal
+cause-reported c a e k h = ap (λ (x : Answer). x .report .number) (e ∙ ap (respond c) h)
+
+passed-reported : (c : Call) (a : Answer) → written c a → cause c ≡ 0 → (a .report .number ≡ 0) ⊎ (a .report .number ≡ 7)
+unfolding ending reportWith
+passed-reported c a e passed = go (call-came c)
+  where
+    number : {x : Answer} → answer c ≡ x → a .report .number ≡ x .report .number
+    number q = ap (λ (x : Answer). x .report .number) (e ∙ q)
+
+    go : Came c → (a .report .number ≡ 0) ⊎ (a .report .number ≡ 7)
+    go (checked k f q) = absurd (omega arith)
+    go (spent f) = inl (number (f .answered))
+    go (overran f) = inr (number (f .answered))
+    go (ended f) = inl (number (f .answered))
+
+pub in-sequence : InSequence written
+unfolding cause jobCause pairCause againstPairs poolCause
+in-sequence c a w passed known = record {
+  no-order = λ e. cause-reported c a w 4 (tables ∙ rw (known, e) refl);
+  bad-pairs = λ e f. cause-reported c a w 10 (tables ∙ rw (known, e, f) refl);
+  against = λ h. cause-reported c a w 4 (tables ∙ rw (known, h .0, h .1, h .2) refl);
+  pool-last = λ h p. cause-reported c a w 5 (tables ∙ rw (known, h .0, h .1, h .2, p) refl);
+  no-refusal = λ h p. passed-reported c a w (tables ∙ rw (known, h .0, h .1, h .2, p) refl);
 }
   where
     later : ℕ
@@ -203,10 +224,7 @@ module _ (c : Call) (ok : Passes c) where
     root = refl;
     root-valid = respects-root pairs;
     children = λ x h. sym (map-id _);
-    children-valid = λ x y h m.
-        let (s, i, e) = in-children (c .job .n) pairs x y m in
-        let (l, w) = in-ready pairs (left (c .job .n) x) s i in
-        subst (λ (z : Node). T (respects pairs z)) (sym e) (subst T (sym (ready-respects (call-pairing c ok) x s h l)) w);
+    children-valid = λ x y h m. child-respects (call-pairing c ok) x y h m;
     complete = λ x h. refl;
     cost = λ x h whole. refl;
     dominates = λ y z h k. refl;

@@ -10,7 +10,7 @@ use lib.Dec.{T, T-not, not-T, ltb, eqb, nltb→le, eqb→eq}
 use lib.ListN.{length}
 use borrow.Author.Tests.{le-ltb}
 use Rattle.lists.specs.Lists.{In, any, all, from, Distinct}
-use Rattle.lists.proofs.Tests.{neq, not-either, twice-not, to-false, either}
+use Rattle.lists.proofs.Tests.{neq, not-either, twice-not, to-false}
 use Rattle.lists.proofs.Members.{in-any, all-in, from-in}
 use Rattle.orders.specs.Orders.{stops, flown, count, Order, isOrder}
 use Rattle.orders.specs.Pairs.{pairsOf, Pairing, respects, Allowed}
@@ -203,7 +203,7 @@ no-cause-5 job table order e =
     to-false (cause₅ (job .n) order) (none-first (cause₅ (job .n) order) 4 0 e₄ .0)
 
 -- where the pairs have no cause, they pass and the starting order respects them
-pub pair-passed :
+pair-passed :
     (n : ℕ) (start pairs : List ℕ) (later : ℕ) → pairCause n start pairs later ≡ 0
     → PairsPass n pairs × T (respects (pairsOf pairs) start) × (later ≡ 0)
 unfolding pairCause againstPairs

@@ -1,5 +1,6 @@
 -- A call that uses no request's feature is answered as before the request: a type for each, over any planner; proofs/ has a theorem for each.
 --   freely, answerFreely, NoPairsAsBefore    without request A.6: no pairs
+--   laterCause                       the causes behind 5, which the requests before A.6 do not change
 --   homeCause, EndsHomeAsBefore      without request A.5: no day that ends away
 --   NoCharges, Uncharged, UnchargedByLegs    without request A.4: no landing charge
 --   legCause₃, legTableCause, TableCausesAsBefore    the causes that look at a table, by document 01

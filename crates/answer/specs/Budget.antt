@@ -8,6 +8,7 @@
 --   LargerBudget                                  of two stopped runs of one job
 --   UnstoppedAsWithout, NoRunReaches              where the budget does not stop the run, and the largest 64-bit number
 use mathlib.Core.Path.{_≡_}
+use mathlib.Core.Bool.{false}
 use mathlib.Core.List.{[]}
 use mathlib.Core.Logic.{_⊎_, _≢_, _↔_}
 use Prim.Native.Nat.{ℕ, _≤_, _<_}
@@ -18,7 +19,7 @@ use Rattle.orders.specs.Orders.{Node}
 use Rattle.answer.specs.Call.{Call, Answer}
 use Rattle.answer.specs.declared.Report.{Report}
 use Rattle.answer.specs.Answer.{dayOf}
-use Rattle.answer.specs.Checks.{cause}
+use Rattle.answer.specs.Checks.{cause₁₁}
 use Rattle.answer.specs.Ends.{BudgetIsSpent, ComesTo, StoppedAt, AllowedOrder, HasOrder}
 use Rattle.answer.specs.Demands.{Planner, allowedOrders}
 
@@ -59,21 +60,21 @@ NoDearerThanStart P =
     (c : Call) (a : Answer) → P c a → a .report .mark ≡ 1 → c .start ≢ []
     → ShowsOrder (a .report) × (a .report .cost ≤ dayOf c .cost (c .start))
 
--- Every order costs at least the floor.
+-- Every order that respects the pairs costs at least the floor.
 abbrev pub FloorHolds : Planner → Type 0
 FloorHolds P =
     (c : Call) (a : Answer) → P c a → a .report .mark ≡ 1 → (y : Node) → In y (allowedOrders c) → a .report .floor ≤ dayOf c .cost y
 
--- v is what the best of all orders costs.
+-- v is what the best of all orders that respect the pairs costs.
 pub record BestCost (c : Call) (v : ℕ) : Type 0 where
   pub order : Node
   pub is-allowed : AllowedOrder c order
   pub costs : v ≡ dayOf c .cost order
   pub least : (y : Node) → In y (allowedOrders c) → v ≤ dayOf c .cost y
 
--- Some order is the best of all, where the checks let the pairs pass.
+-- Some order is the best of them, where check 11 lets the pairs pass.
 abbrev pub BestExists : Type 0
-BestExists = (c : Call) → cause c ≡ 0 → (v : ℕ) × BestCost c v
+BestExists = (c : Call) → cause₁₁ (c .job .n) (c .pairs) ≡ false → (v : ℕ) × BestCost c v
 
 -- The floor is at most what that best one costs; an order that is shown costs at least as much.
 abbrev pub Between : Planner → Type 0

@@ -109,7 +109,7 @@ full-is-unmarked : Holds full₁
 unfolding full₁ tableT computed
 full-is-unmarked = refl
 
--- A budget changes no refusal by 1 to 6.
+-- A budget changes no refusal by a check.
 j₀ : Case
 j₀ = answers (within 0 (call 17 [] 0 0 0 [] 1)) (record { report = refused 1 0 0 0 0 0; pool = replicate recordWords 7 })
 

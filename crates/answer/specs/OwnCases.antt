@@ -250,7 +250,7 @@ each-cause :
 unfolding h computed
 each-cause = refl
 
--- Of several causes the lowest number is returned.
+-- Of several causes the first is returned; without pairs that is the lowest number.
 lowest-of-several :
     map cause
     (call 17 (1 ∷ []) 4 0 0 (2 ∷ []) 0

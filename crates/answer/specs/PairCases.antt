@@ -1,6 +1,6 @@
 -- Cases of request A.6: days with pairs, worked out by hand and by the second planner (`pair-cases-hold`); and checks 5 and 11 fault by fault.
 use mathlib.Core.Path.{_≡_, refl}
-use mathlib.Core.Bool.{Bool, true, false}
+use mathlib.Core.Bool.{true, false}
 use mathlib.Core.List.{List, [], _∷_, map}
 use Prim.Native.Nat.{ℕ}
 use lib.ListN.{replicate}

@@ -7,9 +7,9 @@
 --   SequencePlaysNoPart               of a planner's answers
 -- What a call without pairs is answered is in `AsBefore`.
 use mathlib.Core.Path.{_≡_}
-use mathlib.Core.Bool.{true, false}
+use mathlib.Core.Bool.{Bool, true, false}
 use mathlib.Core.List.{List, [], _∷_, _++_}
-use mathlib.Core.Logic.{_≢_, _↔_}
+use mathlib.Core.Logic.{_⊎_, _≢_, _↔_}
 use Prim.Native.Nat.{ℕ, _%_, _≤_}
 use lib.Dec.{T}
 use lib.ListN.{length}
@@ -19,7 +19,7 @@ use Rattle.search.specs.Problem.{State}
 use Rattle.orders.specs.Orders.{Node, extensions, Partial}
 use Rattle.orders.specs.Pairs.{Pair, pairsOf, before, respects}
 use Rattle.answer.specs.Call.{Call, callOf, Answer, refusal}
-use Rattle.answer.specs.Checks.{cause₄, cause₅, cause₁₁, tableCause, cause}
+use Rattle.answer.specs.Checks.{cause₄, cause₅, cause₁₁, cause₆, tableCause, cause}
 use Rattle.answer.specs.Answer.{problemOf, StateOf}
 use Rattle.answer.specs.Demands.{Planner, SamePairs}
 
@@ -49,16 +49,26 @@ pub record GoodPairs (n : ℕ) (bytes : List ℕ) : Type 0 where
 abbrev pub LetsPairsPass : Type 0
 LetsPairsPass = (n : ℕ) (bytes : List ℕ) → (cause₁₁ n bytes ≡ false) ↔ GoodPairs n bytes
 
--- Where causes 1 to 4 do not apply: a starting order that is none gets 5, whatever the pairs; else pairs that do not pass get 11, whatever the pool; and a
--- starting order against pairs that pass gets 5.
-pub record Sequence (c : Call) : Type 0 where
-  pub no-order : cause₅ (c .job .n) (c .start) ≡ true → cause c ≡ 5
-  pub no-pairs : cause₅ (c .job .n) (c .start) ≡ false → cause₁₁ (c .job .n) (c .pairs) ≡ true → cause c ≡ 11
-  pub against :
-      cause₅ (c .job .n) (c .start) ≡ false → cause₁₁ (c .job .n) (c .pairs) ≡ false → respects (pairsOf (c .pairs)) (c .start) ≡ false → cause c ≡ 5
+-- the pairs pass, and the starting order is empty or an order: whether it respects them
+abbrev pub Respected : Call → Bool → Type 0
+Respected c answer =
+    (cause₅ (c .job .n) (c .start) ≡ false) × (cause₁₁ (c .job .n) (c .pairs) ≡ false) × (respects (pairsOf (c .pairs)) (c .start) ≡ answer)
 
-abbrev pub InSequence : Type 0
-InSequence = (c : Call) → tableCause (c .job .n) (c .table) 0 ≡ 0 → cause₄ (c .job) ≡ false → Sequence c
+-- the number of a call to which none of causes 1 to 4 applies
+pub record Sequence (c : Call) (number : ℕ) : Type 0 where
+  -- a starting order that is no order gets 5, whatever the pairs
+  pub no-order : cause₅ (c .job .n) (c .start) ≡ true → number ≡ 5
+  -- else pairs that do not pass get 11, whatever the pool
+  pub bad-pairs : cause₅ (c .job .n) (c .start) ≡ false → cause₁₁ (c .job .n) (c .pairs) ≡ true → number ≡ 11
+  -- a starting order against pairs that pass gets 5
+  pub against : Respected c false → number ≡ 5
+  -- and only then is the pool looked at
+  pub pool-last : Respected c true → cause₆ (c .pool) ≡ true → number ≡ 6
+  pub no-refusal : Respected c true → cause₆ (c .pool) ≡ false → (number ≡ 0) ⊎ (number ≡ 7)
+
+abbrev pub InSequence : Planner → Type 0
+InSequence P =
+    (c : Call) (a : Answer) → P c a → tableCause (c .job .n) (c .table) 0 ≡ 0 → cause₄ (c .job) ≡ false → Sequence c (a .report .number)
 
 -- 11 returns and leaves what 5 does: zeros, and the pool as it was.
 abbrev pub RefusedAsByFive : Planner → Type 0

@@ -17,7 +17,7 @@ use Rattle.lists.proofs.Tests.{both-false}
 use Rattle.orders.specs.Orders.{isOrder}
 use Rattle.stops.specs.Tables.{charge}
 use Rattle.answer.specs.declared.Job.{Job}
-use Rattle.answer.specs.Checks.{cause₁, cause₂, cause₃, noSuchBound, cause₄, cause₅, cause₁₁, againstPairs, isEmpty, orLater, tableCause, firstCause, jobCause, pairCause}
+use Rattle.answer.specs.Checks.{cause₁, cause₂, cause₃, noSuchBound, cause₄, cause₅, cause₁₁, isEmpty, orLater, tableCause, firstCause, jobCause}
 use Rattle.answer.proofs.JobCause.{table-causes}
 
 -- ---- causes 1 to 3

@@ -2,12 +2,12 @@
 --   odd-refused, long-refused, others-refused, twice-left    the answer of `wrong_pairs`
 --   given-partial    a starting order that check 5 let pass is a partial order, if only the empty one
 --   pairs-refused, pairs-against, pairs-right    the answer of `pair_cause`
-use mathlib.Core.Path.{_≡_, refl, sym, subst}
-use mathlib.Core.Bool.{Bool, true, false, not, _||_, or-true}
+use mathlib.Core.Path.{_≡_, sym, subst}
+use mathlib.Core.Bool.{Bool, true, false, not}
 use mathlib.Core.List.{List, []}
 use mathlib.Core.Logic.{_⊎_, inl, inr, _≢_}
 use Prim.Native.Nat.{ℕ, _%_, _≤_, _<_}
-use lib.Dec.{T, eqb, ltb}
+use lib.Dec.{T, eqb}
 use lib.ListN.{length}
 use borrow.Author.Tests.{eq-eqb, ne-eqb, lt-ltb, le-ltb}
 use Rattle.sizes.specs.Sizes.{mostPairBytes}
@@ -16,7 +16,7 @@ use Rattle.orders.specs.Orders.{stops, flown, count, Partial, Order}
 use Rattle.orders.specs.Pairs.{pairsOf, respects}
 use Rattle.orders.proofs.Partial.{partial-root}
 use Rattle.orders.proofs.Order.{order-partial}
-use Rattle.answer.specs.Checks.{cause₅, cause₁₁, againstPairs, orLater, pairCause}
+use Rattle.answer.specs.Checks.{cause₅, cause₁₁, againstPairs, pairCause}
 use Rattle.answer.proofs.Passes.{start-passes}
 
 module _ (n : ℕ) (pairs : List ℕ) where

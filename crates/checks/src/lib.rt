@@ -6,7 +6,7 @@ ghost use mathlib.Core.Path.{_≡_};
 ghost use mathlib.Core.Bool.{false};
 ghost use Prim.Native.Nat.{_≤_};
 ghost use Rattle.sizes.specs.Sizes.{mostStops};
-ghost use Rattle.answer.specs.Checks.{cause₁, noSuchBound, cause₄, cause₅, cause₁₁, tableCause, firstCause, jobCause, pairCause};
+ghost use Rattle.answer.specs.Checks.{cause₁, noSuchBound, cause₄, cause₅, tableCause, firstCause, jobCause, pairCause};
 
 mod order;
 mod pair_file;

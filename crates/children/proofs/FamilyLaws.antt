@@ -16,7 +16,6 @@ use Rattle.lists.specs.Lists.{In}
 use Rattle.lists.proofs.Map.{map-same}
 use Rattle.lists.proofs.Tests.{compared}
 use Rattle.orders.specs.Orders.{left, extend}
-use Rattle.orders.specs.Pairs.{ready}
 use Rattle.orders.proofs.Sets.{size-extend}
 use Rattle.orders.proofs.Pairs.{in-ready}
 use Rattle.stops.specs.Code.{emptyRecord, extended, stopsIn, First}

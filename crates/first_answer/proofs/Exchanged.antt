@@ -1,6 +1,6 @@
 -- Laws of `exchanged`.
 --   exchanged-length, exchanged-self, exchanged-twice    it has as many stops; of a position with itself it changes nothing; made again it is undone
---   exchanged-in, exchanged-order                        it has the same stops, so that of an order it is an order
+--   exchanged-order                                      it has the same stops, so that of an order it is an order
 use mathlib.Core.Path.{_≡_, ap, sym, _∙_}
 use mathlib.Core.List.{[], _∷_}
 use mathlib.Core.Logic.{_⊎_, inl, inr, _≢_}
@@ -8,10 +8,9 @@ use Prim.Native.Nat.{ℕ, _<_}
 use native.Mathlib.Omega.{arith}
 use lib.ListN.{length, getD, set, length-set}
 use lib.Seq.{getD-set-same, getD-set-other, set-getD, set-set, set-comm}
-use Rattle.lists.specs.Lists.{In}
 use Rattle.lists.proofs.Tests.{compared}
 use Rattle.orders.specs.Orders.{Node, Order, count}
-use Rattle.orders.proofs.Order.{count-set, counts-in, order-counts}
+use Rattle.orders.proofs.Order.{count-set, order-counts}
 use Rattle.first_answer.specs.Exchanges.{exchanged}
 use Rattle.first_answer.specs.Examples
 
@@ -62,9 +61,6 @@ module _ (x : Node) where
           count-set s (getD x p 0) y q (omega (arith, length-set x p (getD x q 0))),
           ap (λ (r : ℕ). count s (r ∷ [])) at-second,
         )
-
-    pub exchanged-in : (s : ℕ) → In s (exchanged x p q) → In s x
-    exchanged-in = counts-in x (exchanged x p q) exchanged-counts
 
     pub exchanged-order : (n : ℕ) → Order n x → Order n (exchanged x p q)
     exchanged-order = order-counts x (exchanged x p q) exchanged-counts

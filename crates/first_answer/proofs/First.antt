@@ -124,7 +124,7 @@ module _ (n bound : ℕ) (table pairs : List ℕ) where
     pub places : r .order ≡ padded orderPlaces first
     pub stops : shown n r ≡ first
 
-  pub given-shows : (r : FirstOrder) → Given n bound table pairs r → Shows r
+  given-shows : (r : FirstOrder) → Given n bound table pairs r → Shows r
   unfolding firstAnswer respond
   given-shows r (e, z) = go (firstCause n bound table pairs) refl e
     where

@@ -69,7 +69,7 @@ module _ (n : ℕ) (L : Legs) (allowed : Node → Bool) where
             let f = again y (partial-child n x y p child) passes (omega arith) in
             record { partial = f .partial; passes = f .passes; long = omega (arith, f .long) }
 
-    pub nearest-order : T (allowed []) → Order n (nearest n L allowed) × T (allowed (nearest n L allowed))
+    nearest-order : T (allowed []) → Order n (nearest n L allowed) × T (allowed (nearest n L allowed))
     unfolding nearest
     nearest-order first =
         let f = onward-flown n [] (partial-root n) first (omega arith) in

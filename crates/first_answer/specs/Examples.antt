@@ -164,9 +164,11 @@ unfolding computed exchanged-table three
 no-exchange-left = refl
 
 -- two pairs, 4 before 1 and 3 before 2: the nearest-stop order is 4132, and two exchanges lead to 3412
-two-pairs : firstOf 4 0 second-table (4 ∷ 1 ∷ 3 ∷ 2 ∷ []) ≡ 3 ∷ 4 ∷ 1 ∷ 2 ∷ []
+two-pairs :
+    (nearestOf 4 0 second-table (4 ∷ 1 ∷ 3 ∷ 2 ∷ []) ≡ 4 ∷ 1 ∷ 3 ∷ 2 ∷ [])
+    × (firstOf 4 0 second-table (4 ∷ 1 ∷ 3 ∷ 2 ∷ []) ≡ 3 ∷ 4 ∷ 1 ∷ 2 ∷ [])
 unfolding computed second-table
-two-pairs = refl
+two-pairs = (refl, refl)
 
 -- an odd length; a stop that is none of 1 to n; twice the same stop, in one pair and in two; and eight pairs and one more
 bad-pairs :

@@ -15,7 +15,7 @@ use Rattle.lists.specs.Lists.{In, Distinct}
 use Rattle.lists.proofs.Tests.{same-tests}
 use Rattle.lists.proofs.Members.{in-head, keep-in}
 use Rattle.lists.proofs.Distinct.{append-apart}
-use Rattle.orders.specs.Orders.{Node, stops, flown, setOf, left, extend, Partial, mask}
+use Rattle.orders.specs.Orders.{Node, stops, flown, setOf, left, Partial, mask}
 use Rattle.orders.proofs.Sets.{stops-in, in-set, in-flown, flown-in, left-in}
 use Rattle.orders.proofs.Partial.{partial-root, partial-size, partial-extend}
 use Rattle.stops.specs.Code.{stopsIn, emptyRecord, extended, Wide}

@@ -19,10 +19,6 @@ use Rattle.orders.proofs.Sets.{in-stops, stops-in, in-flown, flown-in, 
 use Rattle.orders.proofs.Tree.{complete-size, size-complete, complete-left, left-complete}
 use Rattle.orders.proofs.Partial.{partial-size}
 
--- the stops as they are numbered are an order
-pub stops-order : (n : ℕ) → Order n (stops n)
-stops-order n = record { once = distinct-from 1 n; only = in-stops n; every = stops-in n }
-
 -- an order is a complete partial order
 pub order-partial : (n : ℕ) (x : Node) → Order n x → Partial n x
 order-partial n x o = record { once = o .once; only = o .only }
@@ -88,7 +84,7 @@ count-distinct (s ∷ x) h = more new (count-distinct x rest)
         go false k = k
 
 module _ (x y : Node) (same : (s : ℕ) → count s y ≡ count s x) where
-  pub counts-in : (s : ℕ) → In s y → In s x
+  counts-in : (s : ℕ) → In s y → In s x
   counts-in s m = count-in x s (omega (arith, same s, in-count y s m))
 
   pub order-counts : (n : ℕ) → Order n x → Order n y

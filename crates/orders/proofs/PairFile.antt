@@ -1,7 +1,7 @@
 -- The pairs of a pair file.
 --   pair-stops     their stops are bytes of it
 --   file-pairing   where its bytes are stops of 1 to n and none stands twice, no pick-up is a drop (`Pairing`)
-use mathlib.Core.Path.{_≡_, ap, subst, sym}
+use mathlib.Core.Path.{_≡_, subst, sym}
 use mathlib.Core.List.{List, [], _∷_, List·Memᴰ·tail, List·Memᴰ·cases-cons, List·Memᴰ·not-nil}
 use mathlib.Core.Logic.{_⊎_, inl, inr, _≢_}
 use Prim.Native.Nat.{ℕ, _≤_}

@@ -1,23 +1,24 @@
 -- Pairs that are apart (`Pairing`), and what they leave of a node's children (request A.6).
---   before-met, met-before              `before` by its words: what stands in front of the second stop has the first
---   respects-front                      the first part of a node that respects the pairs does
+--   respects-root, respects-front       e respects the pairs, and so does the first part of a node that does
 --   ready-respects, children-respect    a stop need not wait if, and only if, the node with it respects the pairs; so with the children
+--   child-respects                      what respects the pairs has children that do
 --   ready-some, child-some              of some stops to come one need not wait; so a node that is not complete has a child
 --   kids-extend, kids-few               children are extensions, and no more
---   allowed-leads, leads-respects, leads-allowed    the complete nodes reached from e are the orders that respect the pairs
+--   allowed-leads, leads-allowed        the complete nodes reached from e are the orders that respect the pairs
 --   descends                            from every node one of them is reached
 --   in-ordersWith, ordersWith-in        the list of these orders
---   no-pairs, respects-same, children-same    without pairs every extension is a child; and which pairs there are is all that counts
+--   ready-none, no-pairs                without pairs no stop waits, and every extension is a child
+--   respects-same, children-same        which pairs there are is all that counts
 use mathlib.Core.Path.{_≡_, refl, ap, sym, _∙_, subst}
-use mathlib.Core.Bool.{Bool, true, false, not, _&&_, _||_}
-use mathlib.Core.List.{List, [], _∷_, _++_, map, append-nil, append-assoc, List·Memᴰ·tail, List·Memᴰ·cases-cons, List·Memᴰ·not-nil, List·Memᴰ·eq-of-singleton}
-use mathlib.Core.Logic.{_⊎_, inl, inr, _≢_, _↔_}
-use Prim.Native.Nat.{ℕ, zero, suc, _+_, _-_, _≤_, _<_}
+use mathlib.Core.Bool.{true, not, _&&_}
+use mathlib.Core.List.{List, [], _∷_, _++_, map, append-assoc}
+use mathlib.Core.Logic.{_⊎_, inl, inr, _↔_}
+use Prim.Native.Nat.{ℕ, zero, suc, _+_, _-_, _≤_}
 use native.Mathlib.Omega.{arith}
 use lib.Dec.{T, T-not, not-T, eqb, eqb→eq, eqb-refl}
 use lib.ListN.{length}
-use Rattle.lists.specs.Lists.{In, keep, any, all, sum, Distinct}
-use Rattle.lists.proofs.Tests.{and-left, and-right, and-both, or-cases, or-left, or-right, either, compared, neq, ne-neqb, equal-eqb, same-tests, not-not}
+use Rattle.lists.specs.Lists.{In, keep, sum, Distinct}
+use Rattle.lists.proofs.Tests.{and-left, and-right, and-both, either, same-tests, not-not}
 use Rattle.lists.proofs.Members.{in-head, in-keep, keep-in, any-in, in-any, all-in, in-all, in-map, map-in, distinct-keep}
 use Rattle.lists.proofs.Empty.{in-nonempty, no-members}
 use Rattle.lists.proofs.Keep.{keep-same, keep-all}
@@ -25,80 +26,14 @@ use Rattle.lists.proofs.Map.{keep-map}
 use Rattle.lists.proofs.Numbers.{sum-keep, sum-map}
 use Rattle.search.specs.Problem.{Problem}
 use Rattle.search.proofs.Laws.{Leads, stay, down}
-use Rattle.orders.specs.Orders.{Node, flown, left, size, complete, extend, extensions, Partial, Order, orders}
+use Rattle.orders.specs.Orders.{Node, flown, left, complete, extend, extensions, Partial, orders}
 use Rattle.orders.specs.Pairs.{Pair, Pairing, before, respects, Allowed, ordersWith, waits, ready, children}
 use Rattle.orders.proofs.Sets.{in-flown, flown-in, in-left, left-in, size-left, size-extend, extensions-in}
-use Rattle.orders.proofs.Tree.{complete-left, left-complete}
-use Rattle.orders.proofs.Partial.{partial-root, partial-extend, stops-lead, leads-partial, partial-front, next-left}
+use Rattle.orders.proofs.Tree.{left-complete}
+use Rattle.orders.proofs.Partial.{partial-root, stops-lead, leads-partial, next-left}
 use Rattle.orders.proofs.Order.{order-partial, partial-order}
 use Rattle.orders.proofs.Orders.{orders-in, in-orders, distinct-orders}
-
--- `before`
-pub before-met : (a b : ℕ) (y z : Node) → a ≢ b → (In b y → ⊥) → T (before a b (y ++ (b ∷ z))) → In a y
-before-met a b [] z apart new h = absurd (go (or-cases (eqb b a) (not (eqb b b) && before a b z) h))
-  where
-    go : T (eqb b a) ⊎ T (not (eqb b b) && before a b z) → ⊥
-    go (inl k) = apart (sym (eqb→eq b a k))
-    go (inr k) = T-not (eqb b b) (and-left (not (eqb b b)) (before a b z) k) (eqb-refl b)
-before-met a b (s ∷ y) z apart new h =
-    go (or-cases (eqb s a) (not (eqb s b) && before a b (y ++ (b ∷ z))) h) (before-met a b y z apart (λ m. new (List·Memᴰ·tail m)))
-  where
-    go : T (eqb s a) ⊎ T (not (eqb s b) && before a b (y ++ (b ∷ z))) → (T (before a b (y ++ (b ∷ z))) → In a y) → In a (s ∷ y)
-    go (inl k) again = subst (λ (r : ℕ). In r (s ∷ y)) (eqb→eq s a k) in-head
-    go (inr k) again = List·Memᴰ·tail (again (and-right (not (eqb s b)) (before a b (y ++ (b ∷ z))) k))
-
-pub met-before : (a b : ℕ) (x : Node) → ((y z : Node) → x ≡ y ++ (b ∷ z) → In a y) → T (before a b x)
-met-before a b [] h = tt
-met-before a b (s ∷ x) h = go (compared a s) (compared s b) (met-before a b x)
-  where
-    go : (a ≡ s) ⊎ (a ≢ s) → (s ≡ b) ⊎ (s ≢ b) → (((y z : Node) → x ≡ y ++ (b ∷ z) → In a y) → T (before a b x)) → T (before a b (s ∷ x))
-    go (inl e) c again = or-left (eqb s a) (not (eqb s b) && before a b x) (equal-eqb s a (sym e))
-    go (inr n) (inl e) again = absurd (List·Memᴰ·not-nil (h [] x (ap (λ (r : ℕ). r ∷ x) e)))
-    go (inr n) (inr m) again =
-        or-right (eqb s a) (not (eqb s b) && before a b x)
-        (and-both (not (eqb s b)) (before a b x) (ne-neqb s b m) (again (λ y z e. behind y (h (s ∷ y) z (ap (λ (l : Node). s ∷ l) e)))))
-      where
-        behind : (y : Node) → In a (s ∷ y) → In a y
-        behind y m = at (List·Memᴰ·cases-cons m)
-          where
-            at : (a ≡ s) ⊎ In a y → In a y
-            at (inl e) = absurd (n e)
-            at (inr i) = i
-
-before-extend : (a b s : ℕ) (x : Node) → T (before a b x) → (s ≡ b → In a x) → T (before a b (extend x s))
-before-extend a b s [] h met = or-right (eqb s a) (not (eqb s b) && true) (and-both (not (eqb s b)) true (go (compared s b)) tt)
-  where
-    go : (s ≡ b) ⊎ (s ≢ b) → T (not (eqb s b))
-    go (inl e) = absurd (List·Memᴰ·not-nil (met e))
-    go (inr e) = ne-neqb s b e
-before-extend a b s (r ∷ x) h met = go (or-cases (eqb r a) (not (eqb r b) && before a b x) h) (compared a r) (before-extend a b s x)
-  where
-    later : (In a (r ∷ x)) → a ≢ r → In a x
-    later m e = at (List·Memᴰ·cases-cons m)
-      where
-        at : (a ≡ r) ⊎ In a x → In a x
-        at (inl q) = absurd (e q)
-        at (inr i) = i
-
-    go :
-        T (eqb r a) ⊎ T (not (eqb r b) && before a b x) → (a ≡ r) ⊎ (a ≢ r)
-        → (T (before a b x) → (s ≡ b → In a x) → T (before a b (extend x s))) → T (before a b (r ∷ extend x s))
-    go (inl k) c again = or-left (eqb r a) (not (eqb r b) && before a b (extend x s)) k
-    go (inr k) (inl e) again = or-left (eqb r a) (not (eqb r b) && before a b (extend x s)) (equal-eqb r a (sym e))
-    go (inr k) (inr e) again =
-        or-right (eqb r a) (not (eqb r b) && before a b (extend x s))
-        (and-both (not (eqb r b)) (before a b (extend x s)) (and-left (not (eqb r b)) (before a b x) k)
-        (again (and-right (not (eqb r b)) (before a b x) k) (λ q. later (met q) e)))
-
-before-front : (a b : ℕ) (y z : Node) → T (before a b (y ++ z)) → T (before a b y)
-before-front a b [] z h = tt
-before-front a b (s ∷ y) z h = go (or-cases (eqb s a) (not (eqb s b) && before a b (y ++ z)) h) (before-front a b y z)
-  where
-    go : T (eqb s a) ⊎ T (not (eqb s b) && before a b (y ++ z)) → (T (before a b (y ++ z)) → T (before a b y)) → T (before a b (s ∷ y))
-    go (inl k) again = or-left (eqb s a) (not (eqb s b) && before a b y) k
-    go (inr k) again =
-        or-right (eqb s a) (not (eqb s b) && before a b y)
-        (and-both (not (eqb s b)) (before a b y) (and-left (not (eqb s b)) (before a b (y ++ z)) k) (again (and-right (not (eqb s b)) (before a b (y ++ z)) k)))
+use Rattle.orders.proofs.Before.{before-met, before-extend, before-front}
 
 pub respects-root : (pairs : List Pair) → T (respects pairs [])
 unfolding respects
@@ -125,7 +60,7 @@ pub in-ready : (pairs : List Pair) (rest : List ℕ) (s : ℕ) → In s (ready p
 unfolding ready
 in-ready pairs rest s m = in-keep (λ r. not (waits pairs rest r)) rest s m
 
-pub ready-in : (pairs : List Pair) (rest : List ℕ) (s : ℕ) → In s rest → T (not (waits pairs rest s)) → In s (ready pairs rest)
+ready-in : (pairs : List Pair) (rest : List ℕ) (s : ℕ) → In s rest → T (not (waits pairs rest s)) → In s (ready pairs rest)
 unfolding ready
 ready-in pairs rest s m h = keep-in (λ r. not (waits pairs rest r)) rest s m h
 
@@ -188,6 +123,12 @@ module _ {n : ℕ} {pairs : List Pair} (ok : Pairing n pairs) where
   children-respect x h =
       sym (keep-map (extend x) (λ s. not (waits pairs (left n x) s)) (respects pairs) (left n x) (λ s m. ready-respects x s h m))
 
+  pub child-respects : (x c : Node) → T (respects pairs x) → In c (children n pairs x) → T (respects pairs c)
+  child-respects x c h m =
+      let (s, i, e) = in-children n pairs x c m in
+      let (l, w) = in-ready pairs (left n x) s i in
+      rw (e, ready-respects x s h l) w
+
   -- a stop to come need not wait, or what it waits for need not
   pub ready-some : (rest : List ℕ) (s : ℕ) → In s rest → (r : ℕ) × In r (ready pairs rest)
   ready-some rest s m = go (either (waits pairs rest s))
@@ -245,12 +186,9 @@ module _ {n : ℕ} {pairs : List Pair} (ok : Pairing n pairs) where
             (children-in n pairs y s (ready-in pairs (left n y) s l (subst T (ready-respects y s (respects-front pairs y (s ∷ z) h) l) k)))
 
     -- and what is reached respects them
-    pub leads-respects : {x y : Node} → Leads P x y → T (respects pairs x) → T (respects pairs y)
+    leads-respects : {x y : Node} → Leads P x y → T (respects pairs x) → T (respects pairs y)
     leads-respects stay h = h
-    leads-respects (down {x} {c} m l) h =
-        let (s, i, e) = in-children n pairs x c (subst (λ (l : List Node). In c l) (kids x) m) in
-        let (j, w) = in-ready pairs (left n x) s i in
-        leads-respects l (rw (e, ready-respects x s h j) w)
+    leads-respects (down {x} {c} m l) h = leads-respects l (child-respects x c h (subst (λ (l : List Node). In c l) (kids x) m))
 
     pub leads-allowed : (x : Node) → T (complete n x) → Leads P [] x → Allowed n pairs x
     leads-allowed x whole l = record {
@@ -274,9 +212,13 @@ unfolding ordersWith
 distinct-ordersWith n pairs = distinct-keep (respects pairs) (distinct-orders n)
 
 -- without pairs
+pub ready-none : (rest : List ℕ) → ready [] rest ≡ rest
+unfolding ready waits
+ready-none rest = keep-all (λ s. true) rest (λ s m. tt)
+
 pub no-pairs : (n : ℕ) (x : Node) → children n [] x ≡ extensions n x
-unfolding children ready waits extensions
-no-pairs n x = ap (map (extend x)) (keep-all (λ s. true) (left n x) (λ s m. tt))
+unfolding children extensions
+no-pairs n x = ap (map (extend x)) (ready-none (left n x))
 
 -- pairs of which all are of a pairing make one
 pub pairing-same : (n : ℕ) (ps qs : List Pair) → ((p : Pair) → In p qs → In p ps) → Pairing n ps → Pairing n qs
@@ -297,7 +239,7 @@ module _ (ps qs : List Pair) (same : (p : Pair) → In p ps ↔ In p qs) where
       go : (ps qs : List Pair) → ((p : Pair) → In p ps → In p qs) → T (waits ps rest s) → T (waits qs rest s)
       go ps qs among h = let (p, m, e, l) = in-waits ps rest s h in rw e (waits-in qs rest p (among p m) l)
 
-  pub ready-same : (rest : List ℕ) → ready ps rest ≡ ready qs rest
+  ready-same : (rest : List ℕ) → ready ps rest ≡ ready qs rest
   unfolding ready
   ready-same rest = keep-same (λ s. not (waits ps rest s)) (λ s. not (waits qs rest s)) rest (λ s m. ap not (waits-same rest s))
 

@@ -16,7 +16,7 @@ use Rattle.lists.proofs.Numbers.{sum-parts}
 use Rattle.search.specs.Problem.{Problem}
 use Rattle.search.proofs.Laws.{Leads, stay, down}
 use Rattle.orders.specs.Orders.{Partial, Node, stops, flown, setOf, left, size, extend, extensions}
-use Rattle.orders.proofs.Sets.{stops-in, in-flown, flown-in, in-set, in-left, left-in, size-extend, in-extensions, extensions-in}
+use Rattle.orders.proofs.Sets.{stops-in, in-flown, flown-in, in-set, in-left, left-in, size-extend, in-extensions}
 
 pub partial-root : (n : ℕ) → Partial n []
 partial-root n = record { once = none; only = λ s m. absurd (List·Memᴰ·not-nil m) }

@@ -90,6 +90,10 @@ unfolding pair
 then-allowed = refl
 
 -- two pairs, both looked at
+two-wait : children 4 (pairsOf (3 ∷ 1 ∷ 2 ∷ 4 ∷ [])) [] ≡ (2 ∷ []) ∷ (3 ∷ []) ∷ []
+unfolding pair
+two-wait = refl
+
 two-pairs : ordersWith 4 (pairsOf (3 ∷ 1 ∷ 2 ∷ 4 ∷ []))
     ≡ (2 ∷ 3 ∷ 1 ∷ 4 ∷ []) ∷ (2 ∷ 3 ∷ 4 ∷ 1 ∷ []) ∷ (2 ∷ 4 ∷ 3 ∷ 1 ∷ []) ∷ (3 ∷ 1 ∷ 2 ∷ 4 ∷ []) ∷ (3 ∷ 2 ∷ 1 ∷ 4 ∷ []) ∷ (3 ∷ 2 ∷ 4 ∷ 1 ∷ []) ∷ []
 unfolding pair

@@ -1,5 +1,5 @@
 -- The precedence that a pair file makes.
---   precedence-pairs, precedence-length    its pairs are those of the file, and it has a set for each place
+--   precedence-pairs    its pairs are those of the file
 --   Marking, marking-starts, marking-again, marking-ends    the invariant of the loop that makes it
 use mathlib.Core.Path.{_≡_, refl, ap, sym, _∙_}
 use mathlib.Core.Bool.{true, not}
@@ -16,32 +16,12 @@ use Rattle.lists.proofs.Tests.{compared, to-false, ne-neqb}
 use Rattle.lists.proofs.Members.{in-head}
 use Rattle.lists.proofs.Empty.{in-nonempty}
 use Rattle.orders.specs.Pairs.{Pair, pairsOf}
+use Rattle.orders.proofs.PairFile.{pair-stops}
 use Rattle.stops.specs.Code.{stopsIn}
 use Rattle.stops.proofs.SetBits.{stopsIn-zero}
 use Rattle.stops.proofs.SetJoin.{stopsIn-one}
 use Rattle.pairs.specs.Code.{OfStops, marked, pairsIn, precedenceOf}
 use Rattle.pairs.proofs.PairLaws.{Held, pairs-in}
-
-marked-length : (sets bytes : List ℕ) → length (marked sets bytes) ≡ length sets
-marked-length sets [] = refl
-marked-length sets (a ∷ []) = refl
-marked-length sets (a ∷ b ∷ bytes) = marked-length (set sets b (2 ^ (a - 1))) bytes ∙ length-set sets b (2 ^ (a - 1))
-
-pub precedence-length : (bytes : List ℕ) → length (precedenceOf bytes .before) ≡ places
-unfolding precedenceOf
-precedence-length bytes = marked-length (replicate places 0) bytes ∙ length-replicate {A = ℕ} places 0
-
--- a pair of the file: its stops are bytes of it
-paired-in : (bytes : List ℕ) (p : Pair) → In p (pairsOf bytes) → In (p .0) bytes × In (p .1) bytes
-paired-in [] p m = absurd (List·Memᴰ·not-nil m)
-paired-in (a ∷ []) p m = absurd (List·Memᴰ·not-nil m)
-paired-in (a ∷ b ∷ bytes) p m = go (List·Memᴰ·cases-cons m) (paired-in bytes p)
-  where
-    go :
-        (p ≡ (a, b)) ⊎ In p (pairsOf bytes) → (In p (pairsOf bytes) → In (p .0) bytes × In (p .1) bytes)
-        → In (p .0) (a ∷ b ∷ bytes) × In (p .1) (a ∷ b ∷ bytes)
-    go (inl e) again = rw e (in-head, List·Memᴰ·tail in-head)
-    go (inr i) again = let h = again i in (List·Memᴰ·tail (List·Memᴰ·tail (h .0)), List·Memᴰ·tail (List·Memᴰ·tail (h .1)))
 
 -- what is not among the bytes keeps its set
 marked-other : (sets bytes : List ℕ) (s : ℕ) → (In s bytes → ⊥) → getD (marked sets bytes) s 0 ≡ getD sets s 0
@@ -113,7 +93,7 @@ precedence-pairs bytes all once p = (λ m. there (pairs-in (precedenceOf bytes) 
 
     back : In p (pairsOf bytes) → Held (precedenceOf bytes) p
     back m =
-        let (i, j) = paired-in bytes p m in
+        let (i, j) = pair-stops bytes p m in
         let h : (1 ≤ p .0) × (p .0 ≤ mostStops) = all (p .0) i in
         let k : (1 ≤ p .1) × (p .1 ≤ mostStops) = all (p .1) j in
         let e : getD (marked (replicate places 0) bytes) (p .1) 0 ≡ 2 ^ (p .0 - 1) =

@@ -1,7 +1,7 @@
 -- The pairs that a precedence has.
 --   Held, pairs-in            a pair is one of them just if its first stop is of the set that the second one has
 --   holding, paired           where there are pairs, they lie in the sets alone
---   unpaired, ready-none, respects-none    where there are none, no stop waits, and every node respects them
+--   unpaired, respects-none   where there are none, every node respects them
 --   waits-some, waits-none    a stop has to wait just if that set has a stop to come
 use mathlib.Core.Path.{_≡_, refl, ap, sym, subst}
 use mathlib.Core.Bool.{Bool, true, false, cond}
@@ -16,9 +16,8 @@ use Rattle.sizes.specs.Sizes.{mostStops}
 use Rattle.lists.specs.Lists.{In, from, each}
 use Rattle.lists.proofs.Tests.{not-not, to-true, to-false}
 use Rattle.lists.proofs.Members.{in-map, map-in, in-each, each-in, in-from, from-in}
-use Rattle.lists.proofs.Keep.{keep-all}
 use Rattle.orders.specs.Orders.{Node}
-use Rattle.orders.specs.Pairs.{Pair, respects, waits, ready}
+use Rattle.orders.specs.Pairs.{Pair, respects, waits}
 use Rattle.orders.proofs.Pairs.{in-waits, waits-in}
 use Rattle.stops.specs.Code.{stopsIn}
 use Rattle.stops.proofs.SetJoin.{both-none, both-some}
@@ -62,10 +61,6 @@ paired d e = rw e
 pub unpaired : (d : Precedence) → d .paired ≡ false → pairsIn d ≡ []
 unfolding pairsIn
 unpaired d e = rw e
-
-pub ready-none : (rest : List ℕ) → ready [] rest ≡ rest
-unfolding ready waits
-ready-none rest = keep-all (λ s. true) rest (λ s m. tt)
 
 pub respects-none : (x : Node) → respects [] x ≡ true
 unfolding respects

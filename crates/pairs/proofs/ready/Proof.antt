@@ -4,8 +4,9 @@ use mathlib.Core.Path.{sym}
 use native.Mathlib.Omega.{arith}
 use borrow.Author.Needs.{needs}
 use borrow.Author.Tests.{not-true, not-false}
+use Rattle.orders.proofs.Pairs.{ready-none}
 use Rattle.pairs.specs.Code.{pairsIn}
-use Rattle.pairs.proofs.PairLaws.{holding, paired, unpaired, ready-none, waits-some, waits-none}
+use Rattle.pairs.proofs.PairLaws.{holding, paired, unpaired, waits-some, waits-none}
 use Rattle.pairs.proofs.LoopLaws.{Readying, readying-starts, readying-new, readying-keeps, readying-passes, readying-ends}
 use Rattle.pairs.proofs.ready.Statement.{statement}
 use Rattle.pairs.proofs.ready.Tie as tie

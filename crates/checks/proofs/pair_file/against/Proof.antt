@@ -1,5 +1,5 @@
 -- `against` meets its contract: the precedence that good pairs make has these pairs, and `respected` says whether the starting order respects them.
-use mathlib.Core.Path.{_≡_, sym, _∙_, ap, subst}
+use mathlib.Core.Path.{sym, _∙_, ap, subst}
 use mathlib.Core.Bool.{Bool, not}
 use lib.Dec.{T}
 use denote.Ref.{now}
