@@ -7,15 +7,15 @@ use Prim.Native.Nat.{ℕ, zero, suc, _≤_, _<_}
 use native.Mathlib.Omega.{arith}
 use lib.Dec.{T, ltb, eqb, eqb→eq, nltb→le}
 use borrow.Author.Tests.{lt-ltb, le-ltb, lt-leb}
-use Rattle.sizes.specs.Sizes.{dearestLeg, aboveEveryCost}
+use Rattle.sizes.specs.Sizes.{dearestLeg}
 use Rattle.lists.specs.Lists.{In, any, from}
 use Rattle.lists.proofs.Tests.{not-either, twice-not, ordered}
 use Rattle.lists.proofs.Members.{in-from, from-in}
 use Rattle.search.specs.Problem.{Problem}
-use Rattle.orders.specs.Orders.{Node, complete}
+use Rattle.orders.specs.Orders.{Node}
 use Rattle.orders.specs.Pairs.{pairsOf, respects}
 use Rattle.orders.proofs.Pairs.{no-pairs}
-use Rattle.days.specs.Days.{Day, problem}
+use Rattle.days.specs.Days.{Day, problem, problemBy}
 use Rattle.stops.specs.Tables.{entry, charge, rows}
 use Rattle.stops.specs.Bounds.{endsAway}
 use Rattle.stops.specs.Stops.{dayOn}
@@ -36,15 +36,8 @@ use Rattle.answer.proofs.OnDay.{on-its-day}
 
 -- the search is document 01's
 free-problem : (n : ℕ) (D : Day) → problem n [] D ≡ freely n D
-unfolding problem freely
-free-problem n D i = record {
-  root = [];
-  children = λ x. no-pairs n x i;
-  complete = complete n;
-  cost = D .cost;
-  dominates = D .dominates;
-  above = aboveEveryCost;
-}
+unfolding problem
+free-problem n D i = problemBy (λ x. no-pairs n x i) n D
 
 answer-free : (c : Call) → c .pairs ≡ [] → (D : Day) (k : ℕ) → answerOn D c k ≡ answerFreely D c k
 answer-free c none D k =

@@ -1,6 +1,5 @@
 -- Demand 3 of the written run, the first half: finished runs over one table and with the same pairs report one cost, that of a cheapest order of those
--- that respect them. A run that finishes is a
--- call whose answer has number 0 and mark 0; nothing else is assumed of the calls.
+-- that respect them. A run that finishes is a call whose answer has number 0 and mark 0; nothing else is assumed of the calls.
 --   Solved, solved    the state of a finished run knows an order, and no order is cheaper
 --   padded-front      the first n places of a report hold its order
 use mathlib.Core.Path.{_≡_, refl, sym, _∙_, ap, subst}

@@ -11,11 +11,11 @@ use mathlib.Core.List.{List, []}
 use mathlib.Core.Logic.{_≢_}
 use Prim.Native.Nat.{ℕ, suc, _≤_}
 use lib.Dec.{ltb, eqb}
-use Rattle.sizes.specs.Sizes.{dearestLeg, aboveEveryCost}
+use Rattle.sizes.specs.Sizes.{dearestLeg}
 use Rattle.lists.specs.Lists.{any, from}
 use Rattle.search.specs.Problem.{Problem}
-use Rattle.orders.specs.Orders.{Node, complete, extensions}
-use Rattle.days.specs.Days.{Day}
+use Rattle.orders.specs.Orders.{Node, extensions}
+use Rattle.days.specs.Days.{Day, problemBy}
 use Rattle.stops.specs.Tables.{entry, charge, legRows}
 use Rattle.stops.specs.Stops.{dayOn}
 use Rattle.answer.specs.Call.{Call, Answer}
@@ -30,15 +30,8 @@ use Rattle.answer.specs.Away.{homeDayOf}
 -- NO PAIRS (request A.6)
 
 -- document 01's search: a node is extended by each stop that it leaves
-unfoldable pub freely : ℕ → Day → Problem Node
-freely n D = record {
-  root = [];
-  children = extensions n;
-  complete = complete n;
-  cost = D .cost;
-  dominates = D .dominates;
-  above = aboveEveryCost;
-}
+abbrev pub freely : ℕ → Day → Problem Node
+freely n D = problemBy (extensions n) n D
 
 abbrev pub answerFreely : Day → Call → ℕ → Answer
 answerFreely D c = answerBy (freely (c .job .n) D) D c

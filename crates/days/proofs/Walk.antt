@@ -20,12 +20,12 @@ use Rattle.lists.specs.Lists.{In, without, Distinct}
 use Rattle.search.proofs.Laws.{Leads, stay, down, Good, Lawful, BoundLaws, Weighs, Solvable}
 use Rattle.search.proofs.Plain.{tree}
 use Rattle.orders.specs.Orders.{Node, stops, setOf, left, size, complete, extend, extensions, nodes}
-use Rattle.orders.specs.Pairs.{Pair, Pairing, Allowed, ready, children}
+use Rattle.orders.specs.Pairs.{Pair, Pairing, Allowed, ready}
 use Rattle.orders.proofs.Sets.{distinct-left, left-extend, in-extensions, set-same-left, set-extend-same}
 use Rattle.orders.proofs.Tree.{complete-size, complete-left, tree-sized, tree-weighs}
 use Rattle.orders.proofs.Partial.{partial-root, partial-size}
 use Rattle.orders.proofs.Pairs.{in-children, children-in, in-ready, kids-extend, kids-few, descends, leads-allowed, children-same}
-use Rattle.days.specs.Days.{Day, Closer, problem}
+use Rattle.days.specs.Days.{Day, Closer, problem, problemBy}
 use Rattle.days.specs.Code.{Reckoning}
 
 -- w has the set of x, is where x is, and has no more path cost
@@ -173,11 +173,4 @@ day-solvable n pairs D ok below =
 pub problem-same :
     (n : ℕ) (ps qs : List Pair) (D : Day) → ((p : Pair) → In p ps ↔ In p qs) → problem n ps D ≡ problem n qs D
 unfolding problem
-problem-same n ps qs D same i = record {
-  root = [];
-  children = λ x. children-same ps qs same n x i;
-  complete = complete n;
-  cost = D .cost;
-  dominates = D .dominates;
-  above = aboveEveryCost;
-}
+problem-same n ps qs D same i = problemBy (λ x. children-same ps qs same n x i) n D

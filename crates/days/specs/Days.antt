@@ -25,16 +25,20 @@ pub record Day : Type 0 where
 abbrev pub Closer : ℕ → ℕ → Type 0
 Closer j k = ((j ≡ 1) × (k ≡ 0)) ⊎ ((j ≡ 3) × (k ≡ 2))
 
--- the search for the cheapest order of n stops that respects some pairs (request A.6)
-unfoldable pub problem : ℕ → List Pair → Day → Problem Node
-problem n pairs D = record {
+-- the search for a cheapest order of n stops, by the children that a node has
+abbrev pub problemBy : (Node → List Node) → ℕ → Day → Problem Node
+problemBy kids n D = record {
   root = [];
-  children = children n pairs;
+  children = kids;
   complete = complete n;
   cost = D .cost;
   dominates = D .dominates;
   above = aboveEveryCost;
 }
+
+-- and of those that respect some pairs (request A.6)
+unfoldable pub problem : ℕ → List Pair → Day → Problem Node
+problem n pairs D = problemBy (children n pairs) n D
 
 -- the choices of a caller: selection, sum of the rules, bound, and budget (request A.3)
 unfoldable pub choices : Day → ℕ → ℕ → ℕ → ℕ → Choices Node

@@ -1,6 +1,6 @@
--- Orders: an order is a complete partial order, and has length n; and the
--- test `isOrder` passes just for orders. Where each stop stands in one list as often as in another, the two have the same stops (`counts-in`), and
--- the one is an order if the other is (`order-counts`); `count-set` says how often each stands there once one stop is replaced by another.
+-- Orders: an order is a complete partial order, and has length n; and the test `isOrder` passes just for orders. Where each stop stands in one list as
+-- often as in another, the two have the same stops, and the one is an order if the other is (`order-counts`); `count-set` says how often each stands
+-- there once one stop is replaced by another.
 use mathlib.Core.Path.{_≡_, sym, _∙_, subst}
 use mathlib.Core.Bool.{Bool, true, false, not}
 use mathlib.Core.List.{List, [], _∷_, List·Memᴰ·tail, List·Memᴰ·not-nil}
