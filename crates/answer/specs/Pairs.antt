@@ -4,7 +4,7 @@
 --   BeforeMeans                       what it is that one stop is flown before another
 --   OnlyRespecting, ChildrenRespect   which children are generated
 --   BranchedYields                    that there are some
---   SequencePlaysNoPart               of a planner's answers
+--   SomeActive, SequencePlaysNoPart   of a planner's answers
 -- What a call without pairs is answered is in `AsBefore`.
 use mathlib.Core.Path.{_≡_}
 use mathlib.Core.Bool.{Bool, true, false}
@@ -101,6 +101,10 @@ BranchedYields =
     (c : Call) → cause c ≡ 0 → (s : State Node) → StateOf c s → (b : Node) → In b (s .branched) → (y : Node) × In y (problemOf c .children b)
 
 -- WHAT COMES BACK
+
+-- A run that the checks let pass ends with some active node.
+abbrev pub SomeActive : Planner → Type 0
+SomeActive P = (c : Call) (a : Answer) → P c a → cause c ≡ 0 → 1 ≤ a .report .active
 
 -- In which sequence the file has the pairs plays no part beyond the checks.
 abbrev pub SequencePlaysNoPart : Planner → Type 0

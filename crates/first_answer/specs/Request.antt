@@ -34,7 +34,8 @@ pub record FirstCheapest {A : Type 0} (f : A → ℕ) (xs : List A) (a : A) : Ty
   pub dearer : (y : A) → In y before → f a < f y
   pub least : (y : A) → In y xs → f a ≤ f y
 
--- which is how the nearest stop is chosen among the stops left, the lowest first, and the best exchange among those by their positions
+-- which is how the nearest stop is chosen among those that may be flown next, the lowest first, and the best exchange among those that may be made, by
+-- their positions
 abbrev pub CheapestIsFirst : Type 1
 CheapestIsFirst = (A : Type 0) (f : A → ℕ) (x : A) (xs : List A) → FirstCheapest f (x ∷ xs) (cheapest f x xs)
 

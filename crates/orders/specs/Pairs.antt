@@ -21,8 +21,8 @@ pairsOf (a ∷ b ∷ bytes) = (a, b) ∷ pairsOf bytes
 abbrev pub OnePairs : List ℕ → List ℕ → Type 0
 OnePairs a b = (p : Pair) → In p (pairsOf a) ↔ In p (pairsOf b)
 
--- Pairs with which every day can be flown: each pick-up is a stop of 1 to n, and none is a drop. (`proofs/` shows that a node then has a child or is
--- complete.)
+-- Pairs with which every day can be flown: each pick-up is a stop of 1 to n, and none is a drop. (`proofs/` shows that then a node that is not complete
+-- has a child.)
 pub record Pairing (n : ℕ) (pairs : List Pair) : Type 0 where
   pub only : (p : Pair) → In p pairs → (1 ≤ p .0) × (p .0 ≤ n)
   pub apart : (p q : Pair) → In p pairs → In q pairs → p .1 ≢ q .0

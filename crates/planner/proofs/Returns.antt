@@ -4,7 +4,7 @@ use Rattle.answer.specs.Demands.{EveryCallIsAnswered, EveryCallEnds, OneAnswer,
 use Rattle.answer.specs.Budget.{MarkedIff, StoppedAsWritten, OtherwiseZero, ExactBudget, WithinBudget, OrderOrZeros, NoDearerThanStart, FloorHolds, Between, LargerBudget, UnstoppedAsWithout, NoRunReaches}
 use Rattle.answer.specs.Charges.{OrderShownPays, CheapestByLegs}
 use Rattle.answer.specs.Away.{AnswersAway, CheapestWithoutLegHome, NoDearerAway, LegsHomeUnread}
-use Rattle.answer.specs.Pairs.{InSequence, RefusedAsByFive, SequencePlaysNoPart}
+use Rattle.answer.specs.Pairs.{InSequence, RefusedAsByFive, SomeActive, SequencePlaysNoPart}
 use Rattle.answer.specs.AsBefore.{NoPairsAsBefore, EndsHomeAsBefore, UnchargedByLegs, AsDocument01, AcceptedBefore}
 use Rattle.answer.specs.Document01.{FinishedIff, BranchedAreSteps, ContentsPlayNoPart}
 use Rattle.answer.proofs.Demand1.{call-answered, call-ends, one-answer, refusals-fixed}
@@ -16,6 +16,7 @@ use Rattle.answer.proofs.Budget.{marked-iff, stopped-as-written, otherwise-zero
 use Rattle.answer.proofs.BudgetPairs.{no-dearer-than-start, larger-budget, unstopped-as-without}
 use Rattle.answer.proofs.Charges.{order-shown-pays, cheapest-by-legs}
 use Rattle.answer.proofs.Away.{answers-away, cheapest-without-leg-home, no-dearer-away, legs-home-unread}
+use Rattle.answer.proofs.Tested.{some-active}
 use Rattle.answer.proofs.Pairs.{in-sequence, refused-as-by-five, sequence-plays-no-part}
 use Rattle.answer.proofs.AsBefore.{no-pairs-as-before, ends-home-as-before, uncharged-by-legs, as-document-01, accepted-before}
 use Rattle.planner.specs.Demands.{returned}
@@ -126,6 +127,9 @@ returned-in-sequence = in-sequence
 
 pub returned-refused-as-by-five : RefusedAsByFive returned
 returned-refused-as-by-five = refused-as-by-five
+
+pub returned-some-active : SomeActive returned
+returned-some-active = some-active
 
 pub returned-sequence : SequencePlaysNoPart returned
 returned-sequence = sequence-plays-no-part
