@@ -13,6 +13,7 @@ use Rattle.lists.proofs.Tests.{and-left, and-right, and-both, or-cases, or-left
 use Rattle.lists.proofs.Members.{in-head}
 use Rattle.orders.specs.Orders.{Node, extend}
 use Rattle.orders.specs.Pairs.{before}
+use Rattle.orders.specs.Examples
 
 pub before-met : (a b : ℕ) (y z : Node) → a ≢ b → (In b y → ⊥) → T (before a b (y ++ (b ∷ z))) → In a y
 before-met a b [] z apart new h = absurd (go (or-cases (eqb b a) (not (eqb b b) && before a b z) h))
