@@ -25,9 +25,9 @@ fn cause_of(job: Job, table: &[u32], start: &[u8], pairs: &[u8], pool: &[u32]) -
     if number != 0 {
         return number;
     }
-    let against = pair_cause(job.n, start, pairs);
-    if against != 0 {
-        return against;
+    let of_pairs = pair_cause(job.n, start, pairs);
+    if of_pairs != 0 {
+        return of_pairs;
     }
     if pool.len() < RECORD_WORDS {
         return 6;

@@ -56,9 +56,13 @@ noBudget = 18_446_744_073_709_551_615
 largest-of-64-bits : suc noBudget ≡ 2 ^ 64
 largest-of-64-bits = refl
 
--- Document 02, A.6: the bytes of the longest pair file, two for each of up to eight pairs
+-- Document 02, A.6: the pairs that there may be, and the bytes of the longest pair file. (Sixteen stops make no more pairs than these; a longer file is
+-- turned back by its length all the same.)
+abbrev pub mostPairs : ℕ
+mostPairs = 8
+
 abbrev pub mostPairBytes : ℕ
-mostPairBytes = 16
+mostPairBytes = 2 * mostPairs
 
 -- "Job file and program": the bytes of the longest job file, which are those of its table, its starting order and its trailer
 abbrev pub longest : ℕ

@@ -38,8 +38,10 @@ pub const NO_LIMIT: u32 = 4_294_967_295;
 // A budget that no run reaches (request A.3): the largest 64-bit number.
 pub const NO_BUDGET: u64 = 18_446_744_073_709_551_615;
 
-// Bytes of the longest pair file (request A.6): two for each of up to eight pairs.
-pub const MOST_PAIR_BYTES: usize = 16;
+// Pairs that there may be (request A.6), and bytes of the longest pair file.
+pub const MOST_PAIRS: usize = 8;
+
+pub const MOST_PAIR_BYTES: usize = 2 * MOST_PAIRS;
 
 // Bytes of the longest job file: its table, its starting order and its trailer.
 pub const LONGEST: usize = 4 * TABLE_NUMBERS + ORDER_PLACES + 13;
