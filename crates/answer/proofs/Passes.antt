@@ -217,17 +217,10 @@ pair-passed n start pairs later e =
     kept false true h k = tt
     kept false false h k = absurd k
 
-allowed-start : (n : ℕ) (pairs x : List ℕ) → (x ≡ []) ⊎ Order n x → T (respects (pairsOf pairs) x) → (x ≡ []) ⊎ Allowed n (pairsOf pairs) x
-allowed-start n pairs x (inl e) h = inl e
-allowed-start n pairs x (inr o) h = inr (record { order = o; respected = h })
-
--- a starting order that passed is an order
-pub start-order : {c : Call} → Passes c → (c .start ≡ []) ⊎ Order (c .job .n) (c .start)
-start-order {c} ok = go (ok .start)
-  where
-    go : (c .start ≡ []) ⊎ Allowed (c .job .n) (pairsOf (c .pairs)) (c .start) → (c .start ≡ []) ⊎ Order (c .job .n) (c .start)
-    go (inl e) = inl e
-    go (inr a) = inr (a .order)
+-- what holds of a starting order, if there is one, in other words
+pub start-too : {A B : Type 0} {x : List ℕ} → (A → B) → (x ≡ []) ⊎ A → (x ≡ []) ⊎ B
+start-too f (inl e) = inl e
+start-too f (inr a) = inr (f a)
 
 pub passes : (c : Call) → cause c ≡ 0 → Passes c
 unfolding cause poolCause
@@ -241,7 +234,7 @@ passes c e =
       selection = p .selection;
       rules = p .rules;
       bound = p .bound;
-      start = allowed-start (c .job .n) (c .pairs) (c .start) (p .start) r;
+      start = start-too (λ o. record { order = o; respected = r }) (p .start);
       pairs = q;
       pool = pool-passes (c .pool) h₆ .0;
       whole = pool-passes (c .pool) h₆ .1;

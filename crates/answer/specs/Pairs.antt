@@ -51,8 +51,8 @@ LetsPairsPass = (n : ℕ) (bytes : List ℕ) → (cause₁₁ n bytes ≡ false)
 
 -- the pairs pass, and the starting order is empty or an order: whether it respects them
 abbrev pub Respected : Call → Bool → Type 0
-Respected c answer =
-    (cause₅ (c .job .n) (c .start) ≡ false) × (cause₁₁ (c .job .n) (c .pairs) ≡ false) × (respects (pairsOf (c .pairs)) (c .start) ≡ answer)
+Respected c does =
+    (cause₅ (c .job .n) (c .start) ≡ false) × (cause₁₁ (c .job .n) (c .pairs) ≡ false) × (respects (pairsOf (c .pairs)) (c .start) ≡ does)
 
 -- the number of a call to which none of causes 1 to 4 applies
 pub record Sequence (c : Call) (number : ℕ) : Type 0 where

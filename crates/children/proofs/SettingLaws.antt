@@ -41,7 +41,7 @@ use Rattle.records.proofs.PoolWords.{pool-words}
 use Rattle.answer.specs.Call.{Call}
 use Rattle.answer.specs.Answer.{dayOf, given, wordsOf}
 use Rattle.answer.specs.Answer.{problemOf as callProblem, choicesOf as callChoices}
-use Rattle.answer.proofs.Passes.{Passes}
+use Rattle.answer.proofs.Passes.{Passes, start-too}
 use Rattle.answer.proofs.Instance.{call-cheap}
 use Rattle.children.specs.Code.{Table, Rows, settingOf, pairsBy, problemOf, choicesOf, encodeOf}
 use Rattle.children.specs.declared.setting.Setting.{Setting}
@@ -130,11 +130,10 @@ module _ (c : Call) {t : Table} (e : t ≡ rows (c .job .n) (endsAway (c .job .b
 
   -- its starting order respects the pairs that the code holds
   pub call-starts : Passes c → (c .start ≡ []) ⊎ Allowed (c .job .n) (pairsBy (settingOf c)) (c .start)
-  call-starts ok = go (ok .start)
+  call-starts ok = start-too go (ok .start)
     where
-      go : (c .start ≡ []) ⊎ Allowed (c .job .n) (pairsOf (c .pairs)) (c .start) → (c .start ≡ []) ⊎ Allowed (c .job .n) (pairsBy (settingOf c)) (c .start)
-      go (inl e) = inl e
-      go (inr a) = inr record {
+      go : Allowed (c .job .n) (pairsOf (c .pairs)) (c .start) → Allowed (c .job .n) (pairsBy (settingOf c)) (c .start)
+      go a = record {
         order = a .order;
         respected =
             subst T (sym (its-respects (c .job .n) (ok .priced .few) (c .pairs) (ok .pairs .only) (ok .pairs .once) (c .start))) (a .respected);

@@ -13,6 +13,14 @@ use Rattle.lists.proofs.Tests.{and-left, and-right, and-both, or-cases,
 pub in-head : {A : Type 0} {x : A} {xs : List A} → In x (x ∷ xs)
 in-head = List·Memᴰ·head refl
 
+-- what is not the first of a list is behind it
+pub in-behind : {A : Type 0} {a x : A} {xs : List A} → In a (x ∷ xs) → a ≢ x → In a xs
+in-behind {A} {a} {x} {xs} m other = go (List·Memᴰ·cases-cons m)
+  where
+    go : (a ≡ x) ⊎ In a xs → In a xs
+    go (inl e) = absurd (other e)
+    go (inr i) = i
+
 module _ {A : Type 0} where
   -- keep
   in-put : (b : Bool) (a x : A) (xs : List A) → In a (put b x xs) → ((a ≡ x) × T b) ⊎ In a xs

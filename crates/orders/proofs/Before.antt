@@ -4,13 +4,13 @@
 --   before-front              kept by the first part of a node
 use mathlib.Core.Path.{_≡_, ap, sym, subst}
 use mathlib.Core.Bool.{true, not, _&&_}
-use mathlib.Core.List.{[], _∷_, _++_, List·Memᴰ·tail, List·Memᴰ·cases-cons, List·Memᴰ·not-nil}
+use mathlib.Core.List.{[], _∷_, _++_, List·Memᴰ·tail, List·Memᴰ·not-nil}
 use mathlib.Core.Logic.{_⊎_, inl, inr, _≢_}
 use Prim.Native.Nat.{ℕ}
 use lib.Dec.{T, T-not, eqb, eqb→eq, eqb-refl}
 use Rattle.lists.specs.Lists.{In}
 use Rattle.lists.proofs.Tests.{and-left, and-right, and-both, or-cases, or-left, or-right, compared, ne-neqb, equal-eqb}
-use Rattle.lists.proofs.Members.{in-head}
+use Rattle.lists.proofs.Members.{in-head, in-behind}
 use Rattle.orders.specs.Orders.{Node, extend}
 use Rattle.orders.specs.Pairs.{before}
 use Rattle.orders.specs.Examples
@@ -37,14 +37,7 @@ met-before a b (s ∷ x) h = go (compared a s) (compared s b) (met-before a b x)
     go (inr n) (inl e) again = absurd (List·Memᴰ·not-nil (h [] x (ap (λ (r : ℕ). r ∷ x) e)))
     go (inr n) (inr m) again =
         or-right (eqb s a) (not (eqb s b) && before a b x)
-        (and-both (not (eqb s b)) (before a b x) (ne-neqb s b m) (again (λ y z e. behind y (h (s ∷ y) z (ap (λ (l : Node). s ∷ l) e)))))
-      where
-        behind : (y : Node) → In a (s ∷ y) → In a y
-        behind y m = at (List·Memᴰ·cases-cons m)
-          where
-            at : (a ≡ s) ⊎ In a y → In a y
-            at (inl e) = absurd (n e)
-            at (inr i) = i
+        (and-both (not (eqb s b)) (before a b x) (ne-neqb s b m) (again (λ y z e. in-behind (h (s ∷ y) z (ap (λ (l : Node). s ∷ l) e)) n)))
 
 pub before-extend : (a b s : ℕ) (x : Node) → T (before a b x) → (s ≡ b → In a x) → T (before a b (extend x s))
 before-extend a b s [] h met = or-right (eqb s a) (not (eqb s b) && true) (and-both (not (eqb s b)) true (go (compared s b)) tt)
@@ -54,13 +47,6 @@ before-extend a b s [] h met = or-right (eqb s a) (not (eqb s b) && true) (and-b
     go (inr e) = ne-neqb s b e
 before-extend a b s (r ∷ x) h met = go (or-cases (eqb r a) (not (eqb r b) && before a b x) h) (compared a r) (before-extend a b s x)
   where
-    later : (In a (r ∷ x)) → a ≢ r → In a x
-    later m e = at (List·Memᴰ·cases-cons m)
-      where
-        at : (a ≡ r) ⊎ In a x → In a x
-        at (inl q) = absurd (e q)
-        at (inr i) = i
-
     go :
         T (eqb r a) ⊎ T (not (eqb r b) && before a b x) → (a ≡ r) ⊎ (a ≢ r)
         → (T (before a b x) → (s ≡ b → In a x) → T (before a b (extend x s))) → T (before a b (r ∷ extend x s))
@@ -69,7 +55,7 @@ before-extend a b s (r ∷ x) h met = go (or-cases (eqb r a) (not (eqb r b) && b
     go (inr k) (inr e) again =
         or-right (eqb r a) (not (eqb r b) && before a b (extend x s))
         (and-both (not (eqb r b)) (before a b (extend x s)) (and-left (not (eqb r b)) (before a b x) k)
-        (again (and-right (not (eqb r b)) (before a b x) k) (λ q. later (met q) e)))
+        (again (and-right (not (eqb r b)) (before a b x) k) (λ q. in-behind (met q) e)))
 
 pub before-front : (a b : ℕ) (y z : Node) → T (before a b (y ++ z)) → T (before a b y)
 before-front a b [] z h = tt

@@ -33,7 +33,7 @@ use Rattle.answer.specs.Call.{Call}
 use Rattle.answer.specs.declared.Report.{Report}
 use Rattle.answer.specs.Checks.{cause}
 use Rattle.answer.specs.Answer.{problemOf, choicesOf, outcome, StateOf, stopsOf, costOf, floorOf, reportWith, finishedReport, wordsOf, ending, respond, answer}
-use Rattle.answer.proofs.Passes.{Passes, passes, start-order}
+use Rattle.answer.proofs.Passes.{Passes, passes}
 use Rattle.answer.proofs.Instance.{overflow-outcome, halt-outcome, finish-outcome, known-cheap}
 use Rattle.answer.proofs.Ending.{Finished}
 use Rattle.answer.proofs.Known.{BestKnown, unknown, known, best-known}
@@ -53,7 +53,6 @@ unfolding recordsIn
 call-begins c ok e = record {
   rows = call-rows c e ok;
   selects = ok .selection;
-  order = start-order ok;
   starts = call-starts c e ok;
   room = omega (arith, length-records (c .pool), ok .pool);
 }

@@ -20,7 +20,7 @@ use Rattle.sizes.specs.Sizes.{orderPlaces, aboveEveryCost}
 use Rattle.lists.specs.Lists.{from, padded, least}
 use Rattle.search.specs.Problem.{State, start}
 use Rattle.search.specs.Run.{Next, Steps, finish, halt, overflow, go, next}
-use Rattle.orders.specs.Orders.{Node, Order}
+use Rattle.orders.specs.Orders.{Node}
 use Rattle.orders.specs.Pairs.{Allowed}
 use Rattle.stops.specs.Tables.{rows}
 use Rattle.stops.specs.Bounds.{endsAway}
@@ -109,7 +109,6 @@ rowsBy d table = rows (d .n) (endsAway (d .bound)) table
 pub record Begins (d : Setting) (t : Table) (first w : List ℕ) : Type 0 where
   pub rows : Rows d t
   pub selects : d .selection ≤ 3
-  pub order : (first ≡ []) ⊎ Order (d .n) first
   pub starts : (first ≡ []) ⊎ Allowed (d .n) (pairsBy d) first
   pub room : 1 ≤ length (records w)
 

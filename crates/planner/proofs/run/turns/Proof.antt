@@ -14,6 +14,7 @@ use Rattle.records.specs.Records.{recordsIn}
 use Rattle.records.specs.Code.{records}
 use Rattle.records.proofs.ViewLaws.{length-records}
 use Rattle.answer.specs.declared.Report.{Report}
+use Rattle.answer.proofs.Passes.{start-too}
 use Rattle.children.specs.Code.{Table}
 use Rattle.planner.specs.Code.{Running, Turned, rowsBy, Begins, Ran, stoppedBy}
 use Rattle.planner.specs.declared.run.Turn.{Turn}
@@ -101,7 +102,7 @@ kept : (c : tie.After-take-turn Inv-loop μ-loop) → length (pool c) ≡ length
 kept c = c .take-turn .kept .1 .1 .0
 
 begun-requires : tie.Need-begun-requires Inv-loop μ-loop
-begun-requires c κs = let b = begins (c .before) in (b .rows, (b .order, b .room))
+begun-requires c κs = let b = begins (c .before) in (b .rows, (start-too (λ a. a .order) (b .starts), b .room))
 
 loop-holds : tie.Need-loop-holds Inv-loop μ-loop
 loop-holds c =
