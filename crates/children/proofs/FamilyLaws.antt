@@ -1,10 +1,10 @@
 -- What the code of `family` needs of a node's record, and of the loop that writes each child's record to its slot.
 --   rest-sum, restOf-left           the stops that it leaves, as a set that fits
 --   born-slots, born-siblings, born-size    the children in their slots
---   Placing, placing-starts, placing-again, placing-ends    the invariant of the loop
+--   Placing, placing-starts, placing-again    the invariant of the loop
 use mathlib.Core.Path.{_≡_, ap, subst, _∙_}
-use mathlib.Core.List.{List, map, List·Memᴰ·tail, List·Memᴰ·cases-cons, List·Memᴰ·not-nil}
-use mathlib.Core.Logic.{_⊎_, inl, inr, _≢_}
+use mathlib.Core.List.{List, map}
+use mathlib.Core.Logic.{_≢_}
 use Prim.Native.Nat.{ℕ, _+_, _-_, _^_, _≤_, _<_}
 use native.Mathlib.Omega.{arith}
 use lib.Count.{ones}
@@ -14,19 +14,19 @@ use lib.Seq.{getD-set-same, getD-set-other}
 use Rattle.sizes.specs.Sizes.{mostStops}
 use Rattle.lists.specs.Lists.{In}
 use Rattle.lists.proofs.Map.{map-same}
-use Rattle.lists.proofs.Tests.{compared}
 use Rattle.orders.specs.Orders.{left, extend}
 use Rattle.orders.proofs.Sets.{size-extend}
 use Rattle.orders.proofs.Pairs.{in-ready}
 use Rattle.stops.specs.Code.{emptyRecord, extended, stopsIn, First}
 use Rattle.stops.specs.declared.node_record.Record.{Record}
-use Rattle.stops.proofs.SetBits.{stopsIn-zero, stopsIn-range}
+use Rattle.stops.proofs.SetBits.{stopsIn-range}
 use Rattle.stops.proofs.SetAnd.{stopsIn-added}
+use Rattle.stops.proofs.SetLoops.{Passed, passed-starts, passed-again}
 use Rattle.records.specs.Code.{encode, inSlot, slots}
 use Rattle.records.proofs.Mask.{mask-stops, rest-small, rest-left, ones-set, mask-extend}
 use Rattle.records.proofs.SlotLaws.{in-slots}
 use Rattle.rivals.specs.Code.{Siblings}
-use Rattle.children.specs.Code.{Table, Rows, Encoded, encodeOf, restOf, pairsBy, bounded, childOf, childrenOf, Born}
+use Rattle.children.specs.Code.{Table, Rows, Encoded, encodeOf, restOf, pairsBy, bounded, bornOf, childOf, childrenOf, Born}
 use Rattle.children.specs.declared.setting.Setting.{Setting}
 
 module _ {d : Setting} {t : Table} {b : Record} (rows : Rows d t) (e : Encoded d t b) where
@@ -57,7 +57,7 @@ module _ {d : Setting} {t : Table} {b : Record} (rows : Rows d t) (e : Encoded d
 
     -- each has one stop more than b, and its set holds b's
     pub born-siblings : (limit : ℕ) → Siblings (record { size = b .size + 1; base = b .set; limit = limit }) born kids
-    unfolding childOf bounded extended restOf
+    unfolding childOf bornOf bounded extended restOf
     born-siblings limit = record {
       slotted = record { small = k .small; room = k .room };
       sizes = λ s i. ap (λ (x : Record). x .size) (k .each s i) ∙ one-more s (left-by s i);
@@ -76,16 +76,14 @@ module _ {d : Setting} {t : Table} {b : Record} (rows : Rows d t) (e : Encoded d
 
 -- The children are written so: `left` has the stops to come, and the children by the others of `rest` stand in their slots.
 pub record Placing (f : ℕ → Record) (rest : ℕ) (kids : List Record) (left : ℕ) : Type 0 where
-  pub small : left < 2 ^ mostStops
+  pub passed : Passed (λ s. inSlot kids s ≡ f s) rest left
   pub rest-fits : rest < 2 ^ mostStops
-  pub among : (s : ℕ) → In s (stopsIn left) → In s (stopsIn rest)
   pub room : mostStops ≤ length kids
-  pub each : (s : ℕ) → In s (stopsIn rest) → In s (stopsIn left) ⊎ (inSlot kids s ≡ f s)
 
 pub placing-starts :
     {f : ℕ → Record} {rest left : ℕ} {kids : List Record} → left ≡ rest → rest < 2 ^ mostStops → mostStops ≤ length kids
     → Placing f rest kids left
-placing-starts e h k = rw e record { small = h; rest-fits = h; among = λ s i. i; room = k; each = λ s i. inl i }
+placing-starts e h k = rw e record { passed = passed-starts h; rest-fits = h; room = k }
 
 -- a record stored in its slot, and the others, which stay
 slot-stored : (l : List Record) (r : ℕ) (x : Record) → r - 1 < length l → inSlot (set l (r - 1) x) r ≡ x
@@ -96,38 +94,13 @@ slot-other : (l : List Record) (r s : ℕ) (x : Record) → 1 ≤ r → 1 ≤ s 
 unfolding inSlot
 slot-other l r s x h i n = getD-set-other l (r - 1) (s - 1) x emptyRecord (λ q. n (omega arith))
 
-module _ {f : ℕ → Record} {rest : ℕ} {kids : List Record} {left : ℕ} (l : Placing f rest kids left) where
-  pub placing-again :
-      {kids′ : List Record} {left′ : ℕ} {x : Record} {r : ℕ} → First left r → left′ ≡ left - 2 ^ (r - 1) → x ≡ f r
-      → kids′ ≡ set kids (r - 1) x → Placing f rest kids′ left′
-  placing-again {x = x} {r} o e i g = rw (e, g) record {
-    small = omega (arith, l .small);
-    among = λ s m. l .among s (rw (o .others) (List·Memᴰ·tail m));
-    room = rw length-set (l .room);
-    rest-fits = l .rest-fits;
-    each = λ s m. go s m (compared s r) (l .each s m);
-  }
-    where
-      range : (s : ℕ) → In s (stopsIn rest) → (1 ≤ s) × (s ≤ mostStops)
-      range s m = stopsIn-range rest (l .rest-fits) s m
-
-      range-r : (1 ≤ r) × (r ≤ mostStops)
-      range-r = range r (l .among r (o .member))
-
-      behind : (s : ℕ) → s ≢ r → (s ≡ r) ⊎ In s (stopsIn (left - 2 ^ (r - 1))) → In s (stopsIn (left - 2 ^ (r - 1)))
-      behind s n (inl q) = absurd (n q)
-      behind s n (inr j) = j
-
-      go :
-          (s : ℕ) → In s (stopsIn rest) → (s ≡ r) ⊎ (s ≢ r) → In s (stopsIn left) ⊎ (inSlot kids s ≡ f s)
-          → In s (stopsIn (left - 2 ^ (r - 1))) ⊎ (inSlot (set kids (r - 1) x) s ≡ f s)
-      go s m (inl q) was = inr (rw q (slot-stored kids r x (omega (arith, range-r, l .room)) ∙ i))
-      go s m (inr n) (inl there) = inl (behind s n (List·Memᴰ·cases-cons (rw (o .others) at there)))
-      go s m (inr n) (inr was) = inr (slot-other kids r s x (range-r .0) (range s m .0) n ∙ was)
-
-  pub placing-ends : left ≡ 0 → (s : ℕ) → In s (stopsIn rest) → inSlot kids s ≡ f s
-  placing-ends e s m = go (l .each s m)
-    where
-      go : In s (stopsIn left) ⊎ (inSlot kids s ≡ f s) → inSlot kids s ≡ f s
-      go (inl i) = absurd (List·Memᴰ·not-nil (rw (e, stopsIn-zero) at i))
-      go (inr q) = q
+pub placing-again :
+    {f : ℕ → Record} {rest left left′ r : ℕ} {kids kids′ : List Record} {x : Record} → Placing f rest kids left → First left r
+    → left′ ≡ left - 2 ^ (r - 1) → x ≡ f r → kids′ ≡ set kids (r - 1) x → Placing f rest kids′ left′
+placing-again {rest = rest} {r = r} {kids} {x = x} l o e i g = rw g record {
+  passed =
+      passed-again (l .passed) o e (slot-stored kids r x (omega (arith, o .some, o .few, l .room)) ∙ i)
+      (λ s m n was. slot-other kids r s x (o .some) (stopsIn-range rest (l .rest-fits) s m .0) n ∙ was);
+  rest-fits = l .rest-fits;
+  room = rw length-set (l .room);
+}

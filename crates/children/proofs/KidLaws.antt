@@ -1,6 +1,5 @@
 -- What the code of `child` and `root` needs: the words of a node's record have room for one stop more.
---   kid-places              the last stop of a record and those that it leaves are places of the table
---   kid-wide, kid-small     its words have room for one of those stops, and 32 bits hold the child's bound
+--   Kid, kid-bears          one of the stops that a record leaves: its words have room for it, and 32 bits hold the child's bound
 --   kid-made                the record extended, with what the bound adds, is the child
 --   root-made               e with the bound of the set of all stops is the root's record
 use mathlib.Core.Path.{_≡_, ap, ap₂, sym, subst, _∙_}
@@ -16,14 +15,14 @@ use Rattle.orders.specs.Orders.{left}
 use Rattle.orders.proofs.Partial.{partial-size}
 use Rattle.orders.proofs.Sets.{size-left}
 use Rattle.stops.specs.Stops.{dayOn}
-use Rattle.stops.specs.Code.{emptyRecord, Wide, extended, lastStop, stopsIn, reckonOn}
+use Rattle.stops.specs.Code.{emptyRecord, Wide, lastStop, stopsIn, reckonOn}
 use Rattle.stops.specs.declared.node_record.Record.{Record}
 use Rattle.stops.proofs.SetBits.{stopsIn-range, stopsIn-few, all-small}
 use Rattle.stops.proofs.StopsWalk.{after-stop, further-small, path-small, ahead-small}
 use Rattle.records.specs.Code.{encode}
 use Rattle.records.proofs.Mask.{rest-small}
 use Rattle.records.proofs.Encode.{encode-wide}
-use Rattle.children.specs.Code.{Table, Rows, Encoded, Kid, encodeOf, restOf, bounded, childOf, rootOf}
+use Rattle.children.specs.Code.{Table, Rows, Encoded, Bears, encodeOf, restOf, bounded, bornOf, childOf, rootOf}
 use Rattle.children.specs.declared.setting.Setting.{Setting}
 use Rattle.children.proofs.FamilyLaws.{restOf-left}
 
@@ -60,8 +59,17 @@ module _ {d : Setting} {t : Table} (rows : Rows d t) where
       let all : 1 * 2 ^ d .n % 2 ^ 32 - 1 ≡ 2 ^ d .n - 1 = omega (arith, all-small (d .n) (rows .few)) in
       ap₂ bounded (f ∙ ap (λ (m : ℕ). reckonOn t .ahead (d .bound) 0 (stopsIn m)) all) e
 
-module _ {d : Setting} {t : Table} {b : Record} {place rest s : ℕ} (q : Kid d t b place rest s) where
-  pub kid-places : (place ≤ mostStops) × (rest < 2 ^ mostStops) × (s ≤ mostStops)
+-- place is b's last stop, rest the stops that it leaves, s one of them, and v what the bound adds to the child by s
+pub record Kid (d : Setting) (t : Table) (b : Record) (place rest s v : ℕ) : Type 0 where
+  pub rows : Rows d t
+  pub encoded : Encoded d t b
+  pub at : place ≡ lastStop b
+  pub leaves : rest ≡ restOf d b
+  pub stop : In s (stopsIn rest)
+  pub adds : v ≡ reckonOn t .ahead (d .bound) s (stopsIn (rest - 2 ^ (s - 1)))
+
+module _ {d : Setting} {t : Table} {b : Record} {place rest s v : ℕ} (q : Kid d t b place rest s v) where
+  kid-places : (place ≤ mostStops) × (rest < 2 ^ mostStops) × (s ≤ mostStops)
   unfolding restOf
   kid-places =
       let small : rest < 2 ^ mostStops = rw (q .leaves) (rest-small (d .n) (q .rows .few) (b .set)) in
@@ -70,7 +78,7 @@ module _ {d : Setting} {t : Table} {b : Record} {place rest s : ℕ} (q : Kid d 
   further-most : reckonOn t .further place s ≤ dearest
   further-most = further-small t (q .rows .cheap) place s
 
-  pub kid-wide : Wide b s (reckonOn t .further place s)
+  kid-wide : Wide b s (reckonOn t .further place s)
   unfolding encodeOf
   kid-wide =
       let e = q .encoded in
@@ -79,23 +87,23 @@ module _ {d : Setting} {t : Table} {b : Record} {place rest s : ℕ} (q : Kid d 
       subst (λ (r : Record). Wide r s (reckonOn t .further place s)) (sym (e .same))
       (encode-wide (d .n) (q .rows .few) (dayOn (d .n) t) (d .bound) (e .node) (e .partial) s m (reckonOn t .further place s) room)
 
-  -- x is b extended, and v what the bound adds to its path
-  module _
-      (x : Record) (v others : ℕ) (o : x ≡ extended b s (reckonOn t .further place s)) (w : others ≡ rest - 2 ^ (s - 1))
-      (h : v ≡ reckonOn t .ahead (d .bound) s (stopsIn others))
-    where
-      pub kid-small : x .path + v < 2 ^ 32
-      unfolding extended
-      kid-small =
-          let few : length (stopsIn others) ≤ mostStops = stopsIn-few others (omega (arith, kid-places)) in
-          omega (
-            arith,
-            ap (λ (r : Record). r .path) o,
-            path-most (q .rows) (q .encoded),
-            further-most,
-            ahead-small t (q .rows .cheap) mostStops (d .bound) s (stopsIn others) few,
-          )
+  pub kid-bears : Bears t b place s v
+  kid-bears =
+      let others = rest - 2 ^ (s - 1) in
+      record {
+        at = kid-places .0;
+        stop = kid-places .2;
+        wide = kid-wide;
+        fits =
+            omega (
+              arith,
+              q .adds,
+              path-most (q .rows) (q .encoded),
+              further-most,
+              ahead-small t (q .rows .cheap) mostStops (d .bound) s (stopsIn others) (stopsIn-few others (omega (arith, kid-places))),
+            );
+      }
 
-      pub kid-made : bounded (x .path + v) x ≡ childOf d t b s
-      unfolding childOf bounded extended
-      kid-made = rw (o, h, w, q .at, q .leaves, after-stop t (lastStop b) s)
+  pub kid-made : bornOf t b place s v ≡ childOf d t b s
+  unfolding childOf
+  kid-made = rw (q .adds, q .at, q .leaves, after-stop t (lastStop b) s)

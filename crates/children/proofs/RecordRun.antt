@@ -23,7 +23,7 @@ use Rattle.stops.proofs.SetBits.{stopsIn-all}
 use Rattle.records.proofs.Mask.{stops-left}
 use Rattle.records.proofs.Encode.{encode-last, encode-extend}
 use Rattle.records.proofs.EncodeLaws.{encode-child, encode-dominates}
-use Rattle.children.specs.Code.{Table, Rows, problemOf, choicesOf, encodeOf, restOf, pairsBy, bounded, childOf, childrenOf, rootOf, recProblem, recChoices}
+use Rattle.children.specs.Code.{Table, Rows, problemOf, choicesOf, encodeOf, restOf, pairsBy, bounded, bornOf, childOf, childrenOf, rootOf, recProblem, recChoices}
 use Rattle.children.specs.declared.setting.Setting.{Setting}
 
 module _ {d : Setting} {t : Table} (rows : Rows d t) where
@@ -59,7 +59,7 @@ module _ {d : Setting} {t : Table} (rows : Rows d t) where
 
   module _ (x : Node) (p : Partial (d .n) x) where
     encode-kid : (s : ℕ) → In s (left n x) → childOf d t (encodeOf d t x) s ≡ encodeOf d t (extend x s)
-    unfolding childOf restOf encodeOf bounded encode
+    unfolding childOf bornOf restOf encodeOf bounded encode
     encode-kid s m =
         ap (λ (q : ℕ). bounded (D .path x + R .further q s + rest q) (extended (encode n D k x) s (R .further q s))) place
         ∙ ap (bounded (D .path x + R .further (R .place x) s + rest (R .place x)))

@@ -6,7 +6,8 @@
 --   problemOf, choicesOf, encodeOf    the problem and the caller's choices on nodes, and the record of a node
 --   childrenOf, rootOf                the children of a record, in ascending stop order, and the record of e
 --   recProblem, recChoices            the same problem and choices on records
---   Encoded, Kid                      a record is that of a node; and a stop is one that it leaves
+--   bornOf, Bears                     a record extended by a stop, with its bound, and that its words have room for it
+--   Encoded                           a record is that of a node
 --   Born                              the children of a record, each in the slot of its stop
 --   IsBest, Learnt                    what stands for U and its order, and for them after some children
 --   othersIn, farIn, Spotted          where the active records stand, the one that is branched and those branched before
@@ -26,7 +27,7 @@ use Rattle.orders.specs.Orders.{Node, Partial}
 use Rattle.orders.specs.Pairs.{Pair, Pairing, ready}
 use Rattle.days.specs.Days.{problem, choices}
 use Rattle.stops.specs.Stops.{dayOn}
-use Rattle.stops.specs.Code.{emptyRecord, extended, lastStop, recDominates, stopsIn, reckonOn, Cheap}
+use Rattle.stops.specs.Code.{emptyRecord, Wide, extended, lastStop, recDominates, stopsIn, reckonOn, Cheap}
 use Rattle.stops.specs.declared.node_record.Record.{Record}
 use Rattle.pairs.specs.Code.{precedenceOf, pairsIn}
 use Rattle.records.specs.Code.{encode, inSlot}
@@ -82,13 +83,15 @@ restOf d b = 2 ^ d .n - 1 - b .set
 unfoldable pub bounded : ℕ → Record → Record
 bounded v x = record { size = x .size; set = x .set; path = x .path; bound = v; first = x .first; second = x .second }
 
+-- b extended by stop s, flown to from a place, where the bound adds `ahead` to its path cost
+unfoldable pub bornOf : Table → Record → ℕ → ℕ → ℕ → Record
+bornOf t b place s ahead =
+    bounded (b .path + reckonOn t .further place s + ahead) (extended b s (reckonOn t .further place s))
+
 -- b is at the place of its last stop
 unfoldable pub childOf : Setting → Table → Record → ℕ → Record
 childOf d t b s =
-    bounded
-    (b .path + reckonOn t .further (lastStop b) s
-    + reckonOn t .ahead (d .bound) (reckonOn t .after (lastStop b) s) (stopsIn (restOf d b - 2 ^ (s - 1))))
-    (extended b s (reckonOn t .further (lastStop b) s))
+    bornOf t b (lastStop b) s (reckonOn t .ahead (d .bound) (reckonOn t .after (lastStop b) s) (stopsIn (restOf d b - 2 ^ (s - 1))))
 
 unfoldable pub childrenOf : Setting → Table → Record → List Record
 childrenOf d t b = map (childOf d t b) (ready (pairsBy d) (stopsIn (restOf d b)))
@@ -114,13 +117,12 @@ pub record Encoded (d : Setting) (t : Table) (b : Record) : Type 0 where
   pub partial : Partial (d .n) node
   pub same : b ≡ encodeOf d t node
 
--- place is b's last stop, rest the stops that it leaves, and s one of them
-pub record Kid (d : Setting) (t : Table) (b : Record) (place rest s : ℕ) : Type 0 where
-  pub rows : Rows d t
-  pub encoded : Encoded d t b
-  pub at : place ≡ lastStop b
-  pub leaves : rest ≡ restOf d b
-  pub stop : In s (stopsIn rest)
+-- what `child` asks, so that no word overflows: places of the table, room for one stop more, and a bound that fits
+pub record Bears (t : Table) (b : Record) (place s ahead : ℕ) : Type 0 where
+  pub at : place ≤ mostStops
+  pub stop : s ≤ mostStops
+  pub wide : Wide b s (reckonOn t .further place s)
+  pub fits : b .path + reckonOn t .further place s + ahead < 2 ^ 32
 
 pub record Born (d : Setting) (t : Table) (b : Record) (born : ℕ) (kids : List Record) : Type 0 where
   pub small : born < 2 ^ mostStops

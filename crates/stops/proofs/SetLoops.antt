@@ -1,26 +1,27 @@
 -- What a loop over the stops of a set needs: it takes the first stop of what is left out, and lowers or adds to what it has so far.
 --   first-out, first-only    the first stop of a set, by its trailing zeros
 --   Lowered, lowered-starts, lowered-again, lowered-ends    the invariant of a loop that looks for the least value over a set
+--   least-alone, least-beside    the least value over a place and a set
 --   Summed, summed-starts, summed-again, summed-ends    the same for a sum; summed-most: no sum on the way is above the last
---   into-set, into-pair, pair-in            the cheapest leg into a stop, of sets that are numbers
+--   Passed, passed-starts, passed-again, passed-ends    the same for what is done stop by stop
+--   into-set                the cheapest leg into a stop, of sets that are numbers
 --   ahead-none, ahead-plain, ahead-close    and what a bound adds
 --   remainder-small, ahead-small    what a bound adds is small where the legs are
-use mathlib.Core.Path.{_≡_, refl, ap, sym, _∙_}
-use mathlib.Core.Bool.{Bool, true, false, not}
-use mathlib.Core.List.{List, [], _∷_, List·Memᴰ·tail}
+use mathlib.Core.Path.{_≡_, refl, ap, sym, subst, _∙_}
+use mathlib.Core.Bool.{Bool, true, false}
+use mathlib.Core.List.{List, [], _∷_, List·Memᴰ·tail, List·Memᴰ·not-nil}
+use mathlib.Core.Logic.{_⊎_, inl, inr, _≢_}
 use Prim.Native.Nat.{ℕ, suc, _+_, _-_, _*_, _^_, _≤_, _<_, min}
 use native.Mathlib.Nat.{mul-le-mul-right, suc-mul}
 use native.Mathlib.Omega.{arith}
 use lib.Count.{trailingZeros}
-use lib.Dec.{eqb}
 use lib.ListN.{length, getD}
 use lib.Pow.{pow-pos}
 use Rattle.sizes.specs.Sizes.{mostStops}
 use Rattle.lists.specs.Lists.{In, sum, least, without}
-use Rattle.lists.proofs.Tests.{neq, ne-neqb}
-use Rattle.lists.proofs.Members.{in-head, in-keep, keep-in}
+use Rattle.lists.proofs.Tests.{compared}
+use Rattle.lists.proofs.Members.{in-head, in-behind}
 use Rattle.lists.proofs.Numbers.{sum-mono, sum-const, least-small}
-use Rattle.lists.proofs.Distinct.{least-taken}
 use Rattle.stops.specs.Legs.{Legs, rowLeg, legs}
 use Rattle.stops.specs.Bounds.{isClose, cheapestInto, remainder}
 use Rattle.stops.specs.Code.{stopsIn, First, aheadBy, ahead, Within}
@@ -72,18 +73,9 @@ pub record Lowered (f : ℕ → ℕ) (goal low left : ℕ) : Type 0 where
   pub small : left < 2 ^ mostStops
   pub same : lower f low (stopsIn left) ≡ goal
 
-pub lowered-starts : (f : ℕ → ℕ) (x left : ℕ) → left < 2 ^ mostStops → Lowered f (least f (x ∷ stopsIn left)) (f x) left
-lowered-starts f x left h = record { small = h; same = lower-least f x (stopsIn left) }
-
--- the loop may start from two values, too
-pub lowered-starts-two :
-    (f : ℕ → ℕ) (x y left : ℕ) → left < 2 ^ mostStops → Lowered f (least f (x ∷ y ∷ stopsIn left)) (min (f x) (f y)) left
-lowered-starts-two f x y left h = record { small = h; same = lower-least f x (y ∷ stopsIn left) }
-
--- and from the first stop of the set
-pub lowered-starts-first :
+pub lowered-starts :
     (f : ℕ → ℕ) (set r left : ℕ) → set < 2 ^ mostStops → First set r → left ≡ set - 2 ^ (r - 1) → Lowered f (least f (stopsIn set)) (f r) left
-lowered-starts-first f set r left h o e = rw (o .others, e) (lowered-starts f r (set - 2 ^ (r - 1)) (omega arith))
+lowered-starts f set r left h o e = rw (o .others, e) record { small = omega arith; same = lower-least f r (stopsIn (set - 2 ^ (r - 1))) }
 
 pub lowered-again :
     {f : ℕ → ℕ} {goal low left low′ left′ : ℕ} (r : ℕ) → Lowered f goal low left → First left r → left′ ≡ left - 2 ^ (r - 1)
@@ -95,6 +87,14 @@ lowered-again r l o e g = record {
 
 pub lowered-ends : {f : ℕ → ℕ} {goal low left : ℕ} → Lowered f goal low left → left ≡ 0 → low ≡ goal
 lowered-ends l e = rw (e, stopsIn-zero) at (l .same)
+
+-- the least value over a place and a set: that of the place alone, or the lesser of its value and of the set's least
+pub least-alone : (f : ℕ → ℕ) (place set : ℕ) → set ≡ 0 → f place ≡ least f (place ∷ stopsIn set)
+least-alone f place set e = rw (e, stopsIn-zero)
+
+pub least-beside :
+    (f : ℕ → ℕ) (place set : ℕ) → 0 < set → set < 2 ^ mostStops → min (f place) (least f (stopsIn set)) ≡ least f (place ∷ stopsIn set)
+least-beside f place set some small = rw (stopsIn-next set small some .2)
 
 -- A sum over the set `rest` is found so: `total` and the values over what is left add up to `goal`, and what is left is of the set.
 pub record Summed (f : ℕ → ℕ) (rest goal total left : ℕ) : Type 0 where
@@ -120,6 +120,38 @@ module _ {f : ℕ → ℕ} {rest goal total left : ℕ} (l : Summed f rest goal 
   pub summed-ends : left ≡ 0 → total ≡ goal
   summed-ends e = omega (arith, rw (e, stopsIn-zero) at (l .same))
 
+-- A loop does something for each stop of the set `rest` in turn: each of them is among those left, or it is done.
+pub record Passed (Done : ℕ → Type 0) (rest left : ℕ) : Type 0 where
+  pub small : left < 2 ^ mostStops
+  pub among : (s : ℕ) → In s (stopsIn left) → In s (stopsIn rest)
+  pub each : (s : ℕ) → In s (stopsIn rest) → In s (stopsIn left) ⊎ Done s
+
+pub passed-starts : {Done : ℕ → Type 0} {rest : ℕ} → rest < 2 ^ mostStops → Passed Done rest rest
+passed-starts h = record { small = h; among = λ s i. i; each = λ s i. inl i }
+
+module _ {Done : ℕ → Type 0} {rest left : ℕ} (l : Passed Done rest left) where
+  -- what is done now is done for the first stop left, and stays done for the others
+  pub passed-again :
+      {Done′ : ℕ → Type 0} {left′ r : ℕ} → First left r → left′ ≡ left - 2 ^ (r - 1) → Done′ r
+      → ((s : ℕ) → In s (stopsIn rest) → s ≢ r → Done s → Done′ s) → Passed Done′ rest left′
+  passed-again {Done′} {r = r} o e now stays = rw e record {
+    small = omega (arith, l .small);
+    among = λ s m. l .among s (rw (o .others) (List·Memᴰ·tail m));
+    each = λ s m. go s m (compared s r) (l .each s m);
+  }
+    where
+      go : (s : ℕ) → In s (stopsIn rest) → (s ≡ r) ⊎ (s ≢ r) → In s (stopsIn left) ⊎ Done s → In s (stopsIn (left - 2 ^ (r - 1))) ⊎ Done′ s
+      go s m (inl q) was = inr (subst Done′ (sym q) now)
+      go s m (inr n) (inl there) = inl (in-behind (rw (o .others) at there) n)
+      go s m (inr n) (inr was) = inr (stays s m n was)
+
+  pub passed-ends : left ≡ 0 → (s : ℕ) → In s (stopsIn rest) → Done s
+  passed-ends e s m = go (l .each s m)
+    where
+      go : In s (stopsIn left) ⊎ Done s → Done s
+      go (inl i) = absurd (List·Memᴰ·not-nil (rw (e, stopsIn-zero) at i))
+      go (inr q) = q
+
 -- the least over some legs is no longer than the longest leg
 pub leg-small :
     (t : List (List ℕ)) (m s : ℕ) (places : List ℕ) → Within m (legs t) → least (λ p. rowLeg t p s) places ≤ m
@@ -132,28 +164,6 @@ pub into-set :
     → least (λ p. rowLeg t p s) (place ∷ stopsIn others) ≡ cheapestInto (legs t) place (stopsIn rest) s
 unfolding legs cheapestInto
 into-set t place rest others s h i e = rw (e, stopsIn-without rest h s i .1)
-
--- and into one of two stops of a set, from the other one and the rest as a set
-pub into-pair :
-    (t : List (List ℕ)) (place rest others s u : ℕ) → rest < 2 ^ mostStops → In s (stopsIn rest) → In u (stopsIn (rest - 2 ^ (s - 1)))
-    → others ≡ rest - 2 ^ (s - 1) - 2 ^ (u - 1)
-    → least (λ p. rowLeg t p s) (place ∷ u ∷ stopsIn others) ≡ cheapestInto (legs t) place (stopsIn rest) s
-into-pair t place rest others s u h i j e =
-    let f : ℕ → ℕ = λ p. rowLeg t p s in
-    rw (e, stopsIn-without (rest - 2 ^ (s - 1)) (omega arith) u j .1)
-    (least-taken place u (stopsIn (rest - 2 ^ (s - 1))) j f ∙ into-set t place rest (rest - 2 ^ (s - 1)) s h i refl)
-
--- two stops of a part of a set, one after the other: each is of the set without the other
-pub pair-in :
-    (rest left s u : ℕ) → rest < 2 ^ mostStops → left < 2 ^ mostStops → ((x : ℕ) → In x (stopsIn left) → In x (stopsIn rest)) → In s (stopsIn left)
-    → In u (stopsIn (left - 2 ^ (s - 1))) → In u (stopsIn (rest - 2 ^ (s - 1))) × In s (stopsIn (rest - 2 ^ (u - 1)))
-pair-in rest left s u h k among i j =
-    let (m, n) = in-keep (λ r. not (eqb s r)) (stopsIn left) u (rw (stopsIn-without left k s i .1) at j) in
-    let apart = neq s u n in (
-      rw (stopsIn-without rest h s (among s i) .1) (keep-in (λ r. not (eqb s r)) (stopsIn rest) u (among u m) n),
-      rw (stopsIn-without rest h u (among u m) .1)
-          (keep-in (λ r. not (eqb u r)) (stopsIn rest) s (among s i) (ne-neqb u s (λ e. apart (sym e)))),
-    )
 
 module _ (m : ℕ) (L : Legs) (w : Within m L) (place : ℕ) where
   into-small : (rest : List ℕ) (s : ℕ) → cheapestInto L place rest s ≤ m

@@ -1,5 +1,5 @@
-// A leg in the rows of a table. The function is this crate's own: the crates above use `table::further`, `cost::order_cost` and
-// the bounds.
+// A leg in the rows of a table. The function is for this crate and for `carried`, which reckons with legs too: the crates above use
+// `table::further`, `cost::order_cost` and the bounds.
 ghost use mathlib.Core.Path.{_≡_};
 ghost use Prim.Native.Nat.{_≤_};
 ghost use Rattle.sizes.specs.Sizes.{mostStops};

@@ -2,7 +2,7 @@
 // (proofs/). The functions are public for the crates above and not for hosts; what they require, those crates meet.
 pub mod bound;
 pub mod cost;
-mod legs;
+pub mod legs;
 pub mod node_record;
 pub mod sets;
 pub mod table;

@@ -1,5 +1,5 @@
--- `stops::bound::home` meets its contract. The loop's invariant: the least of what it has and of the legs home from the stops left is
--- the cheapest leg home. The measure is the set of the stops left, as a number.
+-- `stops::bound::cheapest` meets its contract. The loop's invariant: the least of what it has and of the legs from the stops left is the
+-- cheapest leg. The measure is the set of the stops left, as a number.
 use mathlib.Core.Path.{ap, _∙_}
 use Prim.Native.Nat.{min}
 use native.Mathlib.Omega.{arith}
@@ -7,22 +7,22 @@ use borrow.Author.Needs.{needs}
 use Rattle.lists.specs.Lists.{least}
 use Rattle.stops.specs.Legs.{rowLeg}
 use Rattle.stops.specs.Code.{stopsIn}
-use Rattle.stops.proofs.SetLoops.{Lowered, lowered-starts-first, lowered-again, lowered-ends}
-use Rattle.stops.proofs.bound.home.Statement.{statement}
-use Rattle.stops.proofs.bound.home.Tie as tie
+use Rattle.stops.proofs.SetLoops.{Lowered, lowered-starts, lowered-again, lowered-ends}
+use Rattle.stops.proofs.bound.cheapest.Statement.{statement}
+use Rattle.stops.proofs.bound.cheapest.Tie as tie
 
 abbrev Inv-loop : tie.InvT-loop
-Inv-loop t rest first low₀ left₀ low left = Lowered (λ s. rowLeg t s 0) (least (λ s. rowLeg t s 0) (stopsIn rest)) low left
+Inv-loop t stops to first low₀ left₀ low left = Lowered (λ s. rowLeg t s to) (least (λ s. rowLeg t s to) (stopsIn stops)) low left
 
 abbrev μ-loop : tie.MeasureT-loop
-μ-loop t rest first low₀ left₀ low left = left
+μ-loop t stops to first low₀ left₀ low left = left
 
 loop-holds : tie.Need-loop-holds Inv-loop μ-loop
 loop-holds c =
     let n = c .before .before in
     let a = n .before .args in
     rw (c .before .leg .ensures)
-    (lowered-starts-first (λ s. rowLeg (a .t .now) s 0) (a .rest) (n .next .result) (c .later .result) (n .before .pre .1) (n .next .ensures)
+    (lowered-starts (λ s. rowLeg (a .t .now) s (a .to)) (a .stops) (n .next .result) (c .later .result) (n .before .pre .1 .0) (n .next .ensures)
     (c .later .ensures _ (n .next .ensures)))
 
 loop-less : tie.Need-loop-less Inv-loop μ-loop
@@ -37,8 +37,8 @@ loop-again c =
     let rest = c .before .before .later2 .ensures _ (n .next2 .ensures) in
     lowered-again (n .next2 .result) (l .inv) (n .next2 .ensures) rest (c .lesser .ensures ∙ ap (min (l .least)) (c .before .leg2 .ensures))
 
-pub home-spec : {M : Type 1} → statement M
-home-spec =
+pub cheapest-spec : {M : Type 1} → statement M
+cheapest-spec =
     tie.close
     (tie.spec
     Inv-loop
