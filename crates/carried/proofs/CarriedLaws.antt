@@ -20,9 +20,9 @@ use Prim.Native.Nat.{ℕ, _+_, _-_, _≤_, min}
 use native.Mathlib.Omega.{arith}
 use lib.Dec.{T, not-T, eqb}
 use Rattle.lists.specs.Lists.{In, sum, least, without, Distinct}
-use Rattle.lists.proofs.Tests.{either, to-true, to-false, neq, ne-neqb, compared}
-use Rattle.lists.proofs.Members.{in-head, in-keep, keep-in}
-use Rattle.lists.proofs.Numbers.{sum-same, sum-adds, least-le, least-in, least-of-some, least-same}
+use Rattle.lists.proofs.Tests.{either, to-true, to-false, neq, compared}
+use Rattle.lists.proofs.Members.{in-head, in-without, without-in}
+use Rattle.lists.proofs.Numbers.{sum-same, sum-adds, least-le, least-given, least-of-some, least-same}
 use Rattle.lists.proofs.Distinct.{sum-without}
 use Rattle.orders.specs.Orders.{left, last, complete, extend}
 use Rattle.orders.proofs.Sets.{distinct-left, last-extend, left-extend}
@@ -34,13 +34,6 @@ use Rattle.stops.specs.Bounds.{cheapestInto, remainder, close, endsAway, boundB
 use Rattle.stops.specs.Stops.{day, dayOn}
 use Rattle.carried.specs.Examples
 use Rattle.carried.specs.Carried.{held, among, fromPlace, correction, carriedSum, carriedHome, carried, CarriedIsClose, CarriedOnEveryDay}
-
--- what is in a list without s is in the list and is not s, and the other way round
-in-without : (s : ℕ) (xs : List ℕ) (r : ℕ) → In r (without s xs) → In r xs × (s ≢ r)
-in-without s xs r m = let (i, h) = in-keep (λ q. not (eqb s q)) xs r m in (i, neq s r h)
-
-without-in : (s : ℕ) (xs : List ℕ) (r : ℕ) → In r xs → s ≢ r → In r (without s xs)
-without-in s xs r m h = keep-in (λ q. not (eqb s q)) xs r m (ne-neqb s r h)
 
 -- a choice of which the second, where it is taken, is the same as the first
 either-way : (b : Bool) (a c : ℕ) → (T (not b) → a ≡ c) → cond b a c ≡ a
@@ -63,11 +56,7 @@ module _ (f : ℕ → ℕ) where
   least-members (x ∷ xs) [] there back = absurd (List·Memᴰ·not-nil (there x in-head))
   least-members (x ∷ xs) (y ∷ ys) there back = least-same f x y xs ys there back
 
-  -- of a list with a member, one gives the least; and the least of some of its members, if there are some, is not below it
-  least-given : (xs : List ℕ) (r : ℕ) → In r xs → (z : ℕ) × In z xs × (f z ≡ least f xs)
-  least-given [] r m = absurd (List·Memᴰ·not-nil m)
-  least-given (x ∷ xs) r m = least-in f x xs
-
+  -- the least of some members of a list is not below its least
   least-part : (xs ys : List ℕ) (r : ℕ) → In r ys → ((z : ℕ) → In z ys → In z xs) → least f xs ≤ least f ys
   least-part xs [] r m some = absurd (List·Memᴰ·not-nil m)
   least-part xs (y ∷ ys) r m some = least-of-some f xs y ys some

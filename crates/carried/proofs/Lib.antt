@@ -1,2 +1,3 @@
 pub mod CarriedLaws
 pub mod SetLaws
+pub mod HomeLaws

@@ -1,12 +1,11 @@
 -- What the code of this crate needs of the laws of what is carried, for sets of stops that are numbers.
---   Entered, entered-starts, entered-again    the invariant of a loop that enters a number for each stop
---   several                 a set with stops behind its first one is one of several
+--   Entered, entered-again    the invariant of a loop that enters a number for each stop
+--   several                   a set with stops behind its first one is one of several
 --   among-set, total-most, shares-made    what the children share: its parts as the code finds them, and that their sum is small
---   home-again, home-stays  the cheapest leg home of a child, looked for again and kept
---   child-less, child-ahead, child-small  what a child has of it is what is carried to it, and small
---   aheads-close, aheads-plain, aheads-one, aheads-none    and is document 01's bound: close, plain, of one child, and where no stop is left
+--   carried-ahead             what it adds for a child is what is carried to the child
+--   gives-close, gives-plain, gives-none, gives-one    so it is document 01's bound: close, plain, where no stop is left, and of a complete child
 use mathlib.Core.Path.{_≡_, refl, ap, ap₂, sym, subst, _∙_}
-use mathlib.Core.Bool.{true, false, not}
+use mathlib.Core.Bool.{true, false}
 use mathlib.Core.List.{List, [], _∷_, List·Memᴰ·not-nil}
 use mathlib.Core.Logic.{_⊎_, inl, inr, _≢_}
 use Prim.Native.Nat.{ℕ, suc, _+_, _-_, _*_, _^_, _≤_, _<_}
@@ -18,26 +17,23 @@ use lib.ListN.{length, getD, set, replicate, length-set, length-replicate, getD-
 use lib.Seq.{getD-set-same, getD-set-other}
 use Rattle.sizes.specs.Sizes.{mostStops, places, dearest}
 use Rattle.lists.specs.Lists.{In, sum, least, without, Distinct}
-use Rattle.lists.proofs.Tests.{compared, ne-neqb}
-use Rattle.lists.proofs.Members.{in-behind, keep-in}
+use Rattle.lists.proofs.Tests.{compared, to-false, ne-neqb}
+use Rattle.lists.proofs.Members.{in-behind, without-in}
 use Rattle.lists.proofs.Numbers.{sum-mono, sum-const, least-small}
 use Rattle.stops.specs.Legs.{rowLeg, legs}
 use Rattle.stops.specs.Bounds.{isClose, cheapestInto, remainder}
 use Rattle.stops.specs.Code.{stopsIn, First, Cheap, reckoning, reckonOn}
 use Rattle.stops.proofs.SetBits.{stopsIn-zero, stopsIn-range, stopsIn-distinct, stopsIn-few, stopsIn-without}
-use Rattle.stops.proofs.SetLoops.{first-out, Passed, passed-starts, passed-again, ahead-none, ahead-plain, ahead-close, remainder-small}
-use Rattle.carried.specs.Carried.{among, correction, carriedSum, carriedHome, carried}
-use Rattle.carried.specs.Code.{Table, Several, Shares, Carries, Aheads}
+use Rattle.stops.proofs.SetLoops.{first-out, Passed, passed-again, ahead-none, ahead-plain, ahead-close}
+use Rattle.carried.specs.Carried.{among, carried}
+use Rattle.carried.specs.Code.{Table, Several, homeOf, aheadOf, familyOf, Shares, Gives}
 use Rattle.carried.specs.declared.Family.{Family}
-use Rattle.carried.proofs.CarriedLaws.{share-corrected, held-corrected, home-kept, carried-home, family-child, carried-sum, carried-remainder}
+use Rattle.carried.proofs.CarriedLaws.{share-corrected, held-corrected, carried-home, family-child, carried-sum, carried-remainder}
 
 -- The invariant of a loop that enters a number for each stop of a set: those of the stops passed stand at their places.
 pub record Entered (f : ℕ → ℕ) (rest : ℕ) (xs : List ℕ) (left : ℕ) : Type 0 where
   pub passed : Passed (λ s. getD xs s 0 ≡ f s) rest left
   pub room : length xs ≡ places
-
-pub entered-starts : (f : ℕ → ℕ) (rest : ℕ) → rest < 2 ^ mostStops → Entered f rest (replicate places 0) rest
-entered-starts f rest h = record { passed = passed-starts h; room = length-replicate {A = ℕ} places 0 }
 
 pub entered-again :
     {f : ℕ → ℕ} {rest left left′ s v : ℕ} {xs : List ℕ} → Entered f rest xs left → First left s → left′ ≡ left - 2 ^ (s - 1) → v ≡ f s
@@ -48,6 +44,14 @@ entered-again {s = s} {v} {xs} l o e h = record {
       (λ r i n was. getD-set-other xs s r v 0 n ∙ was);
   room = length-set xs s v ∙ l .room;
 }
+
+-- a family that shares no more than a total: each stop has nothing of it
+zero-at : (s : ℕ) → s ≤ mostStops → getD {A = ℕ} (replicate places 0) s 0 ≡ 0
+zero-at s h = getD-replicate {A = ℕ} places s 0 0 (omega arith)
+
+alone-ahead : (total s : ℕ) → (1 ≤ s) × (s ≤ mostStops) → aheadOf (familyOf total) (getD (replicate places 0) s 0) s ≡ total
+unfolding aheadOf familyOf homeOf
+alone-ahead total s h = rw (zero-at s (h .1), to-false (eqb s 0) (ne-neqb s 0 (λ e. let z : s ≡ 0 = e in omega arith))) (omega arith)
 
 -- a set with a stop in it is not empty
 some-in : (m s : ℕ) → In s (stopsIn m) → 0 < m
@@ -72,7 +76,7 @@ several rest behind some small later more = record { some = some; small = small;
     go s i (inl e) = rw e (omega (arith, later f o))
     go s i (inr n) =
         some-in (rest - 2 ^ (s - 1)) f
-        (rw (stopsIn-without rest small s i .1) (keep-in (λ r. not (eqb s r)) (stopsIn rest) f (o .member) (ne-neqb s f n)))
+        (rw (stopsIn-without rest small s i .1) (without-in s (stopsIn rest) f (o .member) n))
 
 module _ (t : Table) {rest : ℕ} (v : Several rest) where
   others-are : (s : ℕ) → In s (stopsIn rest) → stopsIn (rest - 2 ^ (s - 1)) ≡ without s (stopsIn rest)
@@ -81,7 +85,7 @@ module _ (t : Table) {rest : ℕ} (v : Several rest) where
   once : Distinct (stopsIn rest)
   once = stopsIn-distinct rest (v .small)
 
-  others-some : (s : ℕ) → In s (stopsIn rest) → (r : ℕ) × In r (without s (stopsIn rest))
+  pub others-some : (s : ℕ) → In s (stopsIn rest) → (r : ℕ) × In r (without s (stopsIn rest))
   others-some s i =
       let m = rest - 2 ^ (s - 1) in
       let first = first-out m (v .beside s i) (omega (arith, v .small)) _ refl in
@@ -92,19 +96,6 @@ module _ (t : Table) {rest : ℕ} (v : Several rest) where
       → least (λ p. rowLeg t p s) (stopsIn others) ≡ among (legs t) (stopsIn rest) s
   unfolding legs among
   among-set others s i e = rw (e, others-are s i)
-
-  -- what the code finds is what the children share
-  pub shares-made :
-      (x : Family) → x .total ≡ sum (among (legs t) (stopsIn rest)) (stopsIn rest)
-      → ((s : ℕ) → In s (stopsIn rest) → getD (x .into) s 0 ≡ among (legs t) (stopsIn rest) s)
-      → x .home ≡ least (λ s. rowLeg t s 0) (stopsIn rest) → length (x .into) ≡ places → Shares t rest x
-  unfolding legs
-  shares-made x e each h room = record {
-    total = λ place. e ∙ sym (held-corrected (legs t) (stopsIn rest) place others-some);
-    into = λ place s i. each s i ∙ sym (share-corrected (legs t) (stopsIn rest) place s (others-some s i .0) (others-some s i .1));
-    home = h;
-    room = room;
-  }
 
   module _ (cheap : Cheap t) where
     among-most : (s : ℕ) → among (legs t) (stopsIn rest) s ≤ dearest
@@ -120,82 +111,88 @@ module _ (t : Table) {rest : ℕ} (v : Several rest) where
           mul-le-mul-right dearest (stopsIn-few rest (v .small)),
         )
 
-  -- the child's cheapest leg home, looked for again, and kept
-  module _ (s : ℕ) (i : In s (stopsIn rest)) where
-    pub home-again :
-        (others : ℕ) → others ≡ rest - 2 ^ (s - 1) → least (λ p. rowLeg t p 0) (stopsIn others) ≡ carriedHome (legs t) (stopsIn rest) s
-    unfolding legs
-    home-again others o = rw (o, others-are s i) (sym (carried-home (legs t) (stopsIn rest) s i))
+  -- what the code finds is what the children share
+  pub shares-made :
+      (x : Family) (into : List ℕ) → x .total ≡ sum (among (legs t) (stopsIn rest)) (stopsIn rest)
+      → ((s : ℕ) → In s (stopsIn rest) → getD into s 0 ≡ among (legs t) (stopsIn rest) s)
+      → ((s : ℕ) → In s (stopsIn rest) → homeOf (x .homes) s ≡ least (legs t .home) (without s (stopsIn rest))) → length into ≡ places
+      → Shares t rest x into
+  shares-made x into e each h room = record {
+    total = λ place. e ∙ sym (held-corrected (legs t) (stopsIn rest) place others-some);
+    own = λ place s i. each s i ∙ sym (share-corrected (legs t) (stopsIn rest) place s (others-some s i .0) (others-some s i .1));
+    home = λ s i. h s i ∙ sym (carried-home (legs t) (stopsIn rest) s i);
+    room = room;
+  }
 
-    pub home-stays :
-        (home : ℕ) → home ≡ least (legs t .home) (stopsIn rest) → rowLeg t s 0 ≢ home → home ≡ carriedHome (legs t) (stopsIn rest) s
-    unfolding legs
-    home-stays home e other =
-        e ∙ sym (home-kept (legs t) (stopsIn rest) s i (λ q. other (q ∙ sym e))) ∙ sym (carried-home (legs t) (stopsIn rest) s i)
-
-  -- what the child by s has of it
-  module _ {x : Family} (z : Shares t rest x) (s : ℕ) (i : In s (stopsIn rest)) where
+  -- and what it then adds for the child by s is what is carried to it, whatever the place left behind is
+  module _ {x : Family} {into : List ℕ} (z : Shares t rest x into) (s : ℕ) (i : In s (stopsIn rest)) where
     abbrev others : List ℕ
     others = without s (stopsIn rest)
 
-    parts : (x .total ≡ getD (x .into) s 0 + sum (cheapestInto (legs t) s others) others)
+    parts : x .total ≡ getD into s 0 + sum (cheapestInto (legs t) s others) others
     parts =
         let (r, j) = others-some s i in
         z .total 0 ∙ held-corrected (legs t) (stopsIn rest) 0 others-some ∙ family-child (legs t) (stopsIn rest) once s i
-        ∙ ap (λ (m : ℕ). m + sum (cheapestInto (legs t) s others) others) (sym (z .into 0 s i ∙ share-corrected (legs t) (stopsIn rest) 0 s r j))
+        ∙ ap (λ (m : ℕ). m + sum (cheapestInto (legs t) s others) others)
+        (sym (z .own 0 s i ∙ share-corrected (legs t) (stopsIn rest) 0 s r j))
 
-    pub child-less : getD (x .into) s 0 ≤ x .total
-    child-less = omega (arith, parts)
+    pub carried-ahead : (place : ℕ) → aheadOf x (getD into s 0) s ≡ carried (legs t) place (stopsIn rest) s
+    unfolding aheadOf carried
+    carried-ahead place =
+        let (r, j) = others-some s i in omega (arith, parts, z .home s i, carried-sum (legs t) (stopsIn rest) once place s r i j)
 
-    module _ (h : ℕ) (e : h ≡ carriedHome (legs t) (stopsIn rest) s) where
-      pub child-ahead : (place : ℕ) → x .total - getD (x .into) s 0 + h ≡ carried (legs t) place (stopsIn rest) s
-      unfolding carried
-      child-ahead place = let (r, j) = others-some s i in omega (arith, parts, e, carried-sum (legs t) (stopsIn rest) once place s r i j)
-
-      pub child-small : Cheap t → x .total - getD (x .into) s 0 + h < 2 ^ 32
-      child-small cheap =
-          let (r, j) = others-some s i in
-          omega (
-            arith,
-            child-ahead 0,
-            carried-remainder (legs t) (stopsIn rest) once 0 s r i j,
-            remainder-small dearest (legs t) cheap s others,
-            mul-le-mul-right dearest (stopsIn-few (rest - 2 ^ (s - 1)) (omega (arith, v .small))),
-            ap length (others-are s i),
-          )
-
-  pub aheads-close : (bound : ℕ) (r : List ℕ) → isClose bound ≡ true → Carries t rest r → Aheads t bound rest r
+  -- so it is document 01's close bound
+  pub gives-close : (bound : ℕ) (x : Family) (into : List ℕ) → isClose bound ≡ true → Shares t rest x into → Gives t bound rest x into
   unfolding reckonOn reckoning
-  aheads-close bound r close k = record {
-    each = λ s i.
+  gives-close bound x into close z = record {
+    less = λ s i. omega (arith, parts z s i);
+    ahead = λ s i.
         let (q, j) = others-some s i in
-        k .each 0 s i ∙ carried-remainder (legs t) (stopsIn rest) once 0 s q i j ∙ ap (remainder (legs t) s) (sym (others-are s i))
+        carried-ahead z s i 0 ∙ carried-remainder (legs t) (stopsIn rest) once 0 s q i j ∙ ap (remainder (legs t) s) (sym (others-are s i))
         ∙ ahead-close (legs t) s (rest - 2 ^ (s - 1)) (v .beside s i) (omega (arith, v .small)) bound close;
-    room = k .room;
+    room = z .room;
   }
 
-  pub aheads-plain : (bound : ℕ) → isClose bound ≡ false → Aheads t bound rest (replicate places 0)
+  -- a plain bound adds nothing
+  pub gives-plain : (bound : ℕ) → isClose bound ≡ false → Gives t bound rest (familyOf 0) (replicate places 0)
   unfolding reckonOn reckoning
-  aheads-plain bound plain = record {
-    each = λ s i.
-        getD-replicate {A = ℕ} places s 0 0 (omega (arith, stopsIn-range rest (v .small) s i)) ∙ ahead-plain (legs t) s (rest - 2 ^ (s - 1)) (v .beside s i) (omega (arith, v .small)) bound plain;
+  gives-plain bound plain = record {
+    less = λ s i. omega (arith, zero-at s (stopsIn-range rest (v .small) s i .1));
+    ahead = λ s i.
+        alone-ahead 0 s (stopsIn-range rest (v .small) s i)
+        ∙ ahead-plain (legs t) s (rest - 2 ^ (s - 1)) (v .beside s i) (omega (arith, v .small)) bound plain;
     room = length-replicate {A = ℕ} places 0;
   }
 
-pub aheads-none : (t : Table) (bound rest : ℕ) → rest ≡ 0 → Aheads t bound rest (replicate places 0)
-aheads-none t bound rest e = record { each = λ s i. absurd (List·Memᴰ·not-nil (rw (e, stopsIn-zero) at i)); room = length-replicate {A = ℕ} places 0 }
-
-pub aheads-one :
-    (t : Table) (bound rest s v : ℕ) → First rest s → rest - 2 ^ (s - 1) ≡ 0 → v ≡ rowLeg t s 0 → Aheads t bound rest (set (replicate places 0) s v)
-unfolding reckonOn reckoning legs
-aheads-one t bound rest s v o e h = record {
-  each = λ r i. go r (compared r s) (rw (o .others) at i);
-  room = length-set (replicate places 0) s v ∙ length-replicate {A = ℕ} places 0;
+-- where no stop is left, there is no child
+pub gives-none : (t : Table) (bound rest : ℕ) → rest ≡ 0 → Gives t bound rest (familyOf 0) (replicate places 0)
+gives-none t bound rest e = record {
+  less = λ s i. absurd (none s i);
+  ahead = λ s i. absurd (none s i);
+  room = length-replicate {A = ℕ} places 0;
 }
   where
-    go : (r : ℕ) → (r ≡ s) ⊎ (r ≢ s) → In r (s ∷ stopsIn (rest - 2 ^ (s - 1))) → getD (set (replicate places 0) s v) r 0 ≡ reckonOn t .ahead bound r (stopsIn (rest - 2 ^ (r - 1)))
-    go r (inl q) i =
-        rw q
-        (getD-set-same (replicate places 0) s v 0 (omega (arith, length-replicate {A = ℕ} places 0, o .few)) ∙ h
-        ∙ ahead-none bound (legs t) s (rest - 2 ^ (s - 1)) e)
-    go r (inr n) i = absurd (List·Memᴰ·not-nil (rw (e, stopsIn-zero) at (in-behind i n)))
+    none : (s : ℕ) → In s (stopsIn rest) → ⊥
+    none s i = List·Memᴰ·not-nil (rw (e, stopsIn-zero) at i)
+
+-- one child is complete and flies home
+pub gives-one :
+    (t : Table) (bound rest s v : ℕ) → First rest s → rest - 2 ^ (s - 1) ≡ 0 → v ≡ rowLeg t s 0 → Gives t bound rest (familyOf v) (replicate places 0)
+unfolding reckonOn reckoning legs familyOf
+gives-one t bound rest s v o e h = record {
+  less = λ r i. subst (λ (q : ℕ). getD (replicate places 0) q 0 ≤ v) (sym (only r i)) (omega (arith, zero-at s (o .few)));
+  ahead = λ r i.
+      subst (λ (q : ℕ). aheadOf (familyOf v) (getD (replicate places 0) q 0) q ≡ reckonOn t .ahead bound q (stopsIn (rest - 2 ^ (q - 1))))
+      (sym (only r i)) flies;
+  room = length-replicate {A = ℕ} places 0;
+}
+  where
+    only : (r : ℕ) → In r (stopsIn rest) → r ≡ s
+    only r i = go (compared r s)
+      where
+        go : (r ≡ s) ⊎ (r ≢ s) → r ≡ s
+        go (inl q) = q
+        go (inr n) = absurd (List·Memᴰ·not-nil (rw (e, stopsIn-zero) at (in-behind (rw (o .others) at i) n)))
+
+    flies : aheadOf (familyOf v) (getD (replicate places 0) s 0) s ≡ reckonOn t .ahead bound s (stopsIn (rest - 2 ^ (s - 1)))
+    flies = alone-ahead v s (o .some, o .few) ∙ h ∙ ahead-none bound (legs t) s (rest - 2 ^ (s - 1)) e

@@ -1,21 +1,28 @@
 -- What the functions of this crate compute. `proofs/` shows that it is document 01's bound. These definitions are the code's own: a reader of the
 -- promise needs none of them.
---   Several rest          a set of two stops or more: each has others beside it
---   Shares t rest x       x has what the children of a node share that leaves the stops of rest, whatever the place left behind is
---   Sibling t rest home s s is a stop of such a set, and home the cheapest leg home
---   Carries t rest r      r has what is carried to each child
---   Aheads t bound rest r    r has what a bound adds to the path cost of each child
+--   Several rest             a set of two stops or more: each has others beside it
+--   noted x s home           the legs home x with that of a further stop s
+--   homeOf x s               the cheapest leg home for the child by s
+--   aheadOf x own s          what the bound adds to the path cost of the child by s, which has own of what the family x shares
+--   familyOf total           a family that shares no more than a total
+--   Shares t rest x into     x and into have what the children of a node share that leaves the stops of rest, whatever the place left behind is
+--   Gives t bound rest x into    x and into give what a bound adds to the path cost of each child
+--   Adds t bound place rest x into    and x has the legs from the node's place too
 use mathlib.Core.Path.{_≡_}
-use mathlib.Core.List.{List}
-use Prim.Native.Nat.{ℕ, _+_, _-_, _^_, _<_}
+use mathlib.Core.Bool.{cond}
+use mathlib.Core.List.{List, []}
+use Prim.Native.Nat.{ℕ, _+_, _-_, _^_, _≤_, _<_, min}
+use lib.Dec.{ltb, eqb}
 use lib.ListN.{length, getD}
 use Rattle.sizes.specs.Sizes.{mostStops, places}
-use Rattle.lists.specs.Lists.{In, sum, least}
+use Rattle.lists.specs.Lists.{In, sum}
 use Rattle.stops.specs.Legs.{legs}
 use Rattle.stops.specs.Bounds.{cheapestInto}
 use Rattle.stops.specs.Code.{stopsIn, reckonOn}
-use Rattle.carried.specs.Carried.{held, correction, carried}
+use Rattle.carried.specs.Carried.{held, correction, carriedHome}
+use Rattle.carried.specs.declared.Costs.{Costs}
 use Rattle.carried.specs.declared.Family.{Family}
+use Rattle.carried.specs.declared.Homes.{Homes}
 
 abbrev pub Table : Type 0
 Table = List (List ℕ)
@@ -25,24 +32,34 @@ pub record Several (rest : ℕ) : Type 0 where
   pub small : rest < 2 ^ mostStops
   pub beside : (s : ℕ) → In s (stopsIn rest) → 0 < rest - 2 ^ (s - 1)
 
--- the total is the node's sum with all its corrections, and what a stop has in it is its share with its own
-pub record Shares (t : Table) (rest : ℕ) (x : Family) : Type 0 where
+unfoldable pub noted : Homes → ℕ → ℕ → Homes
+noted x s home =
+    cond (ltb home (x .cheapest)) (record { cheapest = home; giver = s; other = x .cheapest })
+    (record { cheapest = x .cheapest; giver = x .giver; other = min (x .other) home })
+
+unfoldable pub homeOf : Homes → ℕ → ℕ
+homeOf x s = cond (eqb s (x .giver)) (x .other) (x .cheapest)
+
+unfoldable pub aheadOf : Family → ℕ → ℕ → ℕ
+aheadOf x own s = x .total - own + homeOf (x .homes) s
+
+unfoldable pub familyOf : ℕ → Family
+familyOf total = record { total = total; homes = record { cheapest = 0; giver = 0; other = 0 } }
+
+-- the total is the node's sum with all its corrections, what a stop has of it is its share with its own correction, and the leg home is the one carried
+pub record Shares (t : Table) (rest : ℕ) (x : Family) (into : List ℕ) : Type 0 where
   pub total : (place : ℕ) → x .total ≡ held (legs t) place (stopsIn rest) + sum (correction (legs t) place (stopsIn rest)) (stopsIn rest)
-  pub into :
+  pub own :
       (place s : ℕ) → In s (stopsIn rest)
-      → getD (x .into) s 0 ≡ cheapestInto (legs t) place (stopsIn rest) s + correction (legs t) place (stopsIn rest) s
-  pub home : x .home ≡ least (legs t .home) (stopsIn rest)
-  pub room : length (x .into) ≡ places
+      → getD into s 0 ≡ cheapestInto (legs t) place (stopsIn rest) s + correction (legs t) place (stopsIn rest) s
+  pub home : (s : ℕ) → In s (stopsIn rest) → homeOf (x .homes) s ≡ carriedHome (legs t) (stopsIn rest) s
+  pub room : length into ≡ places
 
-pub record Sibling (t : Table) (rest home s : ℕ) : Type 0 where
-  pub several : Several rest
-  pub stop : In s (stopsIn rest)
-  pub cheapest : home ≡ least (legs t .home) (stopsIn rest)
+pub record Gives (t : Table) (bound rest : ℕ) (x : Family) (into : List ℕ) : Type 0 where
+  pub less : (s : ℕ) → In s (stopsIn rest) → getD into s 0 ≤ x .total
+  pub ahead : (s : ℕ) → In s (stopsIn rest) → aheadOf x (getD into s 0) s ≡ reckonOn t .ahead bound s (stopsIn (rest - 2 ^ (s - 1)))
+  pub room : length into ≡ places
 
-pub record Carries (t : Table) (rest : ℕ) (r : List ℕ) : Type 0 where
-  pub each : (place s : ℕ) → In s (stopsIn rest) → getD r s 0 ≡ carried (legs t) place (stopsIn rest) s
-  pub room : length r ≡ places
-
-pub record Aheads (t : Table) (bound rest : ℕ) (r : List ℕ) : Type 0 where
-  pub each : (s : ℕ) → In s (stopsIn rest) → getD r s 0 ≡ reckonOn t .ahead bound s (stopsIn (rest - 2 ^ (s - 1)))
-  pub room : length r ≡ places
+pub record Adds (t : Table) (bound place rest : ℕ) (x : Costs) (into : List ℕ) : Type 0 where
+  pub legs : x .legs ≡ getD t place []
+  pub gives : Gives t bound rest (x .family) into

@@ -1,17 +1,18 @@
 // The bounds of a node's children, carried along from the node (request A.7). Into a stop that is left, each child but that stop's own can come from the
-// same stops, all the others that the node leaves; so the cheapest of those legs and their sum are found once for the family. specs/Carried has this in
-// the request's words, and proofs/ that it is document 01's close bound. The functions are public for the crates above and not for hosts; what they
-// require, those crates meet.
+// same stops, all the others that the node leaves; so the cheapest of those legs and their sum are found once for the family, and with them the cheapest
+// leg home. specs/Carried has this in the request's words, and proofs/ that it is document 01's close bound. The functions are public for the crates
+// above and not for hosts; what they require, those crates meet.
 ghost use mathlib.Core.Path.{_≡_};
 ghost use Prim.Native.Nat.{_-_, _^_, _≤_, _<_};
-ghost use Rattle.sizes.specs.Sizes.{mostStops};
-ghost use Rattle.stops.specs.Legs.{legs};
-ghost use Rattle.stops.specs.Code.{stopsIn, Cheap};
-ghost use Rattle.carried.specs.Carried.{carriedHome};
-ghost use Rattle.carried.specs.Code.{Several, Shares, Sibling, Carries, Aheads};
+ghost use lib.ListN.{length, replicate};
+ghost use Rattle.sizes.specs.Sizes.{mostStops, places};
+ghost use Rattle.stops.specs.Code.{lastStop, Cheap};
+ghost use Rattle.carried.specs.Code.{noted, aheadOf, familyOf, Several, Shares, Gives, Adds};
+use sizes::ABOVE_EVERY_COST;
 use sizes::PLACES;
 use stops::bound::cheapest;
 use stops::bound::is_close;
+use stops::bound::lesser;
 use stops::legs::leg;
 use stops::node_record::Record;
 use stops::sets::later;
@@ -19,21 +20,55 @@ use stops::sets::next;
 use stops::sets::without;
 use stops::table::Rows;
 
-// What the children of a node share: for each stop that the node leaves the cheapest leg into it from another one, the sum of these, and the cheapest
-// leg home.
-pub struct Family {
-    pub into: [u32; PLACES],
-    pub total: u32,
-    pub home: u32,
+// Of the legs home from some stops the cheapest, the stop that gives it, and the cheapest of the others.
+pub struct Homes {
+    pub cheapest: u32,
+    pub giver: u32,
+    pub other: u32,
 }
 
-// What the children by the stops of rest share.
-fn shared(t: &Rows, rest: u32) -> Family
-    requires { ⌜ Several rest × Cheap (now t) ⌝ }
-    ensures { λ r. ⌜ Shares (now (t .entry)) rest r ⌝ }
+// What the children of a node share: the sum of the cheapest legs into the stops that the node leaves, and the legs home.
+pub struct Family {
+    pub total: u32,
+    pub homes: Homes,
+}
+
+// What each child of a node adds to it: the legs from the node's last place, each at the place of its stop, and what the bound adds.
+pub struct Costs {
+    pub legs: [u32; PLACES],
+    pub family: Family,
+}
+
+// The legs home with that of a further stop.
+fn noted(x: Homes, s: u32, home: u32) -> Homes
+    ensures { λ r. ⌜ r ≡ noted x s home ⌝ }
 {
-    let mut into = [0u32; PLACES];
+    if home < x.cheapest {
+        return Homes {
+            cheapest: home,
+            giver: s,
+            other: x.cheapest,
+        };
+    }
+    Homes {
+        cheapest: x.cheapest,
+        giver: x.giver,
+        other: lesser(x.other, home),
+    }
+}
+
+// What the children by the stops of rest share where the bound is close. What each stop has of the total is written to its place: the cheapest leg into it
+// from another one.
+fn shared(t: &Rows, rest: u32, into: &mut [u32]) -> Family
+    requires { ⌜ Several rest × (Cheap (now t) × (length (now into) ≡ places)) ⌝ }
+    ensures { λ r. ⌜ Shares (now (t .entry)) rest r (now (into .exit)) ⌝ }
+{
     let mut total = 0;
+    let mut homes = Homes {
+        cheapest: ABOVE_EVERY_COST,
+        giver: 0,
+        other: ABOVE_EVERY_COST,
+    };
     let mut left = rest;
     while left != 0 {
         let s = next(left);
@@ -41,60 +76,64 @@ fn shared(t: &Rows, rest: u32) -> Family
         let leg_in = cheapest(t, without(rest, s), s);
         into[s as usize] = leg_in;
         total += leg_in;
+        homes = noted(homes, s, leg(t, s, 0));
     }
+    Family { total, homes }
+}
+
+// A family that has nothing to share but a total.
+fn alone(total: u32) -> Family
+    ensures { λ r. ⌜ r ≡ familyOf total ⌝ }
+{
     Family {
-        into: into,
-        total: total,
-        home: cheapest(t, rest, 0),
+        total,
+        homes: Homes {
+            cheapest: 0,
+            giver: 0,
+            other: 0,
+        },
     }
 }
 
-// The cheapest leg home of the child by s: the node's, looked for again only if s gave it.
-fn home_of(t: &Rows, rest: u32, home: u32, s: u32) -> u32
-    requires { ⌜ Sibling (now t) rest home s ⌝ }
-    ensures { λ r. ⌜ r ≡ carriedHome (legs (now (t .entry))) (stopsIn rest) s ⌝ }
+// What the children by the stops of rest share, by the bound. A plain bound adds nothing, but for a complete child, which is alone, its leg home.
+fn family_by(t: &Rows, bound: u32, rest: u32, into: &mut [u32]) -> Family
+    requires { ⌜ (rest < 2 ^ mostStops) × (Cheap (now t) × (now into ≡ replicate places 0)) ⌝ }
+    ensures { λ r. ⌜ Gives (now (t .entry)) bound rest r (now (into .exit)) ⌝ }
 {
-    if leg(t, s, 0) == home {
-        return cheapest(t, without(rest, s), 0);
-    }
-    home
-}
-
-// What the close bound adds to the path cost of the child by each stop of rest: the sum less that stop's own share, and the cheapest leg home.
-fn close_aheads(t: &Rows, rest: u32) -> [u32; PLACES]
-    requires { ⌜ Several rest × Cheap (now t) ⌝ }
-    ensures { λ r. ⌜ Carries (now (t .entry)) rest r ⌝ }
-{
-    let family = shared(t, rest);
-    let into = family.into;
-    let mut aheads = [0u32; PLACES];
-    let mut left = rest;
-    while left != 0 {
-        let s = next(left);
-        left = later(left);
-        aheads[s as usize] = family.total - into[s as usize] + home_of(t, rest, family.home, s);
-    }
-    aheads
-}
-
-// What the bound adds to the path cost of each child of b, at the place of the child's stop.
-pub fn aheads(n: u32, bound: u32, t: Rows, b: Record) -> [u32; PLACES]
-    requires { ⌜ (n ≤ mostStops) × ((b .set < 2 ^ n) × Cheap t) ⌝ }
-    ensures { λ r. ⌜ Aheads t bound (2 ^ n - 1 - b .set) r ⌝ }
-{
-    let rest = (1u32 << n) - 1 - b.set;
-    let mut aheads = [0u32; PLACES];
     if rest == 0 {
-        return aheads;
+        return alone(0);
     }
     if later(rest) == 0 {
-        // one child, which is complete
-        let s = next(rest);
-        aheads[s as usize] = leg(&t, s, 0);
-        return aheads;
+        return alone(leg(t, next(rest), 0));
     }
     if is_close(bound) {
-        return close_aheads(&t, rest);
+        return shared(t, rest, into);
     }
-    aheads
+    alone(0)
+}
+
+// What the bound adds to the path cost of the child by s, which has a part of its own in what the family shares: all of it but that part, and the cheapest
+// leg home, or the cheapest of the others if s gave it.
+pub fn added(family: Family, own: u32, s: u32) -> u32
+    requires { ⌜ (own ≤ family .total) × (aheadOf family own s < 2 ^ 32) ⌝ }
+    ensures { λ r. ⌜ r ≡ aheadOf family own s ⌝ }
+{
+    let homes = family.homes;
+    if s == homes.giver {
+        return family.total - own + homes.other;
+    }
+    family.total - own + homes.cheapest
+}
+
+// What each child of b adds to it; into, which comes with zeros, gets what each stop has of what the family shares.
+pub fn child_costs(n: u32, bound: u32, t: Rows, b: Record, into: &mut [u32]) -> Costs
+    requires { ⌜ (n ≤ mostStops) × ((b .set < 2 ^ n) × (Cheap t × (now into ≡ replicate places 0))) ⌝ }
+    ensures { λ r. ⌜ Adds t bound (lastStop b) (2 ^ n - 1 - b .set) r (now (into .exit)) ⌝ }
+{
+    let place = b.last();
+    let family = family_by(&t, bound, (1u32 << n) - 1 - b.set, into);
+    Costs {
+        legs: t[place as usize],
+        family,
+    }
 }

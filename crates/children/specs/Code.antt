@@ -83,15 +83,15 @@ restOf d b = 2 ^ d .n - 1 - b .set
 unfoldable pub bounded : ℕ → Record → Record
 bounded v x = record { size = x .size; set = x .set; path = x .path; bound = v; first = x .first; second = x .second }
 
--- b extended by stop s, flown to from a place, where the bound adds `ahead` to its path cost
-unfoldable pub bornOf : Table → Record → ℕ → ℕ → ℕ → Record
-bornOf t b place s ahead =
-    bounded (b .path + reckonOn t .further place s + ahead) (extended b s (reckonOn t .further place s))
+-- b extended by stop s, where the leg there and what the bound adds to the path cost are known
+unfoldable pub bornOf : Record → ℕ → ℕ → ℕ → Record
+bornOf b s leg ahead = bounded (b .path + leg + ahead) (extended b s leg)
 
 -- b is at the place of its last stop
 unfoldable pub childOf : Setting → Table → Record → ℕ → Record
 childOf d t b s =
-    bornOf t b (lastStop b) s (reckonOn t .ahead (d .bound) (reckonOn t .after (lastStop b) s) (stopsIn (restOf d b - 2 ^ (s - 1))))
+    bornOf b s (reckonOn t .further (lastStop b) s)
+    (reckonOn t .ahead (d .bound) (reckonOn t .after (lastStop b) s) (stopsIn (restOf d b - 2 ^ (s - 1))))
 
 unfoldable pub childrenOf : Setting → Table → Record → List Record
 childrenOf d t b = map (childOf d t b) (ready (pairsBy d) (stopsIn (restOf d b)))
@@ -117,12 +117,10 @@ pub record Encoded (d : Setting) (t : Table) (b : Record) : Type 0 where
   pub partial : Partial (d .n) node
   pub same : b ≡ encodeOf d t node
 
--- what `child` asks, so that no word overflows: places of the table, room for one stop more, and a bound that fits
-pub record Bears (t : Table) (b : Record) (place s ahead : ℕ) : Type 0 where
-  pub at : place ≤ mostStops
-  pub stop : s ≤ mostStops
-  pub wide : Wide b s (reckonOn t .further place s)
-  pub fits : b .path + reckonOn t .further place s + ahead < 2 ^ 32
+-- what `child` asks, so that no word overflows: room for one stop more, and a bound that fits
+pub record Bears (b : Record) (s leg ahead : ℕ) : Type 0 where
+  pub wide : Wide b s leg
+  pub fits : b .path + leg + ahead < 2 ^ 32
 
 pub record Born (d : Setting) (t : Table) (b : Record) (born : ℕ) (kids : List Record) : Type 0 where
   pub small : born < 2 ^ mostStops

@@ -7,16 +7,17 @@ ghost use Rattle.sizes.specs.Sizes.{mostStops};
 ghost use Rattle.records.specs.Code.{records};
 ghost use Rattle.children.specs.Code.{Rows, Encoded, Bears, bornOf, rootOf, Born};
 use crate::setting::Setting;
-use carried::aheads;
+use carried::added;
+use carried::child_costs;
 use pairs::ready;
 use records::slot;
 use records::store;
+use sizes::PLACES;
 use stops::bound::ahead;
 use stops::node_record::Record;
 use stops::sets::later;
 use stops::sets::next;
 use stops::table::Rows;
-use stops::table::further;
 
 // e, with its bound.
 pub fn root(setting: Setting, t: Rows) -> Record
@@ -28,12 +29,12 @@ pub fn root(setting: Setting, t: Rows) -> Record
     x
 }
 
-// b extended by stop s, flown to from a place, with its bound; ahead is what the bound adds to its path cost.
-fn child(t: &Rows, b: Record, place: u32, s: u32, ahead: u32) -> Record
-    requires { ⌜ Bears (now t) b place s ahead ⌝ }
-    ensures { λ r. ⌜ r ≡ bornOf (now (t .entry)) b place s ahead ⌝ }
+// b extended by stop s, with its bound; leg is what flying there costs, and ahead what the bound adds to its path cost.
+fn child(b: Record, s: u32, leg: u32, ahead: u32) -> Record
+    requires { ⌜ Bears b s leg ahead ⌝ }
+    ensures { λ r. ⌜ r ≡ bornOf b s leg ahead ⌝ }
 {
-    let mut x = b.extended(s, further(t, place, s));
+    let mut x = b.extended(s, leg);
     x.bound = x.path + ahead;
     x
 }
@@ -43,15 +44,16 @@ pub fn family(setting: Setting, t: Rows, b: Record, kids: &mut [u32]) -> u32
     requires { ⌜ Rows setting t × (Encoded setting t b × (mostStops ≤ length (records (now kids)))) ⌝ }
     ensures { λ r. ⌜ Born setting t b r (records (now (kids .exit))) ⌝ }
 {
-    let place = b.last();
     let rest = (1u32 << setting.n) - 1 - b.set;
     let born = ready(setting.precedence, rest);
-    let ahead = aheads(setting.n, setting.bound, t, b);
+    let mut into = [0u32; PLACES];
+    let costs = child_costs(setting.n, setting.bound, t, b, &mut into);
     let mut left = born;
     while left != 0 {
         let s = next(left);
         left = later(left);
-        store(kids, slot(s), child(&t, b, place, s, ahead[s as usize]));
+        let ahead = added(costs.family, into[s as usize], s);
+        store(kids, slot(s), child(b, s, costs.legs[s as usize], ahead));
     }
     born
 }

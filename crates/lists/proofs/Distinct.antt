@@ -1,5 +1,5 @@
 -- Laws of lists in which no element stands twice: when joined, mapped and `each` lists are distinct, and what taking one number out
--- does to a sum, a length and a least value; and that a sum lies with the members alone.
+-- does to a sum and a length; and that a sum lies with the members alone.
 use mathlib.Core.Path.{_≡_, refl, ap, sym, subst}
 use mathlib.Core.Bool.{not}
 use mathlib.Core.List.{List, [], _∷_, _++_, map, List·Memᴰ·head, List·Memᴰ·tail, List·Memᴰ·cases-cons, List·Memᴰ·not-nil, Memᴰ·append-left, Memᴰ·append-right, List·Memᴰ·append-cases}
@@ -8,10 +8,10 @@ use Prim.Native.Nat.{ℕ, suc, _+_}
 use native.Mathlib.Omega.{arith}
 use lib.Dec.{eqb, eqb-refl}
 use lib.ListN.{length}
-use Rattle.lists.specs.Lists.{In, sum, least, each, without, Distinct, none, more}
+use Rattle.lists.specs.Lists.{In, sum, each, without, Distinct, none, more}
 use Rattle.lists.proofs.Tests.{compared, neq, to-true, to-false, ne-neqb}
 use Rattle.lists.proofs.Members.{in-head, in-keep, keep-in, in-map, in-each, distinct-keep}
-use Rattle.lists.proofs.Numbers.{sum-const, least-same}
+use Rattle.lists.proofs.Numbers.{sum-const}
 
 module _ {A : Type 0} where
   pub distinct-append : {xs ys : List A} → Distinct xs → Distinct ys → ((a : A) → In a xs → In a ys → ⊥) → Distinct (xs ++ ys)
@@ -97,29 +97,3 @@ sum-members f (more {x} {xs} new d) ys e there back =
     homeward s m =
         let (i, apart) = in-keep _ ys s m in
         behind s (List·Memᴰ·cases-cons (back s i)) (λ z. neq x s apart (sym z))
-
--- a number that stands in a list may stand before the others
-pub least-taken : (x u : ℕ) (xs : List ℕ) → In u xs → (f : ℕ → ℕ) → least f (x ∷ u ∷ without u xs) ≡ least f (x ∷ xs)
-least-taken x u xs i f = least-same f x x (u ∷ without u xs) xs there back
-  where
-    other : (z : ℕ) → (u ≡ z) ⊎ (u ≢ z) → In z xs → In z (u ∷ without u xs)
-    other z (inl e) m = rw e in-head
-    other z (inr n) m = List·Memᴰ·tail (keep-in (λ r. not (eqb u r)) xs z m (ne-neqb u z n))
-
-    back : (z : ℕ) → In z (x ∷ xs) → In z (x ∷ u ∷ without u xs)
-    back z m = go (List·Memᴰ·cases-cons m)
-      where
-        go : (z ≡ x) ⊎ In z xs → In z (x ∷ u ∷ without u xs)
-        go (inl e) = rw e in-head
-        go (inr k) = List·Memᴰ·tail (other z (compared u z) k)
-
-    there : (z : ℕ) → In z (x ∷ u ∷ without u xs) → In z (x ∷ xs)
-    there z m = go (List·Memᴰ·cases-cons m)
-      where
-        taken : (z ≡ u) ⊎ In z (without u xs) → In z xs
-        taken (inl e) = rw e i
-        taken (inr k) = in-keep (λ r. not (eqb u r)) xs z k .0
-
-        go : (z ≡ x) ⊎ In z (u ∷ without u xs) → In z (x ∷ xs)
-        go (inl e) = rw e in-head
-        go (inr k) = List·Memᴰ·tail (taken (List·Memᴰ·cases-cons k))

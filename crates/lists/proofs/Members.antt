@@ -1,14 +1,14 @@
--- Laws of membership: `In` in what `keep`, `any`, `all`, `map`, `each` and `from` make, and of `Distinct`.
+-- Laws of membership: `In` in what `keep`, `any`, `all`, `map`, `each`, `from` and `without` make, and of `Distinct`.
 use mathlib.Core.Path.{_≡_, refl, ap}
-use mathlib.Core.Bool.{Bool, true, false}
+use mathlib.Core.Bool.{Bool, true, false, not}
 use mathlib.Core.List.{List, [], _∷_, _++_, map, List·Memᴰ·head, List·Memᴰ·tail, List·Memᴰ·cases-cons, List·Memᴰ·not-nil, Memᴰ·append-left, Memᴰ·append-right, List·Memᴰ·append-cases}
 use mathlib.Core.Logic.{_⊎_, inl, inr, _≢_}
 use Prim.Native.Nat.{ℕ, zero, suc, _+_, _≤_, _<_}
 use native.Mathlib.Omega.{arith}
-use lib.Dec.{T}
+use lib.Dec.{T, eqb}
 use lib.ListN.{length}
-use Rattle.lists.specs.Lists.{In, put, keep, any, all, from, each, Distinct, none, more}
-use Rattle.lists.proofs.Tests.{and-left, and-right, and-both, or-cases, or-left, or-right, compared}
+use Rattle.lists.specs.Lists.{In, put, keep, any, all, from, each, without, Distinct, none, more}
+use Rattle.lists.proofs.Tests.{and-left, and-right, and-both, or-cases, or-left, or-right, compared, neq, ne-neqb}
 
 pub in-head : {A : Type 0} {x : A} {xs : List A} → In x (x ∷ xs)
 in-head = List·Memᴰ·head refl
@@ -146,3 +146,10 @@ distinct-from a (suc k) = more (λ m. let h : (suc a ≤ a) × (a < suc a + k) =
 pub length-from : (a k : ℕ) → length (from a k) ≡ k
 length-from a zero = refl
 length-from a (suc k) = ap suc (length-from (suc a) k)
+
+-- what is in a list without s is in the list and is not s, and the other way round
+pub in-without : (s : ℕ) (xs : List ℕ) (r : ℕ) → In r (without s xs) → In r xs × (s ≢ r)
+in-without s xs r m = let (i, h) = in-keep (λ q. not (eqb s q)) xs r m in (i, neq s r h)
+
+pub without-in : (s : ℕ) (xs : List ℕ) (r : ℕ) → In r xs → s ≢ r → In r (without s xs)
+without-in s xs r m h = keep-in (λ q. not (eqb s q)) xs r m (ne-neqb s r h)

@@ -82,6 +82,14 @@ module _ {A : Type 0} where
       go (inl h) w = (y, in-head, omega arith)
       go (inr h) (x, m, e) = (x, List·Memᴰ·tail m, omega arith)
 
+  -- a value that is attained and is below each is the least
+  pub least-given : (f : A → ℕ) (xs : List A) (r : A) → In r xs → (x : A) × In x xs × (f x ≡ least f xs)
+  least-given f [] r m = absurd (List·Memᴰ·not-nil m)
+  least-given f (y ∷ ys) r m = least-in f y ys
+
+  pub least-is : (f : A → ℕ) (xs : List A) (v : ℕ) (r : A) → In r xs → v ≡ f r → ((x : A) → In x xs → v ≤ f x) → v ≡ least f xs
+  least-is f xs v r m e below = let (x, i, g) = least-given f xs r m in omega (arith, least-le f xs r m, below x i, g, e)
+
   -- the least of all candidates is at most the least of some of them
   pub least-of-some :
       (f : A → ℕ) (xs : List A) (y : A) (ys : List A) → ((z : A) → In z (y ∷ ys) → In z xs) → least f xs ≤ least f (y ∷ ys)

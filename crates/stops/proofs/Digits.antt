@@ -1,10 +1,15 @@
--- Stops as bits of a set and as digits of an order: what the shifts of `Record` compute, and that a word has room for its digits.
+-- Stops as bits of a set and as digits of an order: what the shifts of `Record` compute, that a word has room for its digits,
+-- and that the last one of any record is a place of the table.
 use mathlib.Core.Path.{_≡_, refl, ap, sym, _∙_, subst}
+use mathlib.Core.Bool.{Bool, true, false, cond}
 use Prim.Native.Nat.{ℕ, zero, suc, _+_, _*_, _-_, _^_, _%_, _≤_, _<_}
 use native.Mathlib.Nat.{mod-eq-of-lt, pow-suc, pow-le-pow-right, mul-le-mul-right}
 use native.Mathlib.Omega.{arith}
+use lib.Dec.{leb, eqb}
 use lib.Pow.{pow-mono, pow-add}
 use Rattle.sizes.specs.Sizes.{mostStops, stopBits, stopBase, wordStops}
+use Rattle.stops.specs.Code.{lastStop}
+use Rattle.stops.specs.declared.node_record.Record.{Record}
 
 -- stop s stands for one bit
 pub bit-small : (s : ℕ) → s ≤ mostStops → 2 ^ (s - 1) ≤ 2 ^ 15
@@ -37,3 +42,14 @@ module _ (k s : ℕ) (h : k < wordStops) (few : s ≤ mostStops) where
 
   pub digit-fits : (w : ℕ) → w < stopBase ^ k → w + (s - 1) * stopBase ^ k < 4_294_967_296
   digit-fits w room = omega (arith, digit-small, digits-fit k h)
+
+cond-most : {m : ℕ} (test : Bool) (x y : ℕ) → x ≤ m → y ≤ m → cond test x y ≤ m
+cond-most true x y h k = h
+cond-most false x y h k = k
+
+-- the last stop of any record, or home, is a place of the table
+pub last-place : (b : Record) → lastStop b ≤ mostStops
+unfolding lastStop
+last-place b =
+    cond-most (eqb (b .size) 0) _ _ (omega arith)
+    (cond-most (leb (b .size) wordStops) _ _ (omega arith) (cond-most (leb (b .size) mostStops) _ _ (omega arith) (omega arith)))

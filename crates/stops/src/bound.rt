@@ -30,7 +30,7 @@ pub fn is_close(bound: u32) -> bool
     bound == 3
 }
 
-fn lesser(a: u32, b: u32) -> u32
+pub fn lesser(a: u32, b: u32) -> u32
     ensures { λ r. ⌜ r ≡ min a b ⌝ }
 {
     if b < a { b } else { a }

@@ -1,29 +1,31 @@
--- `carried::shared` meets its contract. The loop's invariant: the total and the legs into the stops left make the family's sum, and the leg into each stop
--- passed stands at its place. The measure is the set of the stops left, as a number.
-use mathlib.Core.Path.{_≡_, ap}
-use Prim.Native.Nat.{ℕ, _+_}
+-- `carried::shared` meets its contract. The loop's invariant: the total and the legs into the stops left make the family's sum, the leg into each stop
+-- passed stands at its place, and the legs home of the stops passed are noted. The measure is the set of the stops left, as a number.
+use mathlib.Core.Path.{_≡_, ap, sym, _∙_}
+use Prim.Native.Nat.{ℕ, _+_, _<_}
 use native.Mathlib.Omega.{arith}
 use borrow.Author.Needs.{needs}
+use Rattle.sizes.specs.Sizes.{aboveEveryCost}
 use Rattle.lists.specs.Lists.{In, sum}
 use Rattle.stops.specs.Legs.{legs}
 use Rattle.stops.specs.Code.{stopsIn}
-use Rattle.stops.proofs.SetLoops.{Summed, summed-starts, summed-most, summed-again, summed-ends, passed-ends}
+use Rattle.stops.proofs.SetLoops.{Summed, summed-starts, summed-most, summed-again, summed-ends, passed-starts, passed-ends}
 use Rattle.carried.specs.Carried.{among}
-use Rattle.carried.proofs.SetLaws.{Entered, entered-starts, entered-again, among-set, total-most, shares-made}
+use Rattle.carried.proofs.SetLaws.{Entered, entered-again, others-some, among-set, total-most, shares-made}
+use Rattle.carried.proofs.HomeLaws.{Homed, homed-starts, homed-again, homed-ends}
 use Rattle.carried.proofs.shared.Statement.{statement}
 use Rattle.carried.proofs.shared.Tie as tie
 
 abbrev Inv-loop : tie.InvT-loop
-Inv-loop t rest into₀ total₀ left₀ into total left =
+Inv-loop t rest into₀ total₀ homes₀ left₀ into total homes left =
     Summed (among (legs t) (stopsIn rest)) rest (sum (among (legs t) (stopsIn rest)) (stopsIn rest)) total left
-    × Entered (among (legs t) (stopsIn rest)) rest into left
+    × Entered (among (legs t) (stopsIn rest)) rest into left × Homed (legs t .home) rest homes left
 
 abbrev μ-loop : tie.MeasureT-loop
-μ-loop t rest into₀ total₀ left₀ into total left = left
+μ-loop t rest into₀ total₀ homes₀ left₀ into total homes left = left
 
 -- the call, seen from behind `next`
 abbrev entry : tie.After-next Inv-loop μ-loop → tie.Start Inv-loop μ-loop
-entry c = c .before .before .before
+entry c = c .before .before .before .before
 
 -- what `next` gives is a stop of the set
 first-in : (c : tie.After-next Inv-loop μ-loop) → In (c .next .result) (stopsIn (entry c .args .rest))
@@ -43,8 +45,12 @@ value c =
 
 loop-holds : tie.Need-loop-holds Inv-loop μ-loop
 loop-holds c =
-    let small = c .pre .0 .small in
-    (summed-starts small (omega arith), entered-starts (among (legs (c .args .t .now)) (stopsIn (c .args .rest))) (c .args .rest) small)
+    let b = c .before in
+    let small = b .pre .0 .small in (
+      summed-starts small (omega arith),
+      record { passed = passed-starts small; room = b .pre .1 .1 },
+      homed-starts (legs (b .args .t .now) .home) (b .args .rest) small,
+    )
 
 cheapest-requires : tie.Need-cheapest-requires Inv-loop μ-loop
 cheapest-requires c κs =
@@ -56,29 +62,39 @@ add-total : tie.Need-add-total Inv-loop μ-loop
 add-total c =
     let n = c .before .before .before in
     let b = entry n in
-    omega (arith, value c, summed-most (n .before .before .loop .inv .0) (n .next .result) (n .next .ensures), total-most (b .args .t .now) (b .pre .0) (b .pre .1))
+    omega (arith, value c, summed-most (n .before .before .loop .inv .0) (n .next .result) (n .next .ensures), total-most (b .args .t .now) (b .pre .0) (b .pre .1 .0))
 
 loop-less : tie.Need-loop-less Inv-loop μ-loop
 loop-less c =
-    let n = c .before .before .before in
-    omega (arith, n .next .ensures .less, c .before .before .later .ensures _ (n .next .ensures))
+    let l = c .before .before .before .before in
+    omega (arith, l .before .next .ensures .less, l .later .ensures _ (l .before .next .ensures))
 
 loop-again : tie.Need-loop-again Inv-loop μ-loop
+unfolding legs
 loop-again c =
-    let n = c .before .before .before in
+    let g = c .before .before in
+    let n = g .before .before .before in
     let l = n .before .before .loop in
-    let left = c .before .before .later .ensures _ (n .next .ensures) in (
-      summed-again (l .inv .0) (n .next .result) (n .next .ensures) left (ap (λ (v : ℕ). l .total + v) (value c)),
-      entered-again (l .inv .1) (n .next .ensures) left (value c),
+    let s = n .next .ensures in
+    let left = g .before .before .later .ensures _ s in (
+      summed-again (l .inv .0) (n .next .result) s left (ap (λ (v : ℕ). l .total + v) (value g)),
+      entered-again (l .inv .1) s left (value g),
+      rw (c .noted .ensures) (homed-again (l .inv .2) s left (c .before .leg .ensures)),
     )
+
+-- no leg home is as dear as what stands for none
+dear : (c : tie.Start Inv-loop μ-loop) (s : ℕ) → legs (c .args .t .now) .home s < aboveEveryCost
+dear c s = omega (arith, c .pre .1 .0 .home s)
 
 returns : tie.Need-returns Inv-loop μ-loop
 returns c =
-    let l = c .before .before .loop in
+    let l = c .before .loop .inv in
     let b = c .before .before .before in
-    let ended = c .before .loop-test .left in
-    shares-made (b .args .t .now) (b .pre .0) _ (summed-ends (l .inv .0) (omega arith)) (passed-ends (l .inv .1 .passed) (omega arith))
-    (c .cheapest2 .ensures) (l .inv .1 .room)
+    let t = b .args .t .now in
+    let v = b .pre .0 in
+    let ended = c .loop-test .left in
+    shares-made t v _ _ (summed-ends (l .0) ended) (passed-ends (l .1 .passed) ended)
+    (λ s i. let (r, j) = others-some t v s i in homed-ends (l .2) ended (dear b) s r i j) (l .1 .room)
 
 pub shared-spec : {M : Type 1} → statement M
 shared-spec =
@@ -93,9 +109,11 @@ shared-spec =
     cheapest-requires
     (λ c. omega arith)
     (λ c. omega arith)
-    (λ c. omega arith)
+    (λ c. let n = c .before .before .before in omega (arith, n .next .ensures .few, n .before .before .loop .inv .1 .room))
     add-total
+    (λ c κs. let n = c .before .before .before in (n .next .ensures .few, omega arith))
+    (λ c κs. search needs)
     loop-less
     loop-again
-    (λ c κs. let v = c .before .before .pre .0 in (v .some, (v .small, omega arith)))
+    (λ c. c .before .loop .inv .1 .room ∙ sym (c .before .before .before .pre .1 .1))
     returns)
