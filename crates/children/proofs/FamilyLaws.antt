@@ -2,7 +2,7 @@
 --   rest-sum, restOf-left           the stops that it leaves, as a set that fits
 --   born-slots, born-siblings, born-size    the children in their slots
 --   Placing, placing-starts, placing-again    the invariant of the loop
-use mathlib.Core.Path.{_≡_, ap, subst, _∙_}
+use mathlib.Core.Path.{_≡_, refl, ap, subst, _∙_}
 use mathlib.Core.List.{List, map}
 use mathlib.Core.Logic.{_≢_}
 use Prim.Native.Nat.{ℕ, _+_, _-_, _^_, _≤_, _<_}
@@ -14,8 +14,7 @@ use lib.Seq.{getD-set-same, getD-set-other}
 use Rattle.sizes.specs.Sizes.{mostStops}
 use Rattle.lists.specs.Lists.{In}
 use Rattle.lists.proofs.Map.{map-same}
-use Rattle.orders.specs.Orders.{left, extend}
-use Rattle.orders.proofs.Sets.{size-extend}
+use Rattle.orders.specs.Orders.{left}
 use Rattle.orders.proofs.Pairs.{in-ready}
 use Rattle.stops.specs.Code.{emptyRecord, extended, stopsIn, First}
 use Rattle.stops.specs.declared.node_record.Record.{Record}
@@ -23,7 +22,7 @@ use Rattle.stops.proofs.SetBits.{stopsIn-range}
 use Rattle.stops.proofs.SetAnd.{stopsIn-added}
 use Rattle.stops.proofs.SetLoops.{Passed, passed-starts, passed-again}
 use Rattle.records.specs.Code.{encode, inSlot, slots}
-use Rattle.records.proofs.Mask.{mask-stops, rest-small, rest-left, ones-set, mask-extend}
+use Rattle.records.proofs.Mask.{mask-stops, rest-small, rest-left, ones-set}
 use Rattle.records.proofs.SlotLaws.{in-slots}
 use Rattle.rivals.specs.Code.{Siblings}
 use Rattle.children.specs.Code.{Table, Rows, Encoded, encodeOf, restOf, pairsBy, bounded, bornOf, childOf, childrenOf, Born}
@@ -41,13 +40,10 @@ module _ {d : Setting} {t : Table} {b : Record} (rows : Rows d t) (e : Encoded d
   unfolding restOf encodeOf encode
   restOf-left = rest-left (d .n) (rows .few) (e .node) (b .set) (ap (λ (r : Record). r .set) (e .same))
 
-  -- each child has one stop more than b, and its set holds b's
-  one-more : (s : ℕ) → In s (stopsIn (restOf d b)) → ones (b .set + 2 ^ (s - 1)) ≡ b .size + 1
+  -- b's set, counted, is b's size, and each child has one stop more
+  one-more : ones (b .set) + 1 ≡ b .size + 1
   unfolding encodeOf encode
-  one-more s m =
-      let y = e .node in
-      let there : In s (left (d .n) y) = subst (λ (xs : List ℕ). In s xs) restOf-left m in
-      rw (e .same, ← mask-extend (d .n) y s there, ones-set (d .n) (rows .few) (extend y s)) (omega (arith, size-extend (d .n) y s there))
+  one-more = rw (e .same, ones-set (d .n) (rows .few) (e .node)) refl
 
   module _ {born : ℕ} {kids : List Record} (k : Born d t b born kids) where
     pub born-slots : slots born kids ≡ childrenOf d t b
@@ -60,7 +56,7 @@ module _ {d : Setting} {t : Table} {b : Record} (rows : Rows d t) (e : Encoded d
     unfolding childOf bornOf bounded extended restOf
     born-siblings limit = record {
       slotted = record { small = k .small; room = k .room };
-      sizes = λ s i. ap (λ (x : Record). x .size) (k .each s i) ∙ one-more s (left-by s i);
+      sizes = λ s i. ap (λ (x : Record). x .size) (k .each s i) ∙ one-more;
       sets = λ s i. ap (λ (x : Record). x .set) (k .each s i);
       holds = λ s i.
           stopsIn-added (d .n) (b .set) (restOf d b) s (rest-sum .0) (rest-small (d .n) (rows .few) (b .set)) (left-by s i);

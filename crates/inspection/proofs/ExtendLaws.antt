@@ -20,7 +20,7 @@ use Rattle.orders.proofs.Sets.{stops-in, in-set, in-flown, flown-in, in-left, l
 use Rattle.orders.proofs.Partial.{partial-size}
 use Rattle.stops.specs.Code.{stopsIn, extended, Wide}
 use Rattle.stops.specs.declared.node_record.Record.{Record}
-use Rattle.records.proofs.Mask.{set-small, stops-set, ones-set, mask-extend}
+use Rattle.records.proofs.Mask.{set-small, stops-set, mask-extend, ones-extend}
 use Rattle.records.proofs.OrderWords.{Digits, first-below, second-below, first-extend, second-extend}
 use Rattle.records.proofs.Encode.{partial-digits}
 use Rattle.node_answers.specs.Nodes.{flownStops, isRecordOf, isNode}
@@ -106,7 +106,7 @@ module _ {x : Record} {stop leg : ℕ} (f : Fits x stop leg) where
   unfolding extended longer
   fits-extended =
       rw (
-        ← ones-set mostStops (f .node .few) (extend z stop),
+        ← ones-extend mostStops (f .node .few) z stop (f .leaves),
         mask-extend mostStops z stop (f .leaves),
         first-extend z stop,
         second-extend z stop,

@@ -27,7 +27,7 @@ use Rattle.stops.specs.Code.{emptyRecord, extended, lastStop, Wide}
 use Rattle.stops.specs.declared.node_record.Record.{Record}
 use Rattle.records.specs.Records.{orderWord, record-of}
 use Rattle.records.specs.Code.{six, encode}
-use Rattle.records.proofs.Mask.{set-small, ones-set, mask-extend}
+use Rattle.records.proofs.Mask.{set-small, mask-extend, ones-extend}
 use Rattle.records.proofs.OrderWords.{Digits, first-digit, second-digit, first-below, second-below, first-extend, second-extend}
 
 pub record-of-encode : (n : ℕ) (D : Day) (k : ℕ) (x : Node) → record-of n D k x ≡ six (encode n D k x)
@@ -83,7 +83,7 @@ module _ (n : ℕ) (few : n ≤ mostStops) (D : Day) (k : ℕ) (x : Node) (p : P
     unfolding extended encode
     encode-extend leg grows =
         rw (
-          ← ones-set n few (extend x s),
+          ← ones-extend n few x s m,
           mask-extend n x s m,
           grows,
           first-extend x s,

@@ -4,7 +4,7 @@
 --   rest-small                 what a word leaves of n stops are stops of a day
 --   rest-left                  where the word is that of a node's set, these are the stops that the node leaves
 --   ones-set                   and those flown counted
---   mask-extend, stops-child   what one more stop does to both
+--   mask-extend, ones-extend, stops-child    what one more stop does to both, and to the count
 use mathlib.Core.Path.{_≡_, ap, _∙_}
 use Prim.Native.Nat.{ℕ, _+_, _-_, _^_, _≤_, _<_}
 use native.Mathlib.Omega.{arith}
@@ -14,7 +14,7 @@ use Rattle.sizes.specs.Sizes.{mostStops}
 use Rattle.lists.specs.Lists.{In}
 use Rattle.lists.proofs.Distinct.{sum-without}
 use Rattle.orders.specs.Orders.{Node, flown, setOf, left, mask, size, extend}
-use Rattle.orders.proofs.Sets.{distinct-left, left-extend}
+use Rattle.orders.proofs.Sets.{distinct-left, left-extend, size-extend}
 use Rattle.stops.specs.Code.{stopsIn}
 use Rattle.stops.proofs.SetBits.{stopsIn-ones, stopsIn-mask, stopsIn-others, mask-small, mask-others, all-small}
 use Rattle.records.specs.Examples
@@ -52,6 +52,11 @@ module _ (n : ℕ) (few : n ≤ mostStops) (x : Node) where
   pub ones-set : ones (mask (setOf n x)) ≡ size n x
   unfolding size
   ones-set = stopsIn-ones (mask (setOf n x)) set-small ∙ ap length stops-set
+
+-- one stop more is one more counted
+pub ones-extend :
+    (n : ℕ) → n ≤ mostStops → (x : Node) (s : ℕ) → In s (left n x) → ones (mask (setOf n x)) + 1 ≡ size n (extend x s)
+ones-extend n few x s m = omega (arith, ones-set n few x, size-extend n x s m)
 
 pub stops-child :
     (n : ℕ) → n ≤ mostStops → (x : Node) (s : ℕ) → In s (left n x)

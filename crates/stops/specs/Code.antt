@@ -52,7 +52,7 @@ emptyRecord = record { size = 0; set = 0; path = 0; bound = 0; first = 0; second
 -- a stop is a digit of the order, in the second word once the first is full
 unfoldable pub extended : Record → ℕ → ℕ → Record
 extended x stop leg = record {
-  size = ones (x .set + 2 ^ (stop - 1));
+  size = ones (x .set) + 1;
   set = x .set + 2 ^ (stop - 1);
   path = x .path + leg;
   bound = 0;

@@ -32,14 +32,14 @@ impl Record {
         }
     }
 
-    // The node with a stop and what flying there costs added, and no bound yet. Its size is counted from its set.
+    // The node with a stop and what flying there costs added, and no bound yet. Its size is counted from the set, and the new stop.
     pub fn extended(mut self, stop: u32, leg: u32) -> Record
         requires { ⌜ Wide self stop leg ⌝ }
         ensures { λ r. ⌜ r ≡ extended self stop leg ⌝ }
     {
         let place = self.size;
+        self.size = u32::count_ones(self.set) + 1;
         self.set += 1u32 << (stop - 1);
-        self.size = u32::count_ones(self.set);
         self.path += leg;
         self.bound = 0;
         if place < WORD_STOPS {
