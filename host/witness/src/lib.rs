@@ -1,4 +1,4 @@
-//! A second planner, written from document 01 and requests A.1 and A.3 to A.6
+//! A second planner, written from document 01 and requests A.1 and A.3 to A.7
 //! of document 02 alone, in plain lists and literal passes, and a second
 //! reader and writer of job files, which follow document 01's text. They serve
 //! as witnesses beside the proved ones. Request A.2 changes no answer, so there
@@ -7,14 +7,16 @@
 //! In reading order: `legs` (table, request A.4's charges and the cost of an
 //! order, with the leg home or, by request A.5, without), `pairs` (request
 //! A.6's pick-ups and drops), `node` (partial orders, bounds, dominance),
-//! `checks` (refusals 1 to 6 and 11), `run` (the run, request A.3's budget and
-//! refusal 7), `words` (report and pool), `first_order` (request A.1's call),
+//! `carried` (request A.7's way to the close bounds of children), `checks`
+//! (refusals 1 to 6 and 11), `run` (the run, request A.3's budget and refusal
+//! 7), `words` (report and pool), `first_order` (request A.1's call),
 //! `enumerate` (all n! orders), `job_file` (reader and writer), `program` (what
 //! `plan` prints).
 //!
 //! Where the texts leave a choice, this planner takes these, 1 to 12 from
 //! document 01, 13 to 16 from request A.1, 17 to 25 from request A.3, 26 to 32
-//! from request A.4, 33 to 41 from request A.5 and the rest from request A.6:
+//! from request A.4, 33 to 41 from request A.5, 42 to 53 from request A.6 and
+//! the rest from request A.7:
 //!
 //! 1. Selection, rules, bound and n come in as 64-bit numbers and stops of the
 //!    starting order as 32-bit ones, so that every refusal can be provoked.
@@ -149,7 +151,29 @@
 //!     stops flown so far, ties among these by the lowest number. An exchange
 //!     is allowed if the whole order that it makes respects the pairs; the
 //!     greatest gain and its ties are among those allowed.
+//! 54. Request A.7 changes no answer. The run keeps to bounds added up anew,
+//!     and those that `carried` finds are held to them.
+//! 55. The sum is held for one branching. It is added up once, for the node
+//!     branched, and its children are found from it; nothing is handed on to
+//!     their own branchings, as no record has room for shares.
+//! 56. The place left behind is the last place of the node branched, home for
+//!     e. The flown stop isn't left behind: it is the child's last place, and
+//!     legs that come from it stay.
+//! 57. The flown stop's share is the cheapest leg into it, whether that leg was
+//!     flown or not. The leg flown is in the child's path cost.
+//! 58. A stop is corrected to the cheapest leg from the flown stop or another
+//!     stop still to come, and that may cost the same as before.
+//! 59. One place is held for each cheapest leg. Of several either may be, the
+//!     place left behind or the flown stop among them: if another is held,
+//!     there is nothing to correct or to look for, and if not, the same cost
+//!     is found again.
+//! 60. A node with one stop to come has a complete child, whose bound is its
+//!     cost: nothing is left of the sum, and no stop to look for a leg home.
+//! 61. Away, there is no leg home to hold. The sum is the same.
+//! 62. Pairs say which children there are, and nothing else: stops that aren't
+//!     allowed yet have shares, and legs from them are held.
 
+pub mod carried;
 pub mod checks;
 pub mod enumerate;
 pub mod first_order;
