@@ -152,12 +152,6 @@ module _ {Done : ℕ → Type 0} {rest left : ℕ} (l : Passed Done rest left) w
       go (inl i) = absurd (List·Memᴰ·not-nil (rw (e, stopsIn-zero) at i))
       go (inr q) = q
 
--- the least over some legs is no longer than the longest leg
-pub leg-small :
-    (t : List (List ℕ)) (m s : ℕ) (places : List ℕ) → Within m (legs t) → least (λ p. rowLeg t p s) places ≤ m
-unfolding legs
-leg-small t m s places w = least-small (λ p. rowLeg t p s) m (λ p. w .leg p s) places
-
 -- the cheapest leg into a stop of a set, from the others as a set
 pub into-set :
     (t : List (List ℕ)) (place rest others s : ℕ) → rest < 2 ^ mostStops → In s (stopsIn rest) → others ≡ rest - 2 ^ (s - 1)

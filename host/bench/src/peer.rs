@@ -1,7 +1,8 @@
 //! An unverified planner written for speed, with the same passes as the proved one: a pass for the least bound, one for
 //! the children's rivals, one for the active nodes that go. Each child is written to the slot of its stop and tested
-//! there, and a set of stops says which are left; these are copied to the pool once. The active nodes are in place, the
-//! branched ones at the far end of the pool. It checks nothing of a job and is here to be timed.
+//! there, and a set of stops says which are left; these are copied to the pool once. The children's bounds are shared
+//! (request A.7). The active nodes are in place, the branched ones at the far end of the pool. It checks nothing of a
+//! job and is here to be timed.
 
 mod node;
 
@@ -210,7 +211,7 @@ impl Run<'_> {
 /// Runs to the finish, or gives up at the deadline or where the pool might not do. `upper` is the cost of the starting
 /// order, or the largest number.
 pub fn plan(job: &Job, upper: u32, pool: &mut [Record], deadline: Instant) -> Option<Found> {
-    pool[0] = [0, 0, 0, ahead(job, 0, (1u32 << job.n) - 1), 0, 0];
+    pool[0] = [0, 0, 0, ahead(job), 0, 0];
     let mut run = Run {
         job,
         pool,

@@ -103,39 +103,74 @@ impl Iterator for Stops {
     }
 }
 
-/// What the bound adds to the path cost: the cheapest legs into two stops at a time, and the cheapest leg home.
+/// The cheapest leg into `to` from one of some stops, or the largest number.
 #[inline(always)]
-pub fn ahead(job: &Job, place: usize, rest: u32) -> u32 {
-    if rest == 0 {
-        return job.leg(place, 0);
-    }
+fn cheapest(job: &Job, stops: u32, to: usize) -> u32 {
+    Stops(stops).fold(NONE, |least, s| least.min(job.leg(s, to)))
+}
+
+/// What the bound adds to the path cost of e.
+pub fn ahead(job: &Job) -> u32 {
+    let rest = (1u32 << job.n) - 1;
     if job.bound == 0 {
         return 0;
     }
-    let (mut sum, mut left) = (0, rest);
-    while left & left.wrapping_sub(1) != 0 {
-        let s = first(left);
-        left &= left - 1;
-        let u = first(left);
-        left &= left - 1;
-        let mut into = (job.leg(place, s).min(job.leg(u, s)), job.leg(place, u).min(job.leg(s, u)));
-        for r in Stops(rest & !(1 << (s - 1)) & !(1 << (u - 1))) {
-            into.0 = into.0.min(job.leg(r, s));
-            into.1 = into.1.min(job.leg(r, u));
+    let sum: u32 = Stops(rest).map(|s| job.leg(0, s).min(cheapest(job, rest & !(1 << (s - 1)), s))).sum();
+    sum + cheapest(job, rest, 0)
+}
+
+/// What the children of a node share: for each stop left the cheapest leg into it from another one, and their sum; of
+/// the legs home the cheapest, who gives it, and the cheapest of the others.
+struct Family {
+    into: [u32; PLACES],
+    total: u32,
+    home: u32,
+    giver: usize,
+    other: u32,
+}
+
+impl Family {
+    #[inline(always)]
+    fn of(job: &Job, rest: u32) -> Family {
+        let mut family = Family { into: [0; PLACES], total: 0, home: 0, giver: 0, other: 0 };
+        if rest & (rest - 1) == 0 {
+            family.total = job.leg(first(rest), 0);
+        } else if job.bound != 0 {
+            family.share(job, rest);
         }
-        sum += into.0 + into.1;
+        family
     }
-    if left != 0 {
-        let s = first(left);
-        sum += Stops(rest & !(1 << (s - 1))).fold(job.leg(place, s), |into, r| into.min(job.leg(r, s)));
+
+    #[inline(always)]
+    fn share(&mut self, job: &Job, rest: u32) {
+        (self.home, self.other) = (NONE, NONE);
+        for s in Stops(rest) {
+            let into = cheapest(job, rest & !(1 << (s - 1)), s);
+            // SAFETY: no stop is above MOST_STOPS.
+            unsafe { *self.into.get_unchecked_mut(s) = into };
+            self.total += into;
+            let home = job.leg(s, 0);
+            self.other = if home < self.home { self.home } else { self.other.min(home) };
+            if home < self.home {
+                (self.home, self.giver) = (home, s);
+            }
+        }
     }
-    sum + Stops(rest).fold(NONE, |home, s| home.min(job.leg(s, 0)))
+
+    /// What the bound adds to the path cost of the child by s.
+    #[inline(always)]
+    fn ahead(&self, s: usize) -> u32 {
+        // SAFETY: no stop is above MOST_STOPS.
+        let own = unsafe { *self.into.get_unchecked(s) };
+        self.total - own + if s == self.giver { self.other } else { self.home }
+    }
 }
 
 /// Writes each child of b to the slot of its stop and gives the set of these stops: all that b leaves.
 pub fn family(job: &Job, b: &Record, kids: &mut [Record; MOST_STOPS]) -> u32 {
     let rest = (1u32 << job.n) - 1 - b[SET];
     let place = last(b);
+    let family = Family::of(job, rest);
     for s in Stops(rest) {
         let mut x = *b;
         x[SET] |= 1 << (s - 1);
@@ -147,7 +182,7 @@ pub fn family(job: &Job, b: &Record, kids: &mut [Record; MOST_STOPS]) -> u32 {
             x[5] |= digit;
         }
         x[SIZE] += 1;
-        x[BOUND] = x[PATH] + ahead(job, s, rest & !(1 << (s - 1)));
+        x[BOUND] = x[PATH] + family.ahead(s);
         // SAFETY: no stop is above MOST_STOPS.
         unsafe { *kids.get_unchecked_mut(s - 1) = x };
     }
