@@ -5,12 +5,12 @@
 --   share-corrected      a share and its correction are that leg, where the node leaves another stop
 --   another              if the child leaves a stop, the node leaves another one beside each of its own
 --   held-corrected       so the sum that the node holds, with every correction, is the sum of these legs
---   family-child         which is the leg into k and the child's own sum
---   carried-sum          so the sum carried to the child is its own
 --   home-kept            if k did not give the cheapest leg home, it is the child's too
 --   carried-home         so the leg home carried to the child is its own
+--   family-child         the sum of these legs is the leg into k and the child's own sum
+--   carried-sum          so the sum carried to the child is its own
 --   carried-remainder    together: what is carried to the child is its remainder
---   carried-is-close     so every child that is not complete has its close bound
+--   carried-is-close     so every child has its close bound
 --   carried-on-every-day    on the day of every table
 use mathlib.Core.Path.{_≡_, refl, ap, sym, _∙_, subst}
 use mathlib.Core.Bool.{Bool, true, false, not, cond}
@@ -18,11 +18,11 @@ use mathlib.Core.List.{List, [], _∷_, List·Memᴰ·tail, List·Memᴰ·cases-
 use mathlib.Core.Logic.{_⊎_, inl, inr, _≢_}
 use Prim.Native.Nat.{ℕ, _+_, _-_, _≤_, min}
 use native.Mathlib.Omega.{arith}
-use lib.Dec.{T, not-T, eqb}
+use lib.Dec.{T, T-not, eqb}
 use Rattle.lists.specs.Lists.{In, sum, least, without, Distinct}
 use Rattle.lists.proofs.Tests.{either, to-true, to-false, neq, compared}
 use Rattle.lists.proofs.Members.{in-head, in-without, without-in}
-use Rattle.lists.proofs.Numbers.{sum-same, sum-adds, least-le, least-given, least-of-some, least-same}
+use Rattle.lists.proofs.Numbers.{sum-same, sum-adds, least-le, least-given, least-part, least-members}
 use Rattle.lists.proofs.Distinct.{sum-without}
 use Rattle.orders.specs.Orders.{left, last, complete, extend}
 use Rattle.orders.proofs.Sets.{distinct-left, last-extend, left-extend}
@@ -33,14 +33,14 @@ use Rattle.stops.specs.Legs.{Legs, legs, path, cost}
 use Rattle.stops.specs.Bounds.{cheapestInto, remainder, close, endsAway, boundBy}
 use Rattle.stops.specs.Stops.{day, dayOn}
 use Rattle.carried.specs.Examples
-use Rattle.carried.specs.Carried.{held, among, fromPlace, correction, carriedSum, carriedHome, carried, CarriedIsClose, CarriedOnEveryDay}
+use Rattle.carried.specs.Carried.{heldSum, among, fromPlace, correction, carriedSum, carriedHome, carried, carriedBound, CarriedIsClose, CarriedOnEveryDay}
 
 -- a choice of which the second, where it is taken, is the same as the first
 either-way : (b : Bool) (a c : ℕ) → (T (not b) → a ≡ c) → cond b a c ≡ a
 either-way true a c h = refl
 either-way false a c h = sym (h tt)
 
--- the lesser of two numbers, and what it is short of the second if it is the first, are the second
+-- the lesser of a and b and, if it is a, what a is short of b, make b
 lesser-corrected : (a b : ℕ) → min a b + cond (eqb (min a b) a) (b - min a b) 0 ≡ b
 lesser-corrected a b = go (either (eqb (min a b) a))
   where
@@ -49,18 +49,6 @@ lesser-corrected a b = go (either (eqb (min a b) a))
     go (inr h) = rw (to-false (eqb (min a b) a) h) (omega (arith, neq (min a b) a h))
 
 module _ (f : ℕ → ℕ) where
-  -- the least lies with the members alone, of empty lists too
-  least-members : (xs ys : List ℕ) → ((z : ℕ) → In z xs → In z ys) → ((z : ℕ) → In z ys → In z xs) → least f xs ≡ least f ys
-  least-members [] [] there back = refl
-  least-members [] (y ∷ ys) there back = absurd (List·Memᴰ·not-nil (back y in-head))
-  least-members (x ∷ xs) [] there back = absurd (List·Memᴰ·not-nil (there x in-head))
-  least-members (x ∷ xs) (y ∷ ys) there back = least-same f x y xs ys there back
-
-  -- the least of some members of a list is not below its least
-  least-part : (xs ys : List ℕ) (r : ℕ) → In r ys → ((z : ℕ) → In z ys → In z xs) → least f xs ≤ least f ys
-  least-part xs [] r m some = absurd (List·Memᴰ·not-nil m)
-  least-part xs (y ∷ ys) r m some = least-of-some f xs y ys some
-
   -- the least, corrected by what it is short of the others if p gave it, is the least of the others
   least-corrected :
       (p r : ℕ) (xs : List ℕ) → In r xs
@@ -104,8 +92,8 @@ module _ (L : Legs) (rest : List ℕ) where
 
   pub held-corrected :
       (place : ℕ) → ((s : ℕ) → In s rest → (r : ℕ) × In r (without s rest))
-      → held L place rest + sum (correction L place rest) rest ≡ sum (among L rest) rest
-  unfolding held
+      → heldSum L place rest + sum (correction L place rest) rest ≡ sum (among L rest) rest
+  unfolding heldSum
   held-corrected place others =
       sym
       (sum-adds (among L rest) (cheapestInto L place rest) (correction L place rest) rest
@@ -142,7 +130,7 @@ module _ (L : Legs) (rest : List ℕ) where
     pub carried-sum :
         (place k r : ℕ) → In k rest → In r (without k rest)
         → carriedSum L place rest k ≡ sum (cheapestInto L k (without k rest)) (without k rest)
-    unfolding carriedSum held
+    unfolding carriedSum heldSum
     carried-sum place k r m i =
         omega (
           arith,
@@ -158,23 +146,30 @@ module _ (L : Legs) (rest : List ℕ) where
     carried-remainder place k r m i = omega (arith, carried-sum place k r m i, carried-home k m)
 
 pub carried-is-close : CarriedIsClose
-unfolding close
-carried-is-close n pairs L x y m partial =
-    let (k, i, e) = in-children n pairs x y m in
-    let l : In k (left n x) = in-ready pairs (left n x) k i .0 in
-    go k l e (left n y) refl
+unfolding close carriedBound
+carried-is-close n pairs L x y m = by (either (complete n y))
   where
-    go :
-        (k : ℕ) → In k (left n x) → y ≡ extend x k → (after : List ℕ) → left n y ≡ after
-        → cond (complete n y) (cost L y) (path L y + remainder L (last y) (left n y)) ≡ path L y + carried L (last x) (left n x) (last y)
-    go k l e [] none = absurd (partial (left-complete n y none))
-    go k l e (r ∷ rs) some =
+    carried-to :
+        (k : ℕ) → In k (left n x) → y ≡ extend x k → (T (complete n y) → ⊥) → (after : List ℕ) → left n y ≡ after
+        → remainder L (last y) (left n y) ≡ carried L (last x) (left n x) (last y)
+    carried-to k l e partial [] none = absurd (partial (left-complete n y none))
+    carried-to k l e partial (r ∷ rs) some =
         let ends : last y ≡ k = rw e (last-extend x k) in
         let leaves : left n y ≡ without k (left n x) = rw e (left-extend n x k) in
         let i : In r (without k (left n x)) = subst (λ (xs : List ℕ). In r xs) (sym some ∙ leaves) in-head in
-        rw (to-false (complete n y) (not-T (complete n y) partial), ends, leaves)
-        (ap (λ (a : ℕ). path L y + a) (sym (carried-remainder L (left n x) (distinct-left n x) (last x) k r l i)))
+        rw (ends, leaves) (sym (carried-remainder L (left n x) (distinct-left n x) (last x) k r l i))
+
+    by :
+        T (complete n y) ⊎ T (not (complete n y))
+        → cond (complete n y) (cost L y) (path L y + remainder L (last y) (left n y))
+        ≡ cond (complete n y) (cost L y) (path L y + carried L (last x) (left n x) (last y))
+    by (inl h) = rw (to-true (complete n y) h) refl
+    by (inr h) =
+        let (k, i, e) = in-children n pairs x y m in
+        let l : In k (left n x) = in-ready pairs (left n x) k i .0 in
+        rw (to-false (complete n y) h)
+        (ap (λ (a : ℕ). path L y + a) (carried-to k l e (λ q. T-not (complete n y) h q) (left n y) refl))
 
 pub carried-on-every-day : CarriedOnEveryDay
 unfolding dayOn day boundBy
-carried-on-every-day n bound table pairs x y e m partial = rw e (carried-is-close n pairs (legs (rows n (endsAway bound) table)) x y m partial)
+carried-on-every-day n bound table pairs x y e m = rw e (carried-is-close n pairs (legs (rows n (endsAway bound) table)) x y m)

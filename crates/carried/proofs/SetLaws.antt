@@ -2,17 +2,17 @@
 --   Entered, entered-again    the invariant of a loop that enters a number for each stop
 --   several                   a set with stops behind its first one is one of several
 --   among-set, total-most, shares-made    what the children share: its parts as the code finds them, and that their sum is small
---   carried-ahead             what it adds for a child is what is carried to the child
+--   carried-ahead             what the code adds for a child is what is carried to the child
 --   gives-close, gives-plain, gives-none, gives-one    so it is document 01's bound: close, plain, where no stop is left, and of a complete child
-use mathlib.Core.Path.{_≡_, refl, ap, ap₂, sym, subst, _∙_}
+use mathlib.Core.Path.{_≡_, refl, ap, sym, subst, _∙_}
 use mathlib.Core.Bool.{true, false}
-use mathlib.Core.List.{List, [], _∷_, List·Memᴰ·not-nil}
+use mathlib.Core.List.{List, List·Memᴰ·not-nil}
 use mathlib.Core.Logic.{_⊎_, inl, inr, _≢_}
-use Prim.Native.Nat.{ℕ, suc, _+_, _-_, _*_, _^_, _≤_, _<_}
+use Prim.Native.Nat.{ℕ, _+_, _-_, _*_, _^_, _≤_, _<_}
 use native.Mathlib.Nat.{mul-le-mul-right}
 use native.Mathlib.Omega.{arith}
 use lib.Count.{trailingZeros}
-use lib.Dec.{eqb}
+use lib.Dec.{T, eqb}
 use lib.ListN.{length, getD, set, replicate, length-set, length-replicate, getD-replicate}
 use lib.Seq.{getD-set-same, getD-set-other}
 use Rattle.sizes.specs.Sizes.{mostStops, places, dearest}
@@ -45,7 +45,7 @@ entered-again {s = s} {v} {xs} l o e h = record {
   room = length-set xs s v ∙ l .room;
 }
 
--- a family that shares no more than a total: each stop has nothing of it
+-- a family of which only the total counts: each stop has nothing of it
 zero-at : (s : ℕ) → s ≤ mostStops → getD {A = ℕ} (replicate places 0) s 0 ≡ 0
 zero-at s h = getD-replicate {A = ℕ} places s 0 0 (omega arith)
 
@@ -64,7 +64,7 @@ some-in m s i = go (compared m 0)
 -- a set with stops behind its first one: each stop has others beside it
 pub several :
     (rest behind : ℕ) → 0 < rest → rest < 2 ^ mostStops → ((s : ℕ) → First rest s → behind ≡ rest - 2 ^ (s - 1)) → 0 < behind → Several rest
-several rest behind some small later more = record { some = some; small = small; beside = λ s i. go s i (compared s f) }
+several rest behind some small later more = record { small = small; beside = λ s i. go s i (compared s f) }
   where
     f : ℕ
     f = trailingZeros 32 rest + 1
@@ -145,6 +145,7 @@ module _ (t : Table) {rest : ℕ} (v : Several rest) where
   pub gives-close : (bound : ℕ) (x : Family) (into : List ℕ) → isClose bound ≡ true → Shares t rest x into → Gives t bound rest x into
   unfolding reckonOn reckoning
   gives-close bound x into close z = record {
+    carries = λ c place s i h. carried-ahead z s i place;
     less = λ s i. omega (arith, parts z s i);
     ahead = λ s i.
         let (q, j) = others-some s i in
@@ -157,6 +158,7 @@ module _ (t : Table) {rest : ℕ} (v : Several rest) where
   pub gives-plain : (bound : ℕ) → isClose bound ≡ false → Gives t bound rest (familyOf 0) (replicate places 0)
   unfolding reckonOn reckoning
   gives-plain bound plain = record {
+    carries = λ c place s i h. absurd (subst T (sym c ∙ plain) tt);
     less = λ s i. omega (arith, zero-at s (stopsIn-range rest (v .small) s i .1));
     ahead = λ s i.
         alone-ahead 0 s (stopsIn-range rest (v .small) s i)
@@ -167,6 +169,7 @@ module _ (t : Table) {rest : ℕ} (v : Several rest) where
 -- where no stop is left, there is no child
 pub gives-none : (t : Table) (bound rest : ℕ) → rest ≡ 0 → Gives t bound rest (familyOf 0) (replicate places 0)
 gives-none t bound rest e = record {
+  carries = λ c place s i h. absurd (none s i);
   less = λ s i. absurd (none s i);
   ahead = λ s i. absurd (none s i);
   room = length-replicate {A = ℕ} places 0;
@@ -180,6 +183,7 @@ pub gives-one :
     (t : Table) (bound rest s v : ℕ) → First rest s → rest - 2 ^ (s - 1) ≡ 0 → v ≡ rowLeg t s 0 → Gives t bound rest (familyOf v) (replicate places 0)
 unfolding reckonOn reckoning legs familyOf
 gives-one t bound rest s v o e h = record {
+  carries = λ c place r i more. absurd (let z : rest - 2 ^ (r - 1) ≡ 0 = rw (only r i) e in omega arith);
   less = λ r i. subst (λ (q : ℕ). getD (replicate places 0) q 0 ≤ v) (sym (only r i)) (omega (arith, zero-at s (o .few)));
   ahead = λ r i.
       subst (λ (q : ℕ). aheadOf (familyOf v) (getD (replicate places 0) q 0) q ≡ reckonOn t .ahead bound q (stopsIn (rest - 2 ^ (q - 1))))

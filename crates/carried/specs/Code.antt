@@ -4,12 +4,12 @@
 --   noted x s home           the legs home x with that of a further stop s
 --   homeOf x s               the cheapest leg home for the child by s
 --   aheadOf x own s          what the bound adds to the path cost of the child by s, which has own of what the family x shares
---   familyOf total           a family that shares no more than a total
+--   familyOf total           a family of which only the total counts
 --   Shares t rest x into     x and into have what the children of a node share that leaves the stops of rest, whatever the place left behind is
 --   Gives t bound rest x into    x and into give what a bound adds to the path cost of each child
 --   Adds t bound place rest x into    and x has the legs from the node's place too
 use mathlib.Core.Path.{_≡_}
-use mathlib.Core.Bool.{cond}
+use mathlib.Core.Bool.{true, cond}
 use mathlib.Core.List.{List, []}
 use Prim.Native.Nat.{ℕ, _+_, _-_, _^_, _≤_, _<_, min}
 use lib.Dec.{ltb, eqb}
@@ -17,9 +17,9 @@ use lib.ListN.{length, getD}
 use Rattle.sizes.specs.Sizes.{mostStops, places}
 use Rattle.lists.specs.Lists.{In, sum}
 use Rattle.stops.specs.Legs.{legs}
-use Rattle.stops.specs.Bounds.{cheapestInto}
+use Rattle.stops.specs.Bounds.{isClose, cheapestInto}
 use Rattle.stops.specs.Code.{stopsIn, reckonOn}
-use Rattle.carried.specs.Carried.{held, correction, carriedHome}
+use Rattle.carried.specs.Carried.{heldSum, correction, carriedHome, carried}
 use Rattle.carried.specs.declared.Costs.{Costs}
 use Rattle.carried.specs.declared.Family.{Family}
 use Rattle.carried.specs.declared.Homes.{Homes}
@@ -28,7 +28,6 @@ abbrev pub Table : Type 0
 Table = List (List ℕ)
 
 pub record Several (rest : ℕ) : Type 0 where
-  pub some : 0 < rest
   pub small : rest < 2 ^ mostStops
   pub beside : (s : ℕ) → In s (stopsIn rest) → 0 < rest - 2 ^ (s - 1)
 
@@ -46,16 +45,21 @@ aheadOf x own s = x .total - own + homeOf (x .homes) s
 unfoldable pub familyOf : ℕ → Family
 familyOf total = record { total = total; homes = record { cheapest = 0; giver = 0; other = 0 } }
 
--- the total is the node's sum with all its corrections, what a stop has of it is its share with its own correction, and the leg home is the one carried
+-- the total is the node's sum with all its corrections, what a stop has of it is its share with its own correction, and the leg home is the one
+-- carried
 pub record Shares (t : Table) (rest : ℕ) (x : Family) (into : List ℕ) : Type 0 where
-  pub total : (place : ℕ) → x .total ≡ held (legs t) place (stopsIn rest) + sum (correction (legs t) place (stopsIn rest)) (stopsIn rest)
+  pub total : (place : ℕ) → x .total ≡ heldSum (legs t) place (stopsIn rest) + sum (correction (legs t) place (stopsIn rest)) (stopsIn rest)
   pub own :
       (place s : ℕ) → In s (stopsIn rest)
       → getD into s 0 ≡ cheapestInto (legs t) place (stopsIn rest) s + correction (legs t) place (stopsIn rest) s
   pub home : (s : ℕ) → In s (stopsIn rest) → homeOf (x .homes) s ≡ carriedHome (legs t) (stopsIn rest) s
   pub room : length into ≡ places
 
+-- close, it is what is carried to each child, if that is not complete, whatever the place left behind is; and it is document 01's bound
 pub record Gives (t : Table) (bound rest : ℕ) (x : Family) (into : List ℕ) : Type 0 where
+  pub carries :
+      isClose bound ≡ true → (place s : ℕ) → In s (stopsIn rest) → 0 < rest - 2 ^ (s - 1)
+      → aheadOf x (getD into s 0) s ≡ carried (legs t) place (stopsIn rest) s
   pub less : (s : ℕ) → In s (stopsIn rest) → getD into s 0 ≤ x .total
   pub ahead : (s : ℕ) → In s (stopsIn rest) → aheadOf x (getD into s 0) s ≡ reckonOn t .ahead bound s (stopsIn (rest - 2 ^ (s - 1)))
   pub room : length into ≡ places

@@ -1,5 +1,5 @@
--- Worked examples on document 01's table T: what e and node 1 hold, the corrections, and what they carry to their children, beside the children's own
--- remainders. They stand beside the definitions, and the laws name this module so that it is checked before them: a wrong definition is met here
+-- Worked examples on document 01's table T: what e and node 1 hold, the corrections, and what they carry to their children, beside the
+-- children's own remainders. They stand beside the definitions, and the laws name this module so that it is checked before them: a wrong definition is met here
 -- first.
 use mathlib.Core.Path.{_≡_, refl}
 use mathlib.Core.Bool.{true, false}
@@ -10,11 +10,11 @@ use Rattle.stops.specs.Tables.{rows}
 use Rattle.stops.specs.Legs.{Legs, legs, path}
 use Rattle.stops.specs.Bounds.{cheapestInto, remainder, close}
 use Rattle.stops.specs.Examples.{computedDay}
-use Rattle.carried.specs.Carried.{held, among, fromPlace, correction, carriedSum, carriedHome, carried}
+use Rattle.carried.specs.Carried.{heldSum, among, fromPlace, correction, carriedSum, carriedHome, carried}
 
 -- the legs of T
 legsT : Legs
-unfolding computedDay held among fromPlace correction carriedSum carriedHome carried
+unfolding computedDay heldSum among fromPlace correction carriedSum carriedHome carried
 legsT = legs (rows 3 false (0 ∷ 4 ∷ 7 ∷ 9 ∷ 5 ∷ 0 ∷ 2 ∷ 6 ∷ 3 ∷ 8 ∷ 0 ∷ 1 ∷ 6 ∷ 5 ∷ 4 ∷ 0 ∷ []))
 
 -- the stops 1, 2 and 3, which e leaves; it is at home
@@ -26,7 +26,7 @@ shares : map (cheapestInto legsT 0 ofE) ofE ≡ 4 ∷ 2 ∷ 1 ∷ []
 unfolding legsT
 shares = refl
 
-holds : held legsT 0 ofE ≡ 7
+holds : heldSum legsT 0 ofE ≡ 7
 unfolding legsT
 holds = refl
 
@@ -72,7 +72,7 @@ close-of-children = refl
 abbrev ofOne : List ℕ
 ofOne = 2 ∷ 3 ∷ []
 
-holds-two : held legsT 1 ofOne ≡ 3
+holds-two : heldSum legsT 1 ofOne ≡ 3
 unfolding legsT
 holds-two = refl
 
@@ -106,3 +106,29 @@ close-of-two = refl
 close-anew-two : map (close 3 legsT) ((1 ∷ 2 ∷ []) ∷ (1 ∷ 3 ∷ []) ∷ []) ≡ 13 ∷ 17 ∷ []
 unfolding legsT
 close-anew-two = refl
+
+-- Where a leg from another stop is as cheap as that from the place, nothing is to be corrected: with 5 for the leg from home to 1, as from 3.
+legsTied : Legs
+unfolding computedDay heldSum among fromPlace correction carriedSum carriedHome carried
+legsTied = legs (rows 3 false (0 ∷ 5 ∷ 7 ∷ 9 ∷ 5 ∷ 0 ∷ 2 ∷ 6 ∷ 3 ∷ 8 ∷ 0 ∷ 1 ∷ 6 ∷ 5 ∷ 4 ∷ 0 ∷ []))
+
+tied : fromPlace legsTied 0 ofE 1 ≡ true
+unfolding legsTied
+tied = refl
+
+tied-stays : map (correction legsTied 0 ofE) ofE ≡ 0 ∷ 0 ∷ 0 ∷ []
+unfolding legsTied
+tied-stays = refl
+
+-- T with landing charges of 1, 2 and 3 at its stops and 2 at home, on a day that ends away: no leg home counts. The shares of e are 5, 4 and 4.
+legsAway : Legs
+unfolding computedDay heldSum among fromPlace correction carriedSum carriedHome carried
+legsAway = legs (rows 3 true (2 ∷ 4 ∷ 7 ∷ 9 ∷ 5 ∷ 1 ∷ 2 ∷ 6 ∷ 3 ∷ 8 ∷ 2 ∷ 1 ∷ 6 ∷ 5 ∷ 4 ∷ 3 ∷ []))
+
+carried-away : map (carried legsAway 0 ofE) ofE ≡ 8 ∷ 10 ∷ 10 ∷ []
+unfolding legsAway
+carried-away = refl
+
+reckoned-away : map (λ k. remainder legsAway k (without k ofE)) ofE ≡ 8 ∷ 10 ∷ 10 ∷ []
+unfolding legsAway
+reckoned-away = refl

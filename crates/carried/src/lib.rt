@@ -1,7 +1,7 @@
-// The bounds of a node's children, carried along from the node (request A.7). Into a stop that is left, each child but that stop's own can come from the
-// same stops, all the others that the node leaves; so the cheapest of those legs and their sum are found once for the family, and with them the cheapest
-// leg home. specs/Carried has this in the request's words, and proofs/ that it is document 01's close bound. The functions are public for the crates
-// above and not for hosts; what they require, those crates meet.
+// The bounds of a node's children, carried along from the node (request A.7). A stop that a child leaves can be reached from the child's own stop or
+// from another one left: together the other stops that the node leaves, whichever child it is. So the cheapest of those legs is one number a
+// stop, found once for the family, and with it the cheapest leg home. specs/Carried has this in the request's words, and proofs/ that it is document
+// 01's close bound. The functions are public for the crates above and not for hosts; what they require, those crates meet.
 ghost use mathlib.Core.Path.{_≡_};
 ghost use Prim.Native.Nat.{_-_, _^_, _≤_, _<_};
 ghost use lib.ListN.{length, replicate};
@@ -27,7 +27,8 @@ pub struct Homes {
     pub other: u32,
 }
 
-// What the children of a node share: the sum of the cheapest legs into the stops that the node leaves, and the legs home.
+// What the children of a node share. Where the bound is close, total is the sum, over the stops that the node leaves, of the cheapest leg into each
+// from another one: the node's sum with every correction made. Where one stop is left it is the leg home from it, and else, under plain, 0.
 pub struct Family {
     pub total: u32,
     pub homes: Homes,
@@ -57,8 +58,7 @@ fn noted(x: Homes, s: u32, home: u32) -> Homes
     }
 }
 
-// What the children by the stops of rest share where the bound is close. What each stop has of the total is written to its place: the cheapest leg into it
-// from another one.
+// What the children by the stops of rest share where the bound is close. Each stop's part of the total is written to its place.
 fn shared(t: &Rows, rest: u32, into: &mut [u32]) -> Family
     requires { ⌜ Several rest × (Cheap (now t) × (length (now into) ≡ places)) ⌝ }
     ensures { λ r. ⌜ Shares (now (t .entry)) rest r (now (into .exit)) ⌝ }
@@ -81,8 +81,8 @@ fn shared(t: &Rows, rest: u32, into: &mut [u32]) -> Family
     Family { total, homes }
 }
 
-// A family that has nothing to share but a total.
-fn alone(total: u32) -> Family
+// A family of which only the total counts.
+fn only_total(total: u32) -> Family
     ensures { λ r. ⌜ r ≡ familyOf total ⌝ }
 {
     Family {
@@ -95,25 +95,26 @@ fn alone(total: u32) -> Family
     }
 }
 
-// What the children by the stops of rest share, by the bound. A plain bound adds nothing, but for a complete child, which is alone, its leg home.
+// What the children by the stops of rest share, by the bound. A complete child, which is the only one, adds its leg home, whichever the bound is; else a
+// plain bound adds nothing.
 fn family_by(t: &Rows, bound: u32, rest: u32, into: &mut [u32]) -> Family
     requires { ⌜ (rest < 2 ^ mostStops) × (Cheap (now t) × (now into ≡ replicate places 0)) ⌝ }
     ensures { λ r. ⌜ Gives (now (t .entry)) bound rest r (now (into .exit)) ⌝ }
 {
     if rest == 0 {
-        return alone(0);
+        return only_total(0);
     }
     if later(rest) == 0 {
-        return alone(leg(t, next(rest), 0));
+        return only_total(leg(t, next(rest), 0));
     }
     if is_close(bound) {
         return shared(t, rest, into);
     }
-    alone(0)
+    only_total(0)
 }
 
-// What the bound adds to the path cost of the child by s, which has a part of its own in what the family shares: all of it but that part, and the cheapest
-// leg home, or the cheapest of the others if s gave it.
+// What the bound adds to the path cost of the child by s, whose part of the total is own: the total but for that part, and the cheapest leg home, or the
+// cheapest of the others if s gives it.
 pub fn added(family: Family, own: u32, s: u32) -> u32
     requires { ⌜ (own ≤ family .total) × (aheadOf family own s < 2 ^ 32) ⌝ }
     ensures { λ r. ⌜ r ≡ aheadOf family own s ⌝ }
@@ -125,7 +126,7 @@ pub fn added(family: Family, own: u32, s: u32) -> u32
     family.total - own + homes.cheapest
 }
 
-// What each child of b adds to it; into, which comes with zeros, gets what each stop has of what the family shares.
+// What each child of b adds to it; into, zeros at first, gets each stop's part of the total.
 pub fn child_costs(n: u32, bound: u32, t: Rows, b: Record, into: &mut [u32]) -> Costs
     requires { ⌜ (n ≤ mostStops) × ((b .set < 2 ^ n) × (Cheap t × (now into ≡ replicate places 0))) ⌝ }
     ensures { λ r. ⌜ Adds t bound (lastStop b) (2 ^ n - 1 - b .set) r (now (into .exit)) ⌝ }

@@ -1,4 +1,4 @@
--- What the code of `child` and `root` needs: the words of a node's record have room for one stop more.
+-- What the code of `family` and `root` needs: the words of a node's record have room for one stop more.
 --   Kid, kid-bears          one of the stops that a record leaves: its words have room for it, and 32 bits hold the child's bound
 --   kid-made                the record extended, with what the bound adds, is the child
 --   root-made               e with the bound of the set of all stops is the root's record

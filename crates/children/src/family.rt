@@ -1,5 +1,5 @@
-// Part 1 of a step: the children of a node, each in the slot of its stop, with their bounds, which are found for all of them at once (request A.7, crate
-// `carried`); and e, with which a run starts.
+// Part 1 of a step: the children of a node, each in the slot of its stop, with their bounds, which are found for all of them at once (request
+// A.7, crate `carried`); and e, with which a run starts.
 ghost use mathlib.Core.Path.{_≡_};
 ghost use Prim.Native.Nat.{_≤_};
 ghost use lib.ListN.{length};
@@ -17,10 +17,9 @@ use stops::bound::ahead;
 use stops::node_record::Record;
 use stops::sets::later;
 use stops::sets::next;
-use stops::table::Rows;
 
 // e, with its bound.
-pub fn root(setting: Setting, t: Rows) -> Record
+pub fn root(setting: Setting, t: [[u32; PLACES]; PLACES]) -> Record
     requires { ⌜ Rows setting t ⌝ }
     ensures { λ r. ⌜ r ≡ rootOf setting t ⌝ }
 {
@@ -40,7 +39,7 @@ fn child(b: Record, s: u32, leg: u32, ahead: u32) -> Record
 }
 
 // Writes each child of b to the slot of its stop in kids, and gives the set of these stops: those that b leaves and that need not wait (request A.6).
-pub fn family(setting: Setting, t: Rows, b: Record, kids: &mut [u32]) -> u32
+pub fn family(setting: Setting, t: [[u32; PLACES]; PLACES], b: Record, kids: &mut [u32]) -> u32
     requires { ⌜ Rows setting t × (Encoded setting t b × (mostStops ≤ length (records (now kids)))) ⌝ }
     ensures { λ r. ⌜ Born setting t b r (records (now (kids .exit))) ⌝ }
 {

@@ -15,7 +15,7 @@ use Rattle.sizes.specs.Sizes.{mostStops, wordStops}
 use Rattle.lists.proofs.Tests.{to-false, same-tests}
 use Rattle.lists.proofs.Empty.{in-nonempty}
 use Rattle.lists.proofs.Members.{keep-in}
-use Rattle.orders.specs.Orders.{Node, stops, flown, setOf, size, extend}
+use Rattle.orders.specs.Orders.{Node, stops, flown, setOf, size}
 use Rattle.orders.proofs.Sets.{stops-in, in-set, in-flown, flown-in, in-left, left-in, size-left}
 use Rattle.orders.proofs.Partial.{partial-size}
 use Rattle.stops.specs.Code.{stopsIn, extended, Wide}

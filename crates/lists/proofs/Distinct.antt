@@ -1,7 +1,6 @@
 -- Laws of lists in which no element stands twice: when joined, mapped and `each` lists are distinct, and what taking one number out
 -- does to a sum and a length; and that a sum lies with the members alone.
 use mathlib.Core.Path.{_≡_, refl, ap, sym, subst}
-use mathlib.Core.Bool.{not}
 use mathlib.Core.List.{List, [], _∷_, _++_, map, List·Memᴰ·head, List·Memᴰ·tail, List·Memᴰ·cases-cons, List·Memᴰ·not-nil, Memᴰ·append-left, Memᴰ·append-right, List·Memᴰ·append-cases}
 use mathlib.Core.Logic.{_⊎_, inl, inr, _≢_}
 use Prim.Native.Nat.{ℕ, suc, _+_}
@@ -9,7 +8,7 @@ use native.Mathlib.Omega.{arith}
 use lib.Dec.{eqb, eqb-refl}
 use lib.ListN.{length}
 use Rattle.lists.specs.Lists.{In, sum, each, without, Distinct, none, more}
-use Rattle.lists.proofs.Tests.{compared, neq, to-true, to-false, ne-neqb}
+use Rattle.lists.proofs.Tests.{neq, to-true, to-false, ne-neqb}
 use Rattle.lists.proofs.Members.{in-head, in-keep, keep-in, in-map, in-each, distinct-keep}
 use Rattle.lists.proofs.Numbers.{sum-const}
 

@@ -82,11 +82,12 @@ module _ {A : Type 0} where
       go (inl h) w = (y, in-head, omega arith)
       go (inr h) (x, m, e) = (x, List·Memᴰ·tail m, omega arith)
 
-  -- a value that is attained and is below each is the least
+  -- the least of a list that has a member is the value of a member
   pub least-given : (f : A → ℕ) (xs : List A) (r : A) → In r xs → (x : A) × In x xs × (f x ≡ least f xs)
   least-given f [] r m = absurd (List·Memᴰ·not-nil m)
   least-given f (y ∷ ys) r m = least-in f y ys
 
+  -- a member's value that is above none is the least
   pub least-is : (f : A → ℕ) (xs : List A) (v : ℕ) (r : A) → In r xs → v ≡ f r → ((x : A) → In x xs → v ≤ f x) → v ≡ least f xs
   least-is f xs v r m e below = let (x, i, g) = least-given f xs r m in omega (arith, least-le f xs r m, below x i, g, e)
 
@@ -103,7 +104,7 @@ module _ {A : Type 0} where
   least-small f m h [] = omega arith
   least-small f m h (x ∷ xs) = omega (arith, least-le f (x ∷ xs) x in-head, h x)
 
-  pub least-same :
+  least-same :
       (f : A → ℕ) (x y : A) (xs ys : List A) → ((z : A) → In z (x ∷ xs) → In z (y ∷ ys)) → ((z : A) → In z (y ∷ ys) → In z (x ∷ xs))
       → least f (x ∷ xs) ≡ least f (y ∷ ys)
   least-same f x y xs ys there back =
@@ -112,6 +113,17 @@ module _ {A : Type 0} where
       let below = least-le f (y ∷ ys) a (there a i) in
       let above = least-le f (x ∷ xs) b (back b j) in
       omega arith
+
+  -- so the least lies with the members alone, of empty lists too; and that of a part, if it has a member, is not below that of the whole
+  pub least-members : (f : A → ℕ) (xs ys : List A) → ((z : A) → In z xs → In z ys) → ((z : A) → In z ys → In z xs) → least f xs ≡ least f ys
+  least-members f [] [] there back = refl
+  least-members f [] (y ∷ ys) there back = absurd (List·Memᴰ·not-nil (back y in-head))
+  least-members f (x ∷ xs) [] there back = absurd (List·Memᴰ·not-nil (there x in-head))
+  least-members f (x ∷ xs) (y ∷ ys) there back = least-same f x y xs ys there back
+
+  pub least-part : (f : A → ℕ) (xs ys : List A) (r : A) → In r ys → ((z : A) → In z ys → In z xs) → least f xs ≤ least f ys
+  least-part f xs [] r m some = absurd (List·Memᴰ·not-nil m)
+  least-part f xs (y ∷ ys) r m some = least-of-some f xs y ys some
 
   -- what is added to every value is added to the least
   pub least-adds :

@@ -1,7 +1,7 @@
 // Which bound a number names, and what it adds to the path cost.
 ghost use mathlib.Core.Path.{_≡_};
 ghost use mathlib.Core.List.{_∷_};
-ghost use Prim.Native.Nat.{_+_, _^_, _≤_, _<_, min};
+ghost use Prim.Native.Nat.{_^_, _≤_, _<_, min};
 ghost use Rattle.sizes.specs.Sizes.{mostStops};
 ghost use Rattle.lists.specs.Lists.{least};
 ghost use Rattle.stops.specs.Legs.{rowLeg, legs};
@@ -30,6 +30,7 @@ pub fn is_close(bound: u32) -> bool
     bound == 3
 }
 
+// The lesser of two numbers.
 pub fn lesser(a: u32, b: u32) -> u32
     ensures { λ r. ⌜ r ≡ min a b ⌝ }
 {

@@ -32,7 +32,8 @@ impl Record {
         }
     }
 
-    // The node with a stop and what flying there costs added, and no bound yet. Its size is counted from the set, and the new stop.
+    // The node with a stop and what flying there costs added, and no bound yet. Its size is that of the set, and 1 for the new
+    // stop.
     pub fn extended(mut self, stop: u32, leg: u32) -> Record
         requires { ⌜ Wide self stop leg ⌝ }
         ensures { λ r. ⌜ r ≡ extended self stop leg ⌝ }

@@ -20,24 +20,24 @@ start c = c .before .before .before
 more : (c : tie.After-later) → 0 < c .later .result → Several (start c .args .rest)
 more c h = several (start c .args .rest) (c .later .result) (omega arith) (start c .pre .0) (c .later .ensures) h
 
--- a family that shares no more than a total leaves the zeros as they came
-left-alone :
+-- a family of which only the total counts leaves the zeros as they came
+zeros-stay :
     (c : tie.Start) (x : Family) (total : ℕ) → x ≡ familyOf total
     → Gives (c .args .t .now) (c .args .bound) (c .args .rest) (familyOf total) (replicate places 0)
     → Gives (c .args .t .now) (c .args .bound) (c .args .rest) x (c .args .into .now)
-left-alone c x total e g = rw (e, c .pre .1 .1) g
+zeros-stay c x total e g = rw (e, c .pre .1 .1) g
 
 returns : tie.Need-returns
 returns c =
     let b = c .before .before .before in
-    left-alone b _ 0 (c .alone .ensures) (gives-none (b .args .t .now) (b .args .bound) (b .args .rest) (omega arith))
+    zeros-stay b _ 0 (c .only-total .ensures) (gives-none (b .args .t .now) (b .args .bound) (b .args .rest) (omega arith))
 
 returns-2 : tie.Need-returns-2
 returns-2 c =
     let n = c .before .before in
     let l = n .before .before in
     let b = start l in
-    left-alone b _ (c .before .leg .result) (c .alone2 .ensures)
+    zeros-stay b _ (c .before .leg .result) (c .only-total2 .ensures)
     (gives-one (b .args .t .now) (b .args .bound) (b .args .rest) (n .next .result) (c .before .leg .result) (n .next .ensures)
     (sym (l .later .ensures _ (n .next .ensures)) ∙ omega arith) (c .before .leg .ensures))
 
@@ -53,14 +53,15 @@ returns-3 c =
     let i = s .before .before .before in
     let l = i .before .before in
     let b = start l in
-    gives-close (b .args .t .now) (more l (omega arith)) (b .args .bound) _ _ (sym (i .is-close .ensures) ∙ s .before .before .if3 .taken) (s .shared .ensures)
+    gives-close (b .args .t .now) (more l (omega arith)) (b .args .bound) _ _ (sym (i .is-close .ensures) ∙ s .before .before .if3 .taken)
+    (s .shared .ensures)
 
 returns-4 : tie.Need-returns-4
 returns-4 c =
     let i = c .before .before in
     let l = i .before .before in
     let b = start l in
-    left-alone b _ 0 (c .alone3 .ensures)
+    zeros-stay b _ 0 (c .only-total3 .ensures)
     (gives-plain (b .args .t .now) (more l (omega arith)) (b .args .bound) (sym (i .is-close .ensures) ∙ c .before .if3 .left))
 
 pub family-by-spec : {M : Type 1} → statement M

@@ -1,5 +1,5 @@
--- `carried::shared` meets its contract. The loop's invariant: the total and the legs into the stops left make the family's sum, the leg into each stop
--- passed stands at its place, and the legs home of the stops passed are noted. The measure is the set of the stops left, as a number.
+-- `carried::shared` meets its contract. The loop's invariant: the total and the legs into the stops left make the family's sum, the leg into each
+-- stop passed stands at its place, and the legs home of the stops passed are noted. The measure is the set of the stops left, as a number.
 use mathlib.Core.Path.{_≡_, ap, sym, _∙_}
 use Prim.Native.Nat.{ℕ, _+_, _<_}
 use native.Mathlib.Omega.{arith}
@@ -56,13 +56,19 @@ cheapest-requires : tie.Need-cheapest-requires Inv-loop μ-loop
 cheapest-requires c κs =
     let n = c .before .before in
     let v = entry n .pre .0 in
-    (omega (arith, c .without .ensures, v .beside (n .next .result) (first-in n)), (omega (arith, c .without .ensures, v .small), n .next .ensures .few))
+    let some : 0 < c .without .result = omega (arith, c .without .ensures, v .beside (n .next .result) (first-in n)) in
+    (some, (omega (arith, c .without .ensures, v .small), n .next .ensures .few))
 
 add-total : tie.Need-add-total Inv-loop μ-loop
 add-total c =
     let n = c .before .before .before in
     let b = entry n in
-    omega (arith, value c, summed-most (n .before .before .loop .inv .0) (n .next .result) (n .next .ensures), total-most (b .args .t .now) (b .pre .0) (b .pre .1 .0))
+    omega (
+      arith,
+      value c,
+      summed-most (n .before .before .loop .inv .0) (n .next .result) (n .next .ensures),
+      total-most (b .args .t .now) (b .pre .0) (b .pre .1 .0),
+    )
 
 loop-less : tie.Need-loop-less Inv-loop μ-loop
 loop-less c =

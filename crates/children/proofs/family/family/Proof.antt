@@ -1,10 +1,9 @@
--- `family::family` meets its contract. The loop's invariant: the slice keeps its length, and the children by the stops passed stand in their slots (`Placing`),
--- each with its leg and with what its bound adds as `child_costs` found them. The measure is the set of the stops left, as a number.
+-- `family::family` meets its contract. The loop's invariant: the slice keeps its length, and the children by the stops passed stand in their slots
+-- (`Placing`), each with its leg and with what its bound adds as `child_costs` found them. The measure is the set of the stops left, as a number.
 use mathlib.Core.Path.{_≡_, refl, ap, subst, _∙_}
 use mathlib.Core.List.{List}
 use Prim.Native.Nat.{ℕ, _+_, _-_, _*_, _^_, _%_, _≤_}
 use native.Mathlib.Omega.{arith}
-use borrow.Author.Needs.{needs}
 use lib.ListN.{length, getD}
 use Rattle.sizes.specs.Sizes.{mostStops}
 use Rattle.lists.specs.Lists.{In}
@@ -31,8 +30,8 @@ Inv-loop b kids₀ rest born into costs left₀ kids left =
 abbrev μ-loop : tie.MeasureT-loop
 μ-loop b kids₀ rest born into costs left₀ kids left = left
 
--- the places before: the entry, seen from behind `ready`; `ready`, seen from behind `child_costs`; that, seen from the loop's head; the loop's head, seen
--- from behind `next`; the call of `next`, seen from behind that of `slot`
+-- the places before: the entry, seen from behind `ready`; `ready`, seen from behind `child_costs`; that, seen from the loop's head; the loop's
+-- head, seen from behind `next`; the call of `next`, seen from behind that of `slot`
 abbrev entry : tie.After-ready Inv-loop μ-loop → tie.Start Inv-loop μ-loop
 entry c = c .before .before .before .before
 
@@ -114,7 +113,11 @@ loop-holds c = let r = chosen (c .before) in (refl, placing-starts refl (r .read
 turn : (c : tie.After-next Inv-loop μ-loop) → In (c .next .result) (stopsIn (chosen (found (head c)) .ready .result))
 turn c = head c .loop .inv .1 .passed .among (c .next .result) (c .next .ensures .member)
 
-bears : (c : tie.After-next Inv-loop μ-loop) → let f = found (head c) in let s = c .next .result in Bears (entry (chosen f) .args .b) s (leg-of f s) (ahead-of f s)
+bears :
+    (c : tie.After-next Inv-loop μ-loop) →
+    let f = found (head c) in
+    let s = c .next .result in
+    Bears (entry (chosen f) .args .b) s (leg-of f s) (ahead-of f s)
 bears c = kid-bears (kid (found (head c)) (c .next .result) (turn c))
 
 added-requires : tie.Need-added-requires Inv-loop μ-loop
@@ -148,7 +151,8 @@ loop-again c =
     let l = head n .loop in (
       s .store .kept .0 ∙ l .inv .0,
       placing-again (l .inv .1) (n .next .ensures) (slot .before .before .before .before .later .ensures _ (n .next .ensures))
-          (s .before .child .ensures ∙ ap (bornOf (entry (chosen f) .args .b) (n .next .result) (leg-of f (n .next .result))) (slot .before .before .added .ensures))
+          (s .before .child .ensures
+          ∙ ap (bornOf (entry (chosen f) .args .b) (n .next .result) (leg-of f (n .next .result))) (slot .before .before .added .ensures))
           (rw (slot .slot .ensures) at (s .store .ensures)),
     )
 
