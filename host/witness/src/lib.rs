@@ -163,7 +163,7 @@
 //!     flown or not. The leg flown is in the child's path cost.
 //! 58. A stop is corrected to the cheapest leg from the flown stop or another
 //!     stop still to come, and that may cost the same as before.
-//! 59. One place is held for each cheapest leg. Of several either may be, the
+//! 59. One place is held for each cheapest leg. Of several any may be, the
 //!     place left behind or the flown stop among them: if another is held,
 //!     there is nothing to correct or to look for, and if not, the same cost
 //!     is found again.
