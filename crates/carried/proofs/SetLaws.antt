@@ -49,9 +49,9 @@ entered-again {s = s} {v} {xs} l o e h = record {
 zero-at : (s : ℕ) → s ≤ mostStops → getD {A = ℕ} (replicate places 0) s 0 ≡ 0
 zero-at s h = getD-replicate {A = ℕ} places s 0 0 (omega arith)
 
-alone-ahead : (total s : ℕ) → (1 ≤ s) × (s ≤ mostStops) → aheadOf (familyOf total) (getD (replicate places 0) s 0) s ≡ total
+total-ahead : (total s : ℕ) → (1 ≤ s) × (s ≤ mostStops) → aheadOf (familyOf total) (getD (replicate places 0) s 0) s ≡ total
 unfolding aheadOf familyOf homeOf
-alone-ahead total s h = rw (zero-at s (h .1), to-false (eqb s 0) (ne-neqb s 0 (λ e. let z : s ≡ 0 = e in omega arith))) (omega arith)
+total-ahead total s h = rw (zero-at s (h .1), to-false (eqb s 0) (ne-neqb s 0 (λ e. let z : s ≡ 0 = e in omega arith))) (omega arith)
 
 -- a set with a stop in it is not empty
 some-in : (m s : ℕ) → In s (stopsIn m) → 0 < m
@@ -161,7 +161,7 @@ module _ (t : Table) {rest : ℕ} (v : Several rest) where
     carries = λ c place s i h. absurd (subst T (sym c ∙ plain) tt);
     less = λ s i. omega (arith, zero-at s (stopsIn-range rest (v .small) s i .1));
     ahead = λ s i.
-        alone-ahead 0 s (stopsIn-range rest (v .small) s i)
+        total-ahead 0 s (stopsIn-range rest (v .small) s i)
         ∙ ahead-plain (legs t) s (rest - 2 ^ (s - 1)) (v .beside s i) (omega (arith, v .small)) bound plain;
     room = length-replicate {A = ℕ} places 0;
   }
@@ -199,4 +199,4 @@ gives-one t bound rest s v o e h = record {
         go (inr n) = absurd (List·Memᴰ·not-nil (rw (e, stopsIn-zero) at (in-behind (rw (o .others) at i) n)))
 
     flies : aheadOf (familyOf v) (getD (replicate places 0) s 0) s ≡ reckonOn t .ahead bound s (stopsIn (rest - 2 ^ (s - 1)))
-    flies = alone-ahead v s (o .some, o .few) ∙ h ∙ ahead-none bound (legs t) s (rest - 2 ^ (s - 1)) e
+    flies = total-ahead v s (o .some, o .few) ∙ h ∙ ahead-none bound (legs t) s (rest - 2 ^ (s - 1)) e

@@ -107,12 +107,12 @@ close-anew-two : map (close 3 legsT) ((1 ∷ 2 ∷ []) ∷ (1 ∷ 3 ∷ []) ∷ 
 unfolding legsT
 close-anew-two = refl
 
--- Where a leg from another stop is as cheap as that from the place, nothing is to be corrected: with 5 for the leg from home to 1, as from 3.
+-- Where a leg from another stop is as cheap as that from the place, nothing is to be corrected: three stops with every leg 1.
 legsTied : Legs
 unfolding computedDay heldSum among fromPlace correction carriedSum carriedHome carried
-legsTied = legs (rows 3 false (0 ∷ 5 ∷ 7 ∷ 9 ∷ 5 ∷ 0 ∷ 2 ∷ 6 ∷ 3 ∷ 8 ∷ 0 ∷ 1 ∷ 6 ∷ 5 ∷ 4 ∷ 0 ∷ []))
+legsTied = legs (rows 3 false (0 ∷ 1 ∷ 1 ∷ 1 ∷ 1 ∷ 0 ∷ 1 ∷ 1 ∷ 1 ∷ 1 ∷ 0 ∷ 1 ∷ 1 ∷ 1 ∷ 1 ∷ 0 ∷ []))
 
-tied : fromPlace legsTied 0 ofE 1 ≡ true
+tied : map (fromPlace legsTied 0 ofE) ofE ≡ true ∷ true ∷ true ∷ []
 unfolding legsTied
 tied = refl
 

@@ -5,6 +5,7 @@
 
 pub mod by_hand;
 pub mod call;
+pub mod carried;
 pub mod course;
 pub mod paired;
 
