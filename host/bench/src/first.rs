@@ -5,10 +5,9 @@
 use std::hint::black_box;
 use std::time::{Duration, Instant};
 
+use bench::peer::Rows;
+use bench::tables;
 use gondamuy::{raw, Bound, ORDER_PLACES};
-
-use crate::peer::Rows;
-use crate::tables;
 
 /// Calls that are timed together, and how often by each of the two in turn; the least time counts.
 const CALLS: u32 = 100;

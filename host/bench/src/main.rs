@@ -1,126 +1,84 @@
-//! The proved planner beside an unverified one of the same passes, job by job in one run: ns per branching, records
-//! needed, and the ratio of the times. `cargo run --release -p bench [tables] [seconds] [R, P or Q]`: tables a row
-//! (default 5), how long the peer may take for one (default 10; those over it are left out and counted), and the job to
-//! run alone (default all three). Each table is planned three times by each of the two in turn, thirty times where that
-//! is short, and the least time counts, so that what else the machine does shows little. `first` in place of the job
-//! times the unit's first order instead.
+//! The proved planner beside two unverified ones of its method, job by job in one run: ns per branching, records
+//! needed, and the ratios of the times.
+//!
+//!     bench [tables] [seconds] [R, P, Q or F]
+//!
+//! `tables` to a row (default 5); how many `seconds` one planner may take for a table (default 10); the job to run
+//! alone (default all four). A table that the lazy peer does not end in time is left out, and for one that another does
+//! not end, that one alone: column `tables` says how many the simple peer, the lazy one and the library ended. Each
+//! table is planned three times by each in turn, thirty times where that is short, and the least time counts, so that
+//! what else the machine does shows little. The other modes, which their modules describe:
+//!
+//!     bench [tables] 0 first
+//!     bench grow [tables] [seconds]
+//!     bench long [branchings] [records] [tables] [seconds]
 
 mod first;
-mod peer;
-mod tables;
+mod grow;
+mod long;
+mod rows;
 
 use std::time::{Duration, Instant};
 
-use gondamuy::{raw, NO_BUDGET, RECORD_WORDS};
-use peer::{Found, Record};
+use bench::peer::{Record, Until};
+use bench::task::Task;
+use gondamuy::{raw, RECORD_WORDS};
 
+/// What is asked for, again and again: a selection with rules, by the close bound. P is the office's, Q the pilot's.
 struct Kind {
     letter: &'static str,
     selection: u32,
     rules: u32,
 }
 
-const KINDS: [Kind; 3] = [
+const KINDS: [Kind; 4] = [
     Kind { letter: "R", selection: 0, rules: 1 },
     Kind { letter: "P", selection: 0, rules: 15 },
     Kind { letter: "Q", selection: 3, rules: 1 },
+    Kind { letter: "F", selection: 2, rules: 15 },
 ];
 
-/// What is planned: a job with its table and its starting order.
-struct Task {
-    job: raw::Job,
-    table: Vec<u32>,
-    start: Vec<u8>,
-}
-
-impl Task {
-    fn of(kind: &Kind, n: usize, table: Vec<u32>) -> Task {
-        let start = if kind.selection == 3 { samples::nearest(n, &table) } else { Vec::new() };
-        Task { job: raw::Job { n: n as u32, selection: kind.selection, rules: kind.rules, bound: 1 }, table, start }
+impl Kind {
+    fn task(&self, wind: &str, n: u32, seed: u64) -> Task {
+        Task::of(raw::Job { n, selection: self.selection, rules: self.rules, bound: 1 }, wind, seed)
     }
 }
 
-const RUNS: usize = 3;
-const SHORT_RUNS: usize = 30;
-const SHORT: Duration = Duration::from_millis(20);
+/// Records enough for nearly all that ends in time.
+fn large_pool() -> Vec<Record> {
+    vec![[0; RECORD_WORDS]; 4_000_000]
+}
+
+/// No run of the lazy peer takes so many seconds.
+const LONG: u64 = 3_600;
+
+/// Within a budget, and so many seconds from now.
+fn until(budget: u64, seconds: u64) -> Until {
+    Until { budget, deadline: Instant::now() + Duration::from_secs(seconds) }
+}
 
 fn main() {
-    let mut words = std::env::args().skip(1);
-    let tables: u64 = words.next().and_then(|w| w.parse().ok()).unwrap_or(5);
-    let seconds: u64 = words.next().and_then(|w| w.parse().ok()).unwrap_or(10);
-    let letter = words.next();
-    if letter.as_deref() == Some("first") {
-        return first::all_rows(tables);
+    let words: Vec<String> = std::env::args().skip(1).collect();
+    let number = |at: usize, otherwise: u64| words.get(at).and_then(|w| w.parse().ok()).unwrap_or(otherwise);
+    match (words.first().map(String::as_str), words.get(2).map(String::as_str)) {
+        (Some("grow"), _) => grow::all_rows(number(1, 20), number(2, 20)),
+        (Some("long"), _) => long::all_rows(number(1, 10_000), number(2, 100_000) as usize, number(3, 1), number(4, 5)),
+        (_, Some("first")) => first::all_rows(number(0, 5)),
+        (_, letter) => all_rows(number(0, 5), number(1, 10), letter),
     }
-    let kinds: Vec<&Kind> = KINDS.iter().filter(|kind| letter.as_ref().is_none_or(|l| l == kind.letter)).collect();
-    assert!(!kinds.is_empty(), "the job is R, P or Q, or first");
-    let mut pool: Vec<Record> = vec![[0; RECORD_WORDS]; 4_000_000];
-    print!(
-        "{:<8}{:>3}  {:<26}{:>7}{:>10}{:>12}{:>10}",
-        "table", "n", "job", "tables", "left out", "branched", "records"
-    );
-    println!("{:>12}{:>12}{:>8}", "peer ns", "ours ns", "ratio");
+}
+
+fn all_rows(tables: u64, seconds: u64, letter: Option<&str>) {
+    let kinds: Vec<&Kind> = KINDS.iter().filter(|kind| letter.is_none_or(|l| l == kind.letter)).collect();
+    assert!(!kinds.is_empty(), "the job is R, P, Q or F, or first");
+    let mut pool = large_pool();
+    rows::heading();
     for wind in ["uniform", "wind"] {
         for n in [12, 14, 16] {
-            for kind in &kinds {
-                row(wind, n, kind, tables, seconds, &mut pool);
+            // Earliest first, sixteen stops are half a million branchings.
+            for kind in kinds.iter().filter(|kind| n < 16 || kind.letter != "F") {
+                rows::row(wind, n, kind, tables, seconds, &mut pool);
             }
         }
     }
-}
-
-fn row(wind: &str, n: usize, kind: &Kind, tables: u64, seconds: u64, pool: &mut [Record]) {
-    let (mut ended, mut branched, mut records) = (0, 0, 0);
-    let (mut theirs, mut ours) = (Duration::ZERO, Duration::ZERO);
-    for seed in 0..tables {
-        let task = Task::of(kind, n, tables::table(wind, n, seed));
-        let Some((found, times)) = least_times(&task, seconds, pool) else {
-            continue;
-        };
-        ended += 1;
-        branched += found.branched;
-        records = records.max(found.records);
-        theirs += times.0;
-        ours += times.1;
-    }
-    let each = |time: Duration| time.as_nanos() as f64 / branched.max(1) as f64;
-    let ratio = ours.as_secs_f64() / theirs.as_secs_f64().max(1e-9);
-    let name = format!("{}: selection {}, rules {}", kind.letter, kind.selection, kind.rules);
-    let (out, theirs, ours) = (tables - ended, each(theirs), each(ours));
-    print!("{wind:<8}{n:>3}  {name:<26}{ended:>7}{out:>10}{branched:>12}{records:>10}");
-    println!("{theirs:>12.0}{ours:>12.0}{ratio:>8.2}");
-}
-
-/// The peer's least time and ours.
-fn least_times(task: &Task, seconds: u64, pool: &mut [Record]) -> Option<(Found, (Duration, Duration))> {
-    let (found, mut theirs) = time_peer(task, seconds, pool)?;
-    let mut ours = time_ours(task, &found, pool);
-    for _ in 1..if theirs < SHORT { SHORT_RUNS } else { RUNS } {
-        if let Some((_, again)) = time_peer(task, seconds, pool) {
-            theirs = theirs.min(again);
-        }
-        ours = ours.min(time_ours(task, &found, pool));
-    }
-    Some((found, (theirs, ours)))
-}
-
-fn time_peer(task: &Task, seconds: u64, pool: &mut [Record]) -> Option<(Found, Duration)> {
-    let rows = tables::rows(task.job.n as usize, &task.table);
-    let raw::Job { n, selection, rules, bound } = task.job;
-    let job = peer::Job { n, rows: &rows, selection, rules, bound };
-    let best = if task.start.is_empty() { u32::MAX } else { tables::cost(n as usize, &task.table, &task.start) };
-    let begin = Instant::now();
-    let found = peer::plan(&job, best, pool, begin + Duration::from_secs(seconds))?;
-    Some((found, begin.elapsed()))
-}
-
-/// In a pool of as many records as the peer needed: what is cleared at the end is no more than was used.
-fn time_ours(task: &Task, found: &Found, pool: &mut [Record]) -> Duration {
-    let words = pool[..found.records].as_flattened_mut();
-    let begin = Instant::now();
-    let report = raw::plan(task.job, &task.table, &task.start, &[], NO_BUDGET, words);
-    let time = begin.elapsed();
-    assert_eq!((report.is_finished(), report.cost), (true, found.cost));
-    assert_eq!((report.branched, report.most), (found.branched, found.most as u64));
-    time
 }

@@ -40,13 +40,3 @@ pub fn rows(n: usize, table: &[u32]) -> Rows {
     }
     rows
 }
-
-pub fn cost(n: usize, table: &[u32], order: &[u8]) -> u32 {
-    let mut place = 0;
-    let mut cost = 0;
-    for &s in order {
-        cost += table[place * (n + 1) + s as usize];
-        place = s as usize;
-    }
-    cost + table[place * (n + 1)]
-}

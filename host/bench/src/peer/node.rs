@@ -5,11 +5,19 @@ use gondamuy::{MOST_STOPS, PLACES, RECORD_WORDS};
 pub type Rows = [[u32; PLACES]; PLACES];
 pub type Record = [u32; RECORD_WORDS];
 
+/// A child for each stop, at the stop's place less one.
+pub type Kids = [Record; MOST_STOPS];
+
 pub const SIZE: usize = 0;
 pub const SET: usize = 1;
 pub const PATH: usize = 2;
 pub const BOUND: usize = 3;
+
+/// Above every cost.
 pub const NONE: u32 = u32::MAX;
+
+/// A limit that every bound keeps, and NONE does not.
+pub const ANY: u32 = NONE - 1;
 
 pub struct Job<'a> {
     pub n: u32,
@@ -24,6 +32,21 @@ impl Job<'_> {
         self.rules & rule != 0
     }
 
+    /// The set of all stops.
+    pub fn all(&self) -> u32 {
+        (1 << self.n) - 1
+    }
+
+    /// The cost of an order of all stops.
+    pub fn cost(&self, order: &[u8]) -> u32 {
+        let (mut cost, mut place) = (0, 0);
+        for &s in order {
+            cost += self.leg(place, s as usize);
+            place = s as usize;
+        }
+        cost + self.leg(place, 0)
+    }
+
     #[inline(always)]
     fn leg(&self, from: usize, to: usize) -> u32 {
         // SAFETY: home is place 0, and no stop is above MOST_STOPS.
@@ -31,43 +54,56 @@ impl Job<'_> {
     }
 }
 
+/// A record that stands there: i is below the number of records.
 #[inline(always)]
-fn last(x: &Record) -> usize {
-    match x[SIZE] {
+pub fn at(records: &[Record], i: usize) -> &Record {
+    debug_assert!(i < records.len());
+    // SAFETY: every caller has an i below the number of records.
+    unsafe { records.get_unchecked(i) }
+}
+
+/// The first place from `from` on whose record passes the test, or the number of records; four records a turn.
+#[inline(always)]
+pub fn find(records: &[Record], from: usize, test: impl Fn(&Record) -> bool) -> usize {
+    let mut i = from;
+    while i + 4 <= records.len()
+        && !(test(at(records, i)) || test(at(records, i + 1)) || test(at(records, i + 2)) || test(at(records, i + 3)))
+    {
+        i += 4;
+    }
+    while i < records.len() && !test(at(records, i)) {
+        i += 1;
+    }
+    i
+}
+
+/// The order, four bits a stop, the first stop lowest.
+#[inline(always)]
+pub fn order(x: &Record) -> u64 {
+    x[4] as u64 | (x[5] as u64) << 32
+}
+
+/// The last stop of a node of this size, or home.
+#[inline(always)]
+pub fn last(x: &Record, size: u32) -> usize {
+    match size {
         0 => 0,
-        k if k <= 8 => ((x[4] >> (4 * (k - 1))) % 16 + 1) as usize,
-        k => ((x[5] >> (4 * (k - 9))) % 16 + 1) as usize,
+        k => (order(x) >> (4 * (k - 1))) as usize % 16 + 1,
     }
 }
 
-#[inline(always)]
-pub fn dominates(y: &Record, z: &Record) -> bool {
-    y[SET] == z[SET] && y[PATH] <= z[PATH] && last(y) == last(z) && (y[4] != z[4] || y[5] != z[5])
-}
-
-/// Whether one of the records with a bound up to `limit` dominates x.
-#[inline(always)]
-pub fn beaten(by: &[Record], x: &Record, limit: u32) -> bool {
-    for y in by {
-        if dominates(y, x) && y[BOUND] <= limit {
-            return true;
-        }
-    }
-    false
-}
-
-/// Which records can have the set of one of b's children: they are one larger, and their sets hold b's. Size and set
-/// are tested as one number.
+/// What is common to b's children: their size, and that their sets hold b's. Size and set are tested as one number.
 #[derive(Clone, Copy)]
 pub struct Kin {
     mask: u64,
     is: u64,
+    last: u32,
 }
 
 impl Kin {
     pub fn of(b: &Record) -> Kin {
         let set = (b[SET] as u64) << 32;
-        Kin { mask: set | NONE as u64, is: set | (b[SIZE] + 1) as u64 }
+        Kin { mask: set | NONE as u64, is: set | (b[SIZE] + 1) as u64, last: 4 * b[SIZE] }
     }
 
     #[inline(always)]
@@ -75,10 +111,35 @@ impl Kin {
         ((x[SET] as u64) << 32 | x[SIZE] as u64) & self.mask == self.is
     }
 
-    /// The set of the one stop that x, which is such a record, has beyond b's.
+    /// Whether one of y and z, a child and another node, dominates the other: where the sets are the same, so are the
+    /// sizes.
     #[inline(always)]
-    pub fn beyond(self, x: &Record) -> u32 {
-        x[SET] - (self.is >> 32) as u32
+    pub fn rivals(self, y: &Record, z: &Record) -> bool {
+        y[SET] == z[SET] && (order(y) ^ order(z)) >> self.last == 0 && order(y) != order(z)
+    }
+
+    /// Whether y dominates z.
+    #[inline(always)]
+    pub fn dominates(self, y: &Record, z: &Record) -> bool {
+        self.rivals(y, z) && y[PATH] <= z[PATH]
+    }
+
+    /// Whether one of the records with a bound up to `limit` dominates the child x.
+    #[inline(always)]
+    pub fn beaten(self, by: &[Record], x: &Record, limit: u32) -> bool {
+        for y in by {
+            if self.dominates(y, x) && y[BOUND] <= limit {
+                return true;
+            }
+        }
+        false
+    }
+
+    /// Whether a child by a stop of `alive` dominates x. Only the one by the stop that x has beyond b's can.
+    #[inline(always)]
+    pub fn displaced(self, x: &Record, kids: &Kids, alive: u32) -> bool {
+        let own = (x[SET] ^ (self.is >> 32) as u32) & alive;
+        own != 0 && self.dominates(at(kids, first(own) - 1), x)
     }
 }
 
@@ -103,6 +164,16 @@ impl Iterator for Stops {
     }
 }
 
+/// The stops of `alive` whose children pass the test.
+#[inline(always)]
+pub fn passing(kids: &Kids, alive: u32, test: impl Fn(&Record) -> bool) -> u32 {
+    let mut left = 0;
+    for s in Stops(alive) {
+        left |= (test(at(kids, s - 1)) as u32) << (s - 1);
+    }
+    left
+}
+
 /// The cheapest leg into `to` from one of some stops, or the largest number.
 #[inline(always)]
 fn cheapest(job: &Job, stops: u32, to: usize) -> u32 {
@@ -111,7 +182,7 @@ fn cheapest(job: &Job, stops: u32, to: usize) -> u32 {
 
 /// What the bound adds to the path cost of e.
 pub fn ahead(job: &Job) -> u32 {
-    let rest = (1u32 << job.n) - 1;
+    let rest = job.all();
     if job.bound == 0 {
         return 0;
     }
@@ -167,24 +238,19 @@ impl Family {
 }
 
 /// Writes each child of b to the slot of its stop and gives the set of these stops: all that b leaves.
-pub fn family(job: &Job, b: &Record, kids: &mut [Record; MOST_STOPS]) -> u32 {
-    let rest = (1u32 << job.n) - 1 - b[SET];
-    let place = last(b);
+pub fn family(job: &Job, b: &Record, kids: &mut Kids) -> u32 {
+    let rest = job.all() - b[SET];
+    let place = last(b, b[SIZE]);
     let family = Family::of(job, rest);
     for s in Stops(rest) {
-        let mut x = *b;
-        x[SET] |= 1 << (s - 1);
-        x[PATH] += job.leg(place, s);
-        let digit = (s as u32 - 1) << (4 * (b[SIZE] % 8));
-        if b[SIZE] < 8 {
-            x[4] |= digit;
-        } else {
-            x[5] |= digit;
-        }
-        x[SIZE] += 1;
-        x[BOUND] = x[PATH] + family.ahead(s);
+        let path = b[PATH] + job.leg(place, s);
+        let order = order(b) | (s as u64 - 1) << (4 * b[SIZE]);
+        let bound = path + family.ahead(s);
         // SAFETY: no stop is above MOST_STOPS.
-        unsafe { *kids.get_unchecked_mut(s - 1) = x };
+        unsafe {
+            *kids.get_unchecked_mut(s - 1) =
+                [b[SIZE] + 1, b[SET] | 1 << (s - 1), path, bound, order as u32, (order >> 32) as u32];
+        }
     }
     rest
 }
