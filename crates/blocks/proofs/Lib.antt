@@ -1,0 +1,3 @@
+pub mod KeepLaws
+pub mod FindLaws
+pub mod SelectLaws

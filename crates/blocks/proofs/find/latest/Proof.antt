@@ -1,0 +1,77 @@
+-- `latest` meets its contract: the last block with such a record, and the last one in it.
+use mathlib.Core.Path.{_≡_}
+use Prim.Native.Nat.{_+_, _*_, _/_, _^_, _%_, _≤_}
+use native.Mathlib.Omega.{arith}
+use borrow.Author.Needs.{needs}
+use Rattle.lanes.specs.Sizes.{blocks}
+use Rattle.blocks.proofs.FindLaws.{few-shifts, block-starts, block-of, in-block, last-in-last, below-lesser}
+use Rattle.blocks.proofs.find.latest.Statement.{statement}
+use Rattle.blocks.proofs.find.latest.Tie as tie
+
+-- the function's entry, seen from behind its calls
+abbrev entry : tie.After-blocks-of → tie.Start
+entry c = c .before .before .before
+
+few : (c : tie.After-blocks-of) → c .blocks-of .result ≤ blocks
+few c = c .blocks-of .ensures .1 (entry c .pre .0 .reach)
+
+last-block-requires : tie.Need-last-block-requires
+last-block-requires c κs =
+    let b = entry c .pre .0 in
+    let (i, (inside, low)) = entry c .pre .1 .1 .1 in (
+      omega (arith, few c, b .whole),
+      (i / 2 ^ entry c .args .shift, (c .blocks-of .ensures .0 i inside, omega (arith, block-of b i inside .1))),
+    )
+
+-- where the next block starts
+next : (c : tie.After-last-block) →
+    let s = entry (c .before) .args .shift in (c .last-block .result + 1) * 2 ^ s % 2 ^ 64 ≡ (c .last-block .result + 1) * 2 ^ s
+next c =
+    let a = entry (c .before) in
+    block-starts (c .last-block .result + 1) (a .args .shift) (a .pre .1 .0) (omega (arith, few (c .before), c .last-block .ensures .0))
+
+last-before-requires : tie.Need-last-before-requires
+last-before-requires c κs =
+    let start = entry (c .before .before) in
+    let s = start .args .shift in
+    let used = start .args .used in
+    let block = c .before .last-block in
+    let (i, (from, (end, (inside, low)))) =
+    in-block (start .pre .0) (start .args .limit) (block .result) (start .pre .1 .1 .0) (omega (arith, few (c .before .before), block .ensures .0))
+    (block .ensures .1 .0) in (
+      omega (arith, start .pre .0 .inside, c .lesser-place .ensures .1 .0),
+      (
+        i,
+        (
+          below-lesser ((block .result + 1) * 2 ^ s) used (c .lesser-place .result) i (rw (next (c .before)) at (c .lesser-place .ensures .1 .1 .0)) end inside,
+          low,
+        ),
+      ),
+    )
+
+returns : tie.Need-returns
+returns c =
+    let before = c .before .before in
+    let start = entry (before .before) in
+    let to = c .before .lesser-place in
+    last-in-last (start .pre .0) (start .args .limit) (before .before .blocks-of .result) (before .last-block .result) (to .result)
+    (c .last-before .result)
+    (before .before .blocks-of .ensures .0)
+    (before .last-block .ensures .1 .1)
+    (to .ensures .1 .0)
+    (rw (next before) at (to .ensures .1 .1 .0))
+    (c .last-before .ensures .0)
+    (c .last-before .ensures .1 .0)
+    (c .last-before .ensures .1 .1)
+
+pub latest-spec : {M : Type 1} → statement M
+latest-spec =
+    tie.close
+    (tie.spec
+    (λ c κs. search needs)
+    last-block-requires
+    (λ c. search needs)
+    (λ c. omega (arith, few-shifts (entry (c .before) .args .shift) (entry (c .before) .pre .1 .0)))
+    (λ c κs. search needs)
+    last-before-requires
+    returns)

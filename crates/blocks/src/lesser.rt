@@ -1,0 +1,23 @@
+// The lesser of two.
+ghost use mathlib.Core.Path.{_≡_};
+ghost use Prim.Native.Nat.{_≤_, _<_};
+
+// .. bounds.
+pub fn lesser(a: u32, b: u32) -> u32
+    ensures { λ r. ⌜ (r ≤ a) × ((r ≤ b) × ((r < a → r ≡ b) × (r < b → r ≡ a))) ⌝ }
+{
+    if b < a {
+        return b;
+    }
+    a
+}
+
+// .. places.
+pub fn lesser_place(a: usize, b: usize) -> usize
+    ensures { λ r. ⌜ (r ≤ a) × ((r ≤ b) × ((r < a → r ≡ b) × (r < b → r ≡ a))) ⌝ }
+{
+    if b < a {
+        return b;
+    }
+    a
+}
