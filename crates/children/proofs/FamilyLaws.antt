@@ -1,8 +1,11 @@
 -- What the code of `family` needs of a node's record, and of the loop that writes each child's record to its slot.
 --   rest-sum, restOf-left           the stops that it leaves, as a set that fits
---   born-slots, born-siblings, born-size    the children in their slots
+--   encoded-sized                   its size is the number of its set's stops
+--   children-encoded                its children are records of nodes too
+--   born-slots, born-encoded, born-slotted, born-size, born-sized, born-apart    the children in their slots
+--   sized-less                      some of them stand in their slots too
 --   Placing, placing-starts, placing-again    the invariant of the loop
-use mathlib.Core.Path.{_≡_, refl, ap, subst, _∙_}
+use mathlib.Core.Path.{_≡_, refl, ap, sym, subst, _∙_}
 use mathlib.Core.List.{List, map}
 use mathlib.Core.Logic.{_≢_}
 use Prim.Native.Nat.{ℕ, _+_, _-_, _^_, _≤_, _<_}
@@ -14,19 +17,22 @@ use lib.Seq.{getD-set-same, getD-set-other}
 use Rattle.sizes.specs.Sizes.{mostStops}
 use Rattle.lists.specs.Lists.{In}
 use Rattle.lists.proofs.Map.{map-same}
-use Rattle.orders.specs.Orders.{left}
+use Rattle.lists.proofs.Members.{in-map}
+use Rattle.orders.specs.Orders.{left, extend}
+use Rattle.orders.specs.Pairs.{ready}
+use Rattle.orders.proofs.Partial.{partial-extend}
 use Rattle.orders.proofs.Pairs.{in-ready}
 use Rattle.stops.specs.Code.{emptyRecord, extended, stopsIn, First}
 use Rattle.stops.specs.declared.node_record.Record.{Record}
 use Rattle.stops.proofs.SetBits.{stopsIn-range}
-use Rattle.stops.proofs.SetAnd.{stopsIn-added}
 use Rattle.stops.proofs.SetLoops.{Passed, passed-starts, passed-again}
-use Rattle.records.specs.Code.{encode, inSlot, slots}
-use Rattle.records.proofs.Mask.{mask-stops, rest-small, rest-left, ones-set}
-use Rattle.records.proofs.SlotLaws.{in-slots}
-use Rattle.rivals.specs.Code.{Siblings}
+use Rattle.records.specs.Code.{encode, inSlot, slots, Slotted}
+use Rattle.records.proofs.Mask.{mask-stops, rest-left, ones-set}
+use Rattle.records.proofs.SlotLaws.{slot-in, in-slots}
+use Rattle.chains.specs.Code.{Sized}
 use Rattle.children.specs.Code.{Table, Rows, Encoded, encodeOf, restOf, pairsBy, bounded, bornOf, childOf, childrenOf, Born}
 use Rattle.children.specs.declared.setting.Setting.{Setting}
+use Rattle.children.proofs.RecordRun.{encode-kid}
 
 module _ {d : Setting} {t : Table} {b : Record} (rows : Rows d t) (e : Encoded d t b) where
   -- the set, the stops left and 1 add up to 2 to the power n
@@ -40,10 +46,27 @@ module _ {d : Setting} {t : Table} {b : Record} (rows : Rows d t) (e : Encoded d
   unfolding restOf encodeOf encode
   restOf-left = rest-left (d .n) (rows .few) (e .node) (b .set) (ap (λ (r : Record). r .set) (e .same))
 
-  -- b's set, counted, is b's size, and each child has one stop more
-  one-more : ones (b .set) + 1 ≡ b .size + 1
+  -- b's set, counted, is b's size
+  pub encoded-sized : b .size ≡ ones (b .set)
   unfolding encodeOf encode
-  one-more = rw (e .same, ones-set (d .n) (rows .few) (e .node)) refl
+  encoded-sized = rw (e .same, ones-set (d .n) (rows .few) (e .node)) refl
+
+  -- b extended by a stop that it leaves is the record of a node too, and so is each of its children
+  child-encoded : (s : ℕ) → In s (stopsIn (restOf d b)) → Encoded d t (childOf d t b s)
+  child-encoded s i =
+      let m : In s (left (d .n) (e .node)) = rw restOf-left at i in
+      record {
+        node = extend (e .node) s;
+        partial = partial-extend (d .n) (e .node) s (e .partial) m;
+        same = ap (λ (r : Record). childOf d t r s) (e .same) ∙ encode-kid rows (e .node) (e .partial) s m;
+      }
+
+  pub children-encoded : (x : Record) → In x (childrenOf d t b) → Encoded d t x
+  unfolding childrenOf
+  children-encoded x i =
+      let next : List ℕ = ready (pairsBy d) (stopsIn (restOf d b)) in
+      let (s, m, same) = in-map (childOf d t b) next x i in
+      subst (Encoded d t) (sym same) (child-encoded s (in-ready (pairsBy d) (stopsIn (restOf d b)) s m .0))
 
   module _ {born : ℕ} {kids : List Record} (k : Born d t b born kids) where
     pub born-slots : slots born kids ≡ childrenOf d t b
@@ -51,24 +74,35 @@ module _ {d : Setting} {t : Table} {b : Record} (rows : Rows d t) (e : Encoded d
     born-slots =
         map-same (inSlot kids) (childOf d t b) (stopsIn born) (k .each) ∙ ap (map (childOf d t b)) (k .stops)
 
-    -- each has one stop more than b, and its set holds b's
-    pub born-siblings : (limit : ℕ) → Siblings (record { size = b .size + 1; base = b .set; limit = limit }) born kids
-    unfolding childOf bornOf bounded extended restOf
-    born-siblings limit = record {
-      slotted = record { small = k .small; room = k .room };
-      sizes = λ s i. ap (λ (x : Record). x .size) (k .each s i) ∙ one-more;
-      sets = λ s i. ap (λ (x : Record). x .set) (k .each s i);
-      holds = λ s i.
-          stopsIn-added (d .n) (b .set) (restOf d b) s (rest-sum .0) (rest-small (d .n) (rows .few) (b .set)) (left-by s i);
-    }
-      where
-        left-by : (s : ℕ) → In s (stopsIn born) → In s (stopsIn (restOf d b))
-        left-by s i = in-ready (pairsBy d) (stopsIn (restOf d b)) s (subst (λ (l : List ℕ). In s l) (k .stops) i) .0
+    pub born-encoded : (s : ℕ) → In s (stopsIn born) → Encoded d t (inSlot kids s)
+    born-encoded s i = children-encoded (inSlot kids s) (subst (λ (l : List Record). In (inSlot kids s) l) born-slots (slot-in kids born s i))
+
+    pub born-slotted : Slotted born kids
+    born-slotted = record { small = k .small; room = k .room }
 
     pub born-size : (x : Record) → In x (slots born kids) → x .size ≡ b .size + 1
+    unfolding childOf bornOf bounded extended
     born-size x i =
-        let (s, m, e) = in-slots kids born x i in
-        ap (λ (y : Record). y .size) e ∙ born-siblings 0 .sizes s m
+        let (s, m, same) = in-slots kids born x i in
+        let counted : x .size ≡ ones (b .set) + 1 = ap (λ (y : Record). y .size) (same ∙ k .each s m) in
+        omega (arith, counted, encoded-sized)
+
+    -- each has one stop more than b
+    pub born-apart : (s : ℕ) → In s (stopsIn born) → inSlot kids s .set ≢ b .set
+    unfolding childOf bornOf bounded extended
+    born-apart s i same =
+        let more : inSlot kids s .set ≡ b .set + 2 ^ (s - 1) = ap (λ (y : Record). y .set) (k .each s i) in
+        omega (arith, more, same, pow-pos (s - 1))
+
+module _ {d : Setting} {t : Table} {b : Record} (rows : Rows d t) (e : Encoded d t b) {born : ℕ} {kids : List Record} (k : Born d t b born kids) where
+  pub born-sized : Sized born kids
+  born-sized s i = encoded-sized rows (born-encoded rows e k s i)
+
+-- what holds of the children by the stops of a set holds of those by some of them
+pub sized-less :
+    {born alive : ℕ} {kids : List Record} → Slotted born kids × Sized born kids → alive < 2 ^ mostStops
+    → ((s : ℕ) → In s (stopsIn alive) → In s (stopsIn born)) → Slotted alive kids × Sized alive kids
+sized-less h small among = (record { small = small; room = h .0 .room }, λ s i. h .1 s (among s i))
 
 -- The children are written so: `left` has the stops to come, and the children by the others of `rest` stand in their slots.
 pub record Placing (f : ℕ → Record) (rest : ℕ) (kids : List Record) (left : ℕ) : Type 0 where

@@ -2,27 +2,33 @@
 --   Kid, kid-bears          one of the stops that a record leaves: its words have room for it, and 32 bits hold the child's bound
 --   kid-made                the record extended, with what the bound adds, is the child
 --   root-made               e with the bound of the set of all stops is the root's record
+--   encoded-live, born-live, children-live, root-live    no node's record has the bound of gone ones
+--   children-sized, root-sized    and each has the size of its set
 use mathlib.Core.Path.{_≡_, ap, ap₂, sym, subst, _∙_}
+use mathlib.Core.List.{List, []}
 use Prim.Native.Nat.{ℕ, _+_, _-_, _*_, _^_, _%_, _≤_, _<_}
 use native.Mathlib.Nat.{mul-le-mul-right}
 use native.Mathlib.Omega.{arith}
+use lib.Count.{ones}
 use lib.ListN.{length}
 use Rattle.sizes.specs.Sizes.{mostStops, dearest}
 use Rattle.lists.specs.Lists.{In}
 use Rattle.orders.specs.Orders.{left}
-use Rattle.orders.proofs.Partial.{partial-size}
+use Rattle.orders.proofs.Partial.{partial-root, partial-size}
 use Rattle.orders.proofs.Sets.{size-left}
 use Rattle.stops.specs.Stops.{dayOn}
 use Rattle.stops.specs.Code.{emptyRecord, Wide, lastStop, stopsIn, reckonOn}
 use Rattle.stops.specs.declared.node_record.Record.{Record}
 use Rattle.stops.proofs.SetBits.{stopsIn-few, all-small}
-use Rattle.stops.proofs.StopsWalk.{after-stop, further-small, path-small, ahead-small}
-use Rattle.records.specs.Code.{encode}
+use Rattle.stops.proofs.StopsWalk.{rows-walk, after-stop, further-small, path-small, ahead-small}
+use Rattle.records.specs.Code.{encode, inSlot}
 use Rattle.records.proofs.Mask.{rest-small}
 use Rattle.records.proofs.Encode.{encode-wide}
-use Rattle.children.specs.Code.{Table, Rows, Encoded, Bears, encodeOf, restOf, bounded, bornOf, childOf, rootOf}
+use Rattle.lanes.specs.Sizes.{gone}
+use Rattle.children.specs.Code.{Table, Rows, Encoded, Bears, Born, encodeOf, restOf, bounded, bornOf, childOf, childrenOf, rootOf}
 use Rattle.children.specs.declared.setting.Setting.{Setting}
-use Rattle.children.proofs.FamilyLaws.{restOf-left}
+use Rattle.children.proofs.RecordRun.{encode-root}
+use Rattle.children.proofs.FamilyLaws.{restOf-left, encoded-sized, children-encoded, born-encoded}
 
 -- the longest path: as many legs as there may be, each as dear as it may be
 abbrev longestPath : ℕ
@@ -45,6 +51,37 @@ module _ {d : Setting} {t : Table} (rows : Rows d t) where
   root-made x v e f =
       let all : 1 * 2 ^ d .n % 2 ^ 32 - 1 ≡ 2 ^ d .n - 1 = omega (arith, all-small (d .n) (rows .few)) in
       ap₂ bounded (f ∙ ap (λ (m : ℕ). reckonOn t .ahead (d .bound) 0 (stopsIn m)) all) e
+
+  -- a bound is at most the longest path and one leg more for each stop to come, and one home
+  pub encoded-live : {b : Record} → Encoded d t b → b .bound < gone
+  unfolding encodeOf encode
+  encoded-live {b} e =
+      let x = e .node in
+      let n = d .n in
+      let place = reckonOn t .place x in
+      let same : b .bound ≡ dayOn n t .path x + reckonOn t .ahead (d .bound) place (left n x) =
+      ap (λ (r : Record). r .bound) (e .same) ∙ rows-walk n t .bound-ahead (d .bound) (rows .bound) x in
+      let short : length (left n x) ≤ mostStops = omega (arith, size-left n x, rows .few) in
+      omega (arith, same, path-most e, ahead-small t (rows .cheap) mostStops (d .bound) place (left n x) short)
+
+  root-encoded : Encoded d t (rootOf d t)
+  root-encoded = record { node = []; partial = partial-root (d .n); same = encode-root rows }
+
+  pub root-live : rootOf d t .bound < gone
+  root-live = encoded-live root-encoded
+
+  pub root-sized : rootOf d t .size ≡ ones (rootOf d t .set)
+  root-sized = encoded-sized rows root-encoded
+
+  module _ {b : Record} (e : Encoded d t b) where
+    pub children-live : (x : Record) → In x (childrenOf d t b) → x .bound < gone
+    children-live x i = encoded-live (children-encoded rows e x i)
+
+    pub children-sized : (x : Record) → In x (childrenOf d t b) → x .size ≡ ones (x .set)
+    children-sized x i = encoded-sized rows (children-encoded rows e x i)
+
+    pub born-live : {born : ℕ} {kids : List Record} → Born d t b born kids → (s : ℕ) → In s (stopsIn born) → inSlot kids s .bound < gone
+    born-live k s i = encoded-live (born-encoded rows e k s i)
 
 -- s is one of the stops that b leaves, leg what flying there costs, and v what the bound adds to the child by s
 pub record Kid (d : Setting) (t : Table) (b : Record) (s leg v : ℕ) : Type 0 where

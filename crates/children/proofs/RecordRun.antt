@@ -58,7 +58,7 @@ module _ {d : Setting} {t : Table} (rows : Rows d t) where
       bound = rw (stopsIn-all n (rows .few), walk .bound-ahead k (rows .bound) [], walk .path-root, walk .place-root) (omega arith)
 
   module _ (x : Node) (p : Partial (d .n) x) where
-    encode-kid : (s : ℕ) → In s (left n x) → childOf d t (encodeOf d t x) s ≡ encodeOf d t (extend x s)
+    pub encode-kid : (s : ℕ) → In s (left n x) → childOf d t (encodeOf d t x) s ≡ encodeOf d t (extend x s)
     unfolding childOf bornOf restOf encodeOf bounded encode
     encode-kid s m =
         ap (λ (q : ℕ). bounded (D .path x + R .further q s + rest q) (extended (encode n D k x) s (R .further q s))) place

@@ -1,25 +1,29 @@
--- Laws of the passes of rules 1, 2 and 4 over the children in their slots. A pass keeps what passes its test if its rule is on
--- (`thinned-on`) and all if it is off (`thinned-off`). Two passes, by the records before i and by those behind i, are one by the records
--- without that at i (`thinned-around`); one by the records from some place to the end is one by the last ones (`thinned-far`); and three by
--- the rules are one by `survives` (`survivors-kept`).
-use mathlib.Core.Path.{_≡_, refl, sym}
-use mathlib.Core.Bool.{Bool, true, false, _&&_}
+-- Laws of the passes of rules 1, 2 and 4 over the children in their slots.
+--   thinned-on, thinned-off    a pass keeps what passes its test if its rule is on, and all if it is off
+--   thinned-active, thinned-far    one by a lane of the pool is one by the nodes that the lane shows
+--   limit-below, limit-same, limit-all    the limit of rule 1 is below the bound of gone records; for others it is U, or none where the rule is off
+--   survivors-kept             passes by the three rules are one by `survives`
+use mathlib.Core.Path.{_≡_, refl, sym, _∙_}
+use mathlib.Core.Bool.{Bool, true, false, cond}
 use mathlib.Core.List.{List}
-use Prim.Native.Nat.{ℕ, suc, _+_, _-_, _^_, _≤_, _<_}
-use native.Mathlib.Numerals.{add-one}
+use Prim.Native.Nat.{ℕ, _^_, _≤_, _<_}
 use native.Mathlib.Omega.{arith}
-use lib.ListN.{length, take, drop}
-use lib.Seq.{slice, take-all, take-take}
+use borrow.Author.Tests.{ltb-true, ltb-false, le-leb}
+use lib.Dec.{leb, ltb}
 use Rattle.sizes.specs.Sizes.{mostStops}
-use Rattle.lists.specs.Lists.{keep, dropAt}
+use Rattle.lists.specs.Lists.{keep}
 use Rattle.lists.proofs.Keep.{keep-all, keep-keep}
 use Rattle.search.specs.Step.{on}
 use Rattle.stops.specs.declared.node_record.Record.{Record}
 use Rattle.records.specs.Code.{Thinned}
-use Rattle.records.proofs.SlotLaws.{thinned-all, thinned-twice, thinned-same}
-use Rattle.rivals.specs.Code.{isFree}
-use Rattle.rivals.proofs.RivalLaws.{free-append}
-use Rattle.children.specs.Code.{othersIn, farIn, passing, survivorsOf, ruled, survives}
+use Rattle.records.proofs.SlotLaws.{thinned-all, thinned-same}
+use Rattle.lanes.specs.Sizes.{gone, everyBound}
+use Rattle.lanes.specs.Code.{isWithin, liveOf, farOf, laneOf}
+use Rattle.lanes.specs.declared.layout.Layout.{Layout}
+use Rattle.chains.specs.Code.{isFree}
+use Rattle.chains.proofs.LaneLaws.{free-front, free-far}
+use Rattle.pool.specs.Code.{Laid}
+use Rattle.children.specs.Code.{limitOf, passing, survivorsOf, ruled, survives}
 
 module _ {rule : Bool} where
   pub thinned-on :
@@ -29,24 +33,42 @@ module _ {rule : Bool} where
   pub thinned-off : (test : Record → Bool) {l : List Record} {m : ℕ} → rule ≡ false → m < 2 ^ mostStops → Thinned (ruled rule test) l m m
   thinned-off test {l} {m} e small = rw e (thinned-all (λ x. true) l m small (λ x i. tt))
 
-module _ (limit : ℕ) (recs : List Record) (a i : ℕ) (inside : i < a) where
-  free-around :
-      (x : Record)
-      → (isFree limit (slice 0 i recs) x && isFree limit (slice (i + 1) a recs) x) ≡ isFree limit (othersIn recs a i) x
-  unfolding dropAt
-  free-around x =
-      let h : i ≤ a = omega arith in
-      rw (take-take i a recs, add-one) (free-append limit (take i recs) (drop (suc i) (take a recs)) x)
+-- a pass by a lane of the pool is one by the nodes that the lane shows
+module _ {recs : List Record} {p : Layout} {index : List ℕ} (laid : Laid recs p index) {l : List Record} {m r : ℕ} where
+  pub thinned-active :
+      (limit : ℕ) → limit < gone → Thinned (isFree limit (laneOf recs 0 (p .used))) l m r → Thinned (isFree limit (liveOf (p .used) recs)) l m r
+  thinned-active limit below thinned =
+      thinned-same thinned (λ x i. free-front limit recs x below (p .used) (omega (arith, laid .whole, laid .fits)))
 
-  pub thinned-around :
-      {l : List Record} {m e r : ℕ} → Thinned (isFree limit (slice 0 i recs)) l m e → Thinned (isFree limit (slice (i + 1) a recs)) l e r
-      → Thinned (isFree limit (othersIn recs a i)) l m r
-  thinned-around before behind = thinned-same (thinned-twice before behind) (λ x j. free-around x)
+  pub thinned-far :
+      (limit : ℕ) → Thinned (isFree limit (laneOf recs (p .capacity) (p .far))) l m r → Thinned (isFree limit (farOf (p .far) recs)) l m r
+  thinned-far limit thinned =
+      thinned-same (rw (laid .whole) at thinned)
+      (λ x i. free-far limit recs x (p .far) (omega (arith, laid .whole, laid .some)) (omega (arith, laid .whole, laid .fits)))
 
-pub thinned-far :
-    (recs : List Record) (capacity far limit : ℕ) {l : List Record} {m r : ℕ} → capacity ≡ length recs
-    → Thinned (isFree limit (slice (capacity - far) capacity recs)) l m r → Thinned (isFree limit (farIn recs far)) l m r
-thinned-far recs capacity far limit e thinned = rw (take-all capacity recs (omega arith), e) at thinned
+-- the limit of rule 1 keeps what U keeps, and all where the rule is off; gone records are above it
+pub limit-below : (rule : Bool) (u : ℕ) → limitOf rule u < gone
+unfolding limitOf
+limit-below false u = omega arith
+limit-below true u = go (ltb everyBound u) refl
+  where
+    go : (b : Bool) → ltb everyBound u ≡ b → cond b everyBound u < gone
+    go true e = omega arith
+    go false e = let low : u ≤ everyBound = ltb-false everyBound u e in omega arith
+
+pub limit-same : (u : ℕ) (x : Record) → x .bound < gone → isWithin (limitOf true u) x ≡ isWithin u x
+unfolding limitOf isWithin
+limit-same u x live = go (ltb everyBound u) refl
+  where
+    go : (b : Bool) → ltb everyBound u ≡ b → leb (x .bound) (cond b everyBound u) ≡ leb (x .bound) u
+    go true e =
+        let high : everyBound < u = ltb-true everyBound u e in
+        le-leb (x .bound) everyBound (omega arith) ∙ sym (le-leb (x .bound) u (omega arith))
+    go false e = refl
+
+pub limit-all : (u : ℕ) (x : Record) → x .bound < gone → isWithin (limitOf false u) x ≡ true
+unfolding limitOf isWithin
+limit-all u x live = le-leb (x .bound) everyBound (omega arith)
 
 passing-keeps : (rule : Bool) (test : Record → Bool) (xs : List Record) → passing rule test xs ≡ keep (ruled rule test) xs
 passing-keeps true test xs = refl

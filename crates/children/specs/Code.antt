@@ -10,17 +10,17 @@
 --   Encoded                           a record is that of a node
 --   Born                              the children of a record, each in the slot of its stop
 --   IsBest, Learnt                    what stands for U and its order, and for them after some children
---   othersIn, farIn, Spotted          where the active records stand, the one that is branched and those branched before
+--   limitOf                           the limit of rule 1
 --   survivorsOf, survives             what rules 1, 2 and 4 leave of the children, pass by pass and by one test
 use mathlib.Core.Path.{_≡_}
-use mathlib.Core.Bool.{Bool, true, false, not, _&&_, _||_}
+use mathlib.Core.Bool.{Bool, true, false, not, cond, _&&_, _||_}
 use mathlib.Core.List.{List, map}
 use mathlib.Core.Option.{Option, none, some}
 use Prim.Native.Nat.{ℕ, _+_, _-_, _^_, _≤_, _<_}
-use lib.Dec.{eqb}
-use lib.ListN.{length, take, drop}
+use lib.Dec.{eqb, ltb}
+use lib.ListN.{length}
 use Rattle.sizes.specs.Sizes.{mostStops, aboveEveryCost, noLimit}
-use Rattle.lists.specs.Lists.{In, keep, dropAt}
+use Rattle.lists.specs.Lists.{In, keep}
 use Rattle.search.specs.Problem.{Problem, Choices}
 use Rattle.search.specs.Step.{on, learn}
 use Rattle.orders.specs.Orders.{Node, Partial}
@@ -31,13 +31,13 @@ use Rattle.stops.specs.Code.{emptyRecord, Wide, extended, lastStop, recDominate
 use Rattle.stops.specs.declared.node_record.Record.{Record}
 use Rattle.pairs.specs.Code.{precedenceOf, pairsIn}
 use Rattle.records.specs.Code.{encode, inSlot}
-use Rattle.passes.specs.Code.{isWithin}
-use Rattle.rivals.specs.Code.{isFree}
+use Rattle.lanes.specs.Sizes.{everyBound}
+use Rattle.lanes.specs.Code.{isWithin}
+use Rattle.chains.specs.Code.{isFree}
 use Rattle.answer.specs.Call.{Call}
 use Rattle.answer.specs.declared.Job.{Job}
 use Rattle.children.specs.declared.best.Best.{Best}
 use Rattle.children.specs.declared.setting.Setting.{Setting}
-use Rattle.children.specs.declared.spot.Spot.{Spot}
 
 abbrev pub Table : Type 0
 Table = List (List ℕ)
@@ -136,19 +136,9 @@ IsBest b (some x) = (b .upper ≡ x .bound) × (b .first ≡ x .first) × (b .se
 abbrev pub Learnt : Setting → Best → List Record → Best → Type 0
 Learnt d a xs b = (t : Table) (o : Option Record) → IsBest a o → IsBest b (learn (recProblem d t) o xs)
 
--- of the pool's records the first are active, and the last were branched before; the one at i is branched now
-abbrev pub othersIn : List Record → ℕ → ℕ → List Record
-othersIn recs active i = dropAt i (take active recs)
-
-abbrev pub farIn : List Record → ℕ → List Record
-farIn recs far = drop (length recs - far) recs
-
--- a spot in the pool's records
-pub record Spotted (recs : List Record) (p : Spot) : Type 0 where
-  pub whole : p .capacity ≡ length recs
-  pub inside : p .at < p .active
-  pub front : p .active ≤ length recs
-  pub back : p .far ≤ length recs
+-- the limit of rule 1: U, or any where the rule is off or no order is known; below the bound of gone records
+unfoldable pub limitOf : Bool → ℕ → ℕ
+limitOf rule upper = cond rule (cond (ltb everyBound upper) everyBound upper) everyBound
 
 -- a rule's pass, if the rule is on
 abbrev pub passing : Bool → (Record → Bool) → List Record → List Record

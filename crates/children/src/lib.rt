@@ -5,5 +5,4 @@ pub mod best;
 pub mod family;
 pub mod rules;
 pub mod setting;
-pub mod spot;
 pub mod survivors;

@@ -12,7 +12,7 @@ use mathlib.Core.Option.{Option, none, some, Option·map}
 use Prim.Native.Nat.{ℕ, _+_, _-_, _/_}
 use native.Mathlib.Omega.{arith}
 use borrow.Author.Tests.{eq-eqb, ne-eqb}
-use lib.ListN.{length, take, replicate, length-map, length-append, length-reverse}
+use lib.ListN.{length, replicate, length-map, length-append, length-reverse}
 use Rattle.sizes.specs.Sizes.{orderPlaces, recordWords, aboveEveryCost}
 use Rattle.lists.specs.Lists.{padded, least}
 use Rattle.lists.proofs.Map.{least-map}
@@ -27,7 +27,7 @@ use Rattle.stops.specs.Code.{emptyRecord}
 use Rattle.stops.specs.declared.node_record.Record.{Record}
 use Rattle.records.specs.Records.{recordsIn}
 use Rattle.records.specs.Code.{records}
-use Rattle.records.proofs.ViewLaws.{length-records}
+use Rattle.records.proofs.ViewLaws.{length-records, same-records}
 use Rattle.records.proofs.OrderStops.{order-stops}
 use Rattle.answer.specs.Call.{Call}
 use Rattle.answer.specs.declared.Report.{Report}
@@ -38,35 +38,36 @@ use Rattle.answer.proofs.Instance.{overflow-outcome, halt-outcome, finish-outco
 use Rattle.answer.proofs.Ending.{Finished}
 use Rattle.answer.proofs.Known.{BestKnown, unknown, known, best-known}
 use Rattle.answer.proofs.Demand3.{Solved, solved}
+use Rattle.lanes.specs.declared.layout.Layout.{Layout}
 use Rattle.children.specs.Code.{Table, settingOf, choicesOf as settingChoices, encodeOf, IsBest}
 use Rattle.children.specs.declared.setting.Setting.{Setting}
 use Rattle.children.proofs.SettingLaws.{call-rows, call-problem, call-choices, call-starts, call-words, order-words, encode-bound}
-use Rattle.step.specs.Code.{farOf, Shown}
+use Rattle.step.specs.Code.{heldOf, activeIn, Shown}
 use Rattle.step.specs.declared.Run.{Run}
-use Rattle.step.proofs.ExpandLaws.{same-records}
-use Rattle.planner.specs.Code.{Begins, Told, Ran, Ended, recordsOf, nextOf, reported, placesOf, finishedBy, stoppedBy, fullBy}
+use Rattle.planner.specs.Code.{layoutOf, Begins, Told, Ran, Ended, recordsOf, nextOf, reported, placesOf, finishedBy, stoppedBy, fullBy}
 
 pub call-begins :
     (c : Call) → Passes c → {t : Table} → t ≡ rows (c .job .n) (endsAway (c .job .bound)) (c .table)
-    → Begins (settingOf c) t (c .start) (c .pool)
+    → {p : Layout} → p ≡ layoutOf (settingOf c) (recordsIn (c .pool)) → Begins (settingOf c) t (c .start) (c .pool) p
 unfolding recordsIn
-call-begins c ok e = record {
+call-begins c ok e empty = record {
   rows = call-rows c e ok;
   selects = ok .selection;
   starts = call-starts c e ok;
   room = omega (arith, length-records (c .pool), ok .pool);
+  empty = empty ∙ ap (layoutOf (settingOf c)) (sym (length-records (c .pool)));
 }
 
 -- active and far records are those of the nodes to keep
 module _ {N : Type 0} (f : N → Record) (active branched : List N) where
   held-records :
       (b : Bool) (behind : List Record)
-      → map f active ++ (reverse (farOf b (map f branched)) ++ behind) ≡ map f (withBranched b active branched) ++ behind
+      → map f active ++ (reverse (heldOf b (map f branched)) ++ behind) ≡ map f (withBranched b active branched) ++ behind
   held-records true behind =
       rw (reverse-reverse (map f branched), map-append f active branched) (sym (append-assoc (map f active) (map f branched) behind))
   held-records false behind = refl
 
-  held-count : (b : Bool) → length (map f active) + length (farOf b (map f branched)) ≡ length (withBranched b active branched)
+  held-count : (b : Bool) → length (map f active) + length (heldOf b (map f branched)) ≡ length (withBranched b active branched)
   held-count true =
       omega (arith, length-map active f, length-map branched f, length-reverse (map f branched), length-append active branched)
   held-count false = omega (arith, length-map active f)
@@ -97,7 +98,7 @@ module _
     abbrev f : Node → Record
     f = encodeOf (settingOf c) t
 
-    abbrev shown : Shown (settingOf c) w r (recordsOf (settingOf c) t s)
+    abbrev shown : Shown (settingOf c) w (here .index) r (recordsOf (settingOf c) t s)
     shown = here .running .shows
 
     capacity-same : length (records w) ≡ recordsIn (c .pool)
@@ -123,14 +124,15 @@ module _
         long : length w₂ ≡ length (c .pool)
         long = here .settled .kept ∙ here .long
 
-        free : recordsIn (c .pool) - (r .active + r .far) ≡ length (records w₂) - length (held (c .job .rules) s)
+        free :
+            recordsIn (c .pool) - (length (activeIn w r) + r .layout .far) ≡ length (records w₂) - length (held (c .job .rules) s)
         free =
             omega (
               arith,
               capacity-same,
               same-records w w₂ (here .settled .kept),
               held-count f (s .active) (s .branched) (on 4 (c .job .rules)),
-              shown .active-count,
+              ap length (shown .active),
               shown .far-count,
             )
 
@@ -138,7 +140,7 @@ module _
             records w₂ ≡ map f (held (c .job .rules) s) ++ replicate (length (records w₂) - length (held (c .job .rules) s)) emptyRecord
         layout =
             here .settled .layout
-            ∙ rw (free, ← capacity-same, shown .active, shown .far)
+            ∙ rw (free, shown .active, shown .far)
             (held-records f (s .active) (s .branched) (on 4 (c .job .rules))
             (replicate (length (records w₂) - length (held (c .job .rules) s)) emptyRecord))
 
@@ -202,7 +204,7 @@ module _
 
     -- the least bound among the active records is the floor
     abbrev floor : ℕ
-    floor = least (λ (x : Record). x .bound) (take (r .active) (records w))
+    floor = least (λ (x : Record). x .bound) (activeIn w r)
 
     floor-said : floor ≡ floorOf c s
     unfolding floorOf recordsOf

@@ -1,21 +1,20 @@
 -- One turn of a run that goes on (`Running`): what comes next of its state is told by the records in the pool.
---   turn-chooses, turn-loads, turn-ready    what `choose`, `load` and `step` require
+--   turn-chooses, turn-loads, turn-ready    what `choose`, `sized_at` and `step` require; turn-counts: some place has an active node
 --   turn-finishes, turn-stops, turn-full, turn-goes    each of the turn's answers is what comes next of the state
--- P and C are the problem and the choices of the run, Q and D the same on records, and S the state that the pool shows.
+-- b is the node that the selection picks, and rest are the other active ones. P and C are the problem and the choices of the run, Q and D
+-- the same on records, and S the state that the pool shows.
 use mathlib.Core.Path.{_≡_, refl, sym, _∙_, ap, subst}
 use mathlib.Core.Bool.{Bool, true, false, not, _&&_, _||_}
 use mathlib.Core.List.{List, [], _∷_, map}
 use mathlib.Core.Logic.{_≢_}
 use mathlib.Core.Option.{Option·map}
-use Prim.Native.Nat.{ℕ, suc, _+_, _^_, _≤_, _<_}
+use Prim.Native.Nat.{ℕ, suc, _+_, _*_, _^_, _≤_, _<_}
 use native.Mathlib.Omega.{arith}
 use lib.Dec.{T, leb, ltb, eqb}
-use lib.ListN.{length, getD, take, length-map}
-use lib.Seq.{getD-take}
+use lib.ListN.{length, length-map}
 use borrow.Author.Tests.{eq-eqb, ne-eqb, eqb-false, lt-ltb, le-ltb}
-use Rattle.lists.proofs.Parts.{dropped-length, in-getD}
 use Rattle.sizes.specs.Sizes.{mostStops}
-use Rattle.lists.specs.Lists.{In, dropAt}
+use Rattle.lists.specs.Lists.{In}
 use Rattle.lists.proofs.Members.{in-map}
 use Rattle.lists.proofs.Empty.{in-nonempty}
 use Rattle.lists.proofs.Tests.{both-false}
@@ -32,9 +31,11 @@ use Rattle.search.proofs.Mapped.{Maps, mapState, mapNext, ValidState, upper-map
 use Rattle.search.proofs.MappedRun.{next-maps, steps-valid, start-valid}
 use Rattle.orders.specs.Orders.{Node, Partial, size, nodes}
 use Rattle.orders.proofs.Tree.{nodes-rise}
-use Rattle.stops.specs.Code.{emptyRecord}
 use Rattle.stops.specs.declared.node_record.Record.{Record}
 use Rattle.records.specs.Code.{records}
+use Rattle.lanes.specs.Sizes.{blocks}
+use Rattle.lanes.proofs.LiveLaws.{in-live, others-few}
+use Rattle.blocks.specs.Code.{Blocked}
 use Rattle.selection.specs.Code.{Chosen}
 use Rattle.answer.specs.Answer.{given}
 use Rattle.children.specs.Code.{Table, problemOf, choicesOf, encodeOf, recProblem, recChoices, Encoded}
@@ -42,7 +43,7 @@ use Rattle.children.specs.declared.setting.Setting.{Setting}
 use Rattle.children.proofs.BestLaws.{upper-best}
 use Rattle.children.proofs.RecordRun.{record-maps}
 use Rattle.children.proofs.SettingLaws.{setting-lawful, setting-bounds, setting-solvable, setting-counts, choice-selection, choice-rules, given-known, given-valid, encode-size}
-use Rattle.step.specs.Code.{Ready, Shown, stepOf, Stepping}
+use Rattle.step.specs.Code.{Ready, Shown, heldOf, activeIn, nodeAt, restAt, stepOf, Stepping}
 use Rattle.step.specs.declared.Run.{Run}
 use Rattle.step.specs.declared.After.the-variants.{Full as FullAfter, Go as GoAfter}
 use Rattle.planner.specs.Code.{recordsOf, Running, Turned}
@@ -81,7 +82,7 @@ alone [] m e = sym (eq-eqb m 1 e)
 alone (x ∷ xs) m e = sym (ne-eqb m 1 (λ h. omega arith))
 
 module _
-    {d : Setting} {t : Table} {first w : List ℕ} {r : Run} {s : State Node} (running : Running d t first w r s)
+    {d : Setting} {t : Table} {first w index : List ℕ} {r : Run} {s : State Node} (running : Running d t first w index r s)
   where
     abbrev P : Problem Node
     P = problemOf d t
@@ -104,9 +105,12 @@ module _
     abbrev capacity : ℕ
     capacity = length (records w)
 
-    -- the active records
+    -- the active nodes
     abbrev actives : List Record
-    actives = take (r .active) (records w)
+    actives = activeIn w r
+
+    abbrev used : ℕ
+    used = r .layout .used
 
     maps : Maps f (Partial (d .n)) P Q C D
     maps = record-maps (running .rows)
@@ -114,19 +118,33 @@ module _
     valid : ValidState (Partial (d .n)) P s
     valid = steps-valid maps capacity (running .steps) (start-valid maps (given first) (given-valid d t first (running .starts)))
 
+    used-inside : used ≤ length (records w)
+    used-inside = omega (arith, running .shows .laid .fits, running .shows .laid .whole)
+
+    count-same : r .layout .active ≡ length actives
+    count-same = running .shows .active-count ∙ ap length (sym (running .shows .active))
+
     -- some node is active: one that leads to an order as cheap as U
-    pub turn-chooses : (0 < r .active) × (r .active ≤ length (records w))
+    some-active : 0 < length actives
     unfolding recordsOf
-    turn-chooses =
+    some-active =
         let (x, m) =
         active-some (tree P) (planOf P C) (cutOf C) capacity (size (d .n)) (d .n) (setting-lawful (running .rows))
         (setting-bounds (running .rows)) (given first) (given-known (running .rows) first (running .starts))
         (setting-solvable (running .rows)) s
         (steps-reached P C capacity (rw (choice-selection d t) (running .selects)) (running .steps)) in
-        let h : r .active ≡ length (map f (s .active)) = running .shows .active-count in
-        omega (arith, length-map (s .active) f, in-nonempty m, running .shows .fits)
+        let h : length actives ≡ length (map f (s .active)) = ap length (running .shows .active) in
+        omega (arith, length-map (s .active) f, in-nonempty m)
 
-    -- an active record is a node's
+    pub turn-counts : (used ≤ length (records w)) × (0 < length actives)
+    turn-counts = (used-inside, some-active)
+
+    pub turn-chooses :
+        ((used ≤ length (records w)) × (0 < length actives))
+        × (d .selection < 3 → Blocked (records w) used (2 ^ r .layout .shift) index × (blocks * 2 ^ r .layout .shift < 2 ^ 62))
+    turn-chooses = (turn-counts, λ h. let ranked = running .shows .laid .ranks (running .shows .ranks h) in (ranked .minima, ranked .reach))
+
+    -- an active one is a node's record
     shown-node : (x : Record) → In x actives → (y : Node) × In y (s .active) × (x ≡ f y)
     unfolding recordsOf
     shown-node x m = in-map f (s .active) x (subst (λ (xs : List Record). In x xs) (running .shows .active) m)
@@ -164,101 +182,100 @@ module _
     unfolding recordsOf
     next-shown = next-maps maps capacity s valid
 
-    module _ {i : ℕ} (picked : Chosen (d .n) (take (r .active) (records w)) (d .selection) i) where
-      chosen-inside : i < r .active
-      chosen-inside = omega (arith, picked .inside, ap length (running .shows .active), running .shows .active-count)
-
+    module _ {i : ℕ} (picked : Chosen (d .n) (records w) (r .layout .used) (d .selection) i) where
       pub turn-loads : i < length (records w)
-      turn-loads = omega (arith, chosen-inside, turn-chooses)
+      turn-loads = omega (arith, picked .inside, used-inside)
 
-      module _ {b : Record} (at : b ≡ getD (records w) i emptyRecord) where
-        chosen-at : getD actives i emptyRecord ≡ b
-        chosen-at = getD-take (r .active) (records w) i emptyRecord chosen-inside ∙ sym at
+      abbrev b : Record
+      b = nodeAt w i
 
-        chosen-encoded : Encoded d t b
-        chosen-encoded =
-            let (x, m, e) =
-            shown-node b
-            (subst (λ (x : Record). In x actives) chosen-at
-            (in-getD actives i emptyRecord (picked .inside))) in
-            record { node = x; partial = valid .active x m; same = e }
+      abbrev rest : List Record
+      rest = restAt w r i
 
-        chosen-small : b .size ≤ d .n
-        chosen-small =
-            let x = chosen-encoded .node in
-            let e : b .size ≡ size (d .n) x = ap (λ (y : Record). y .size) (chosen-encoded .same) ∙ encode-size d t x in
-            omega (arith, setting-lawful (running .rows) .sized .small x)
+      chosen-encoded : Encoded d t b
+      chosen-encoded =
+          let (x, m, e) = shown-node b (in-live (records w) used used-inside i (picked .inside) (picked .live)) in
+          record { node = x; partial = valid .active x m; same = e }
 
-        -- What comes next of the records: the selection, the finish test, the budget and the step, one after the other.
-        shown-selects : select Q D (S .active) ≡ chosen b (dropAt i (S .active))
-        unfolding select recProblem recChoices
-        shown-selects =
-            subst (λ (xs : List Record). selectBy Q (λ x. x .bound) (d .selection) xs ≡ chosen b (dropAt i xs)) (running .shows .active)
-            (picked .picks Q (λ x. refl) ∙ ap (λ (x : Record). chosen x (dropAt i actives)) chosen-at)
+      chosen-small : b .size ≤ d .n
+      chosen-small =
+          let x = chosen-encoded .node in
+          let e : b .size ≡ size (d .n) x = ap (λ (y : Record). y .size) (chosen-encoded .same) ∙ encode-size d t x in
+          omega (arith, setting-lawful (running .rows) .sized .small x)
 
-        -- the finish test of the code, as far as it looks at the bound, and whole
-        abbrev dear : Bool
-        dear = leb (r .best .upper) (b .bound) && (not (eqb (d .selection) 2 || eqb (d .selection) 3) || eqb (r .active) 1)
+      -- What comes next of the records: the selection, the finish test, the budget and the step, one after the other.
+      shown-selects : select Q D (S .active) ≡ chosen b rest
+      unfolding select recProblem recChoices
+      shown-selects =
+          subst (λ (xs : List Record). selectBy Q (λ x. x .bound) (d .selection) xs ≡ chosen b rest) (running .shows .active)
+          (picked .picks Q (λ x. refl))
 
-        abbrev ends : Bool
-        ends = dear || eqb (b .size) (d .n)
+      -- the finish test of the code on a record, as far as it looks at the bound, and whole
+      abbrev dear : Record → Bool
+      dear x = leb (r .best .upper) (x .bound) && (not (eqb (d .selection) 2 || eqb (d .selection) 3) || eqb (r .layout .active) 1)
 
-        shown-finishes : finishes Q D (S .best) b (dropAt i (S .active)) ≡ ends
-        unfolding finishes recProblem recChoices
-        shown-finishes =
-            rw (
-              upper-best d t (r .best) (S .best) (running .shows .best),
-              alone (dropAt i (S .active)) (r .active)
-                  (omega (
-                    arith,
-                    running .shows .active-count,
-                    chosen-inside,
-                    dropped-length i (S .active) (omega (arith, running .shows .active-count, chosen-inside)),
-                  )),
-            )
+      abbrev ends : Record → Bool
+      ends x = dear x || eqb (x .size) (d .n)
 
-        shown-next : next Q D capacity S ≡ unless ends (ifAllowed (ltb (r .branched) (d .budget)) (fitting Q D capacity (stepOf d t i b S)))
-        unfolding next decide stepOf recChoices
-        shown-next = rw (shown-selects, shown-finishes, running .shows .branched)
+      shown-finishes : finishes Q D (S .best) b rest ≡ ends b
+      unfolding finishes recProblem recChoices
+      shown-finishes =
+          rw (
+            upper-best d t (r .best) (S .best) (running .shows .best),
+            alone rest (r .layout .active)
+                (count-same ∙ sym (others-few (records w) used used-inside i (picked .inside) (picked .live))),
+          )
 
-        -- The four answers, by the finish test's result, the budget and what the step gave.
-        module _ {q : Bool} (tested : q ≡ ends) where
-          pub turn-finishes : q ≡ true → Turned d t w w s Finish
-          turn-finishes e = (unmap-finish f _ (sym next-shown ∙ shown-next ∙ rw (← tested, e)), refl)
+      shown-next : next Q D capacity S ≡ unless (ends b) (ifAllowed (ltb (r .branched) (d .budget)) (fitting Q D capacity (stepOf d t b rest S)))
+      unfolding next decide stepOf recChoices
+      shown-next = rw (shown-selects, shown-finishes, running .shows .branched)
 
-          module _ (goes : q ≡ false) where
-            goes-on : ends ≡ false
-            goes-on = sym tested ∙ goes
+      -- The four answers, by the finish test's result on the record that was loaded, the budget and what the step gave.
+      module _ {x : Record} (at : x ≡ nodeAt w i) {q : Bool} (tested : q ≡ ends x) where
+        tests : ends b ≡ q
+        tests = ap ends (sym at) ∙ sym tested
 
-            pub turn-stops : d .budget ≤ r .branched → Turned d t w w s Stop
-            turn-stops spent = (unmap-halt f _ (sym next-shown ∙ shown-next ∙ rw (goes-on, le-ltb (r .branched) (d .budget) spent)), refl)
+        pub turn-finishes : q ≡ true → Turned d t w w index s Finish
+        turn-finishes e = (unmap-finish f _ (sym next-shown ∙ shown-next ∙ rw (tests, e)), refl)
 
-            pub turn-ready : Ready d t w i b r
-            turn-ready = record {
-              rows = running .rows;
-              inside = chosen-inside;
-              fits = running .shows .fits;
-              at = at;
-              encoded = chosen-encoded;
-              partial =
-                  let unlike : b .size ≢ d .n = eqb-false (b .size) (d .n) (both-false dear (eqb (b .size) (d .n)) goes-on .1) in
-                  omega (arith, chosen-small);
-              tidy = shown-tidy;
-              room = shown-room;
-            }
+        module _ (goes : q ≡ false) where
+          goes-on : ends b ≡ false
+          goes-on = tests ∙ goes
 
-            module _ (allowed : r .branched < d .budget) where
-              put-to-pool : next Q D capacity S ≡ fitting Q D capacity (stepOf d t i b S)
-              put-to-pool = shown-next ∙ rw (goes-on, lt-ltb (r .branched) (d .budget) allowed)
+          pub turn-stops : d .budget ≤ r .branched → Turned d t w w index s Stop
+          turn-stops spent = (unmap-halt f _ (sym next-shown ∙ shown-next ∙ rw (goes-on, le-ltb (r .branched) (d .budget) spent)), refl)
 
-              pub turn-full : {w′ : List ℕ} → Stepping d t i b w w′ (recordsOf d t s) FullAfter → Turned d t w w′ s Full
-              unfolding fitting recChoices
-              turn-full (over, same) = (unmap-overflow f _ (sym next-shown ∙ put-to-pool ∙ rw (lt-ltb _ _ over)), same)
+          pub turn-ready : Ready d t w index i r
+          turn-ready = record {
+            rows = running .rows;
+            laid = running .shows .laid;
+            counted = count-same;
+            inside = picked .inside;
+            live = picked .live;
+            encoded = chosen-encoded;
+            partial =
+                let unlike : b .size ≢ d .n = eqb-false (b .size) (d .n) (both-false (dear b) (eqb (b .size) (d .n)) goes-on .1) in
+                omega (arith, chosen-small);
+            tidy = shown-tidy;
+            unheld = λ off.
+                running .shows .far-count ∙ ap (λ (rule : Bool). length (heldOf rule (S .branched))) off;
+            room = shown-room;
+          }
 
-              pub turn-goes :
-                  {w′ : List ℕ} {r′ : Run} → Stepping d t i b w w′ (recordsOf d t s) (GoAfter r′) → Turned d t w w′ s (Go r′)
-              unfolding fitting recChoices recordsOf
-              turn-goes {w′} {r′} (fits, shown) =
-                  let (s′, e, same) =
-                  unmap-go f (next P C capacity s) (stepOf d t i b S) (sym next-shown ∙ put-to-pool ∙ rw (le-ltb _ _ fits)) in
-                  (s′, e, subst (Shown d w′ r′) (sym same) shown)
+          module _ (allowed : r .branched < d .budget) where
+            put-to-pool : next Q D capacity S ≡ fitting Q D capacity (stepOf d t b rest S)
+            put-to-pool = shown-next ∙ rw (goes-on, lt-ltb (r .branched) (d .budget) allowed)
+
+            pub turn-full :
+                {w′ : List ℕ} → Stepping d t (nodeAt w i) (restAt w r i) w w′ index (recordsOf d t s) FullAfter → Turned d t w w′ index s Full
+            unfolding fitting recChoices
+            turn-full (over, same) = (unmap-overflow f _ (sym next-shown ∙ put-to-pool ∙ rw (lt-ltb _ _ over)), same)
+
+            pub turn-goes :
+                {w′ index′ : List ℕ} {r′ : Run} → Stepping d t (nodeAt w i) (restAt w r i) w w′ index′ (recordsOf d t s) (GoAfter r′)
+                → Turned d t w w′ index′ s (Go r′)
+            unfolding fitting recChoices recordsOf
+            turn-goes {w′} {index′} {r′} (fits, shown) =
+                let (s′, e, same) =
+                unmap-go f (next P C capacity s) (stepOf d t b rest S) (sym next-shown ∙ put-to-pool ∙ rw (le-ltb _ _ fits)) in
+                (s′, e, subst (Shown d w′ index′ r′) (sym same) shown)

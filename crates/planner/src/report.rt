@@ -32,6 +32,7 @@ pub fn refused(number: u32) -> Report
 fn ended(number: u32, mark: u32, cost: u32, floor: u32, order: [u8; ORDER_PLACES], r: Run) -> Report
     ensures { λ q. ⌜ q ≡ reported number mark cost floor order r ⌝ }
 {
+    let p = r.layout;
     Report {
         number: number,
         mark: mark,
@@ -41,7 +42,7 @@ fn ended(number: u32, mark: u32, cost: u32, floor: u32, order: [u8; ORDER_PLACES
         branched: r.branched,
         generated: r.generated,
         eliminated: r.eliminated,
-        active: r.active as u64,
+        active: p.active as u64,
         most: r.most,
     }
 }

@@ -1,4 +1,4 @@
-// The pool's records written into a lent part, taken out, and settled when a call returns; what the functions promise speaks of lists of
-// records and not of where they lie. They are public for the crates above and not for hosts; what they require, those crates meet.
-pub mod part;
+// The pool and its index while a call works (specs/Code), and the pool settled when the call returns. The functions are public for the crates above and not
+// for hosts; what they require, those crates meet.
+pub mod rank;
 pub mod settle;

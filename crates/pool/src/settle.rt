@@ -6,8 +6,12 @@ ghost use Prim.Native.Nat.{_+_, _-_, _≤_};
 ghost use lib.ListN.{length, take, drop, replicate};
 ghost use lib.Seq.{slice};
 ghost use Rattle.stops.specs.Code.{emptyRecord};
-ghost use Rattle.records.specs.Code.{records};
-use passes::slide;
+ghost use Rattle.records.specs.Code.{records, Sifted, always};
+ghost use Rattle.lanes.specs.Code.{liveOf, farOf};
+use lanes::constants::EVERY_BOUND;
+use lanes::layout::Layout;
+use lanes::squeeze::resize;
+use lanes::squeeze::squeeze;
 use records::load;
 use records::store;
 use stops::node_record::Record;
@@ -29,6 +33,25 @@ fn turn(w: &mut [u32], from: usize, to: usize)
     }
 }
 
+// Moves the records from `from` to `to` to `at` and behind it.
+fn slide(w: &mut [u32], from: usize, to: usize, at: usize) -> usize
+    requires { ⌜ (at ≤ from) × ((from ≤ to) × (to ≤ length (records (now w)))) ⌝ }
+    ensures { λ e. ⌜ Sifted always (records (now (w .entry))) from to at (records (now (w .exit))) e ⌝ }
+{
+    if at == from {
+        return to;
+    }
+    let mut next = at;
+    let mut i = from;
+    while i < to {
+        let x = load(w, i);
+        store(w, next, x);
+        next += 1;
+        i += 1;
+    }
+    next
+}
+
 // Clears the records from `from` on.
 fn clear(w: &mut [u32], capacity: usize, from: usize)
     requires { ⌜ (capacity ≡ length (records (now w))) × (from ≤ capacity) ⌝ }
@@ -41,8 +64,8 @@ fn clear(w: &mut [u32], capacity: usize, from: usize)
     }
 }
 
-// Settles a pool with its first records active and its last ones, at the far end, branched.
-pub fn settle(w: &mut [u32], capacity: usize, active: usize, far: usize)
+// Lays out a pool with its first records active and its last ones, at the far end, branched.
+fn lay_out(w: &mut [u32], capacity: usize, active: usize, far: usize)
     requires { ⌜ (capacity ≡ length (records (now w))) × (active + far ≤ capacity) ⌝ }
     ensures { λ u. ⌜ records (now (w .exit)) ≡ take active (records (now (w .entry))) ++ (reverse (drop (capacity - far) (records (now (w .entry)))) ++ replicate (capacity - (active + far)) emptyRecord) ⌝ }
 {
@@ -50,4 +73,16 @@ pub fn settle(w: &mut [u32], capacity: usize, active: usize, far: usize)
     turn(w, from, capacity);
     let end = slide(w, from, capacity, active);
     clear(w, capacity, end);
+}
+
+// Puts everything back into document 01's layout: the nodes of both lanes with their sizes, and zeros behind.
+pub fn settle(w: &mut [u32], p: Layout)
+    requires { ⌜ (p .capacity ≡ length (records (now w))) × (p .used + p .far ≤ p .capacity) ⌝ }
+    ensures { λ u. ⌜ records (now (w .exit)) ≡ liveOf (p .used) (records (now (w .entry))) ++ (reverse (farOf (p .far) (records (now (w .entry)))) ++ replicate (p .capacity - (length (liveOf (p .used) (records (now (w .entry)))) + p .far)) emptyRecord) ⌝ }
+{
+    let from = p.capacity - p.far;
+    let active = squeeze(w, p.used, EVERY_BOUND);
+    resize(w, 0, active);
+    resize(w, from, p.capacity);
+    lay_out(w, p.capacity, active, p.far);
 }

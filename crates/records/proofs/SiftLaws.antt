@@ -52,7 +52,7 @@ module _ (test : Record → Bool) (l : List Record) (from at : ℕ) where
       keeps : keep test (slice from (to + 1) l) ≡ keep test (slice from to l) ++ put (test x) x []
       keeps = rw (read ∙ next-stays) (keep-slice-more test emptyRecord from to l ordered inside)
 
-      sifted-fails : test x ≡ false → Sifted test l from (to + 1) at l′ e
+      pub sifted-fails : test x ≡ false → Sifted test l from (to + 1) at l′ e
       sifted-fails fails =
           let kept : keep test (slice from (to + 1) l) ≡ keep test (slice from to l) = rw (keeps, fails, append-nil) in
           record {

@@ -42,6 +42,9 @@ unfolding records
 length-records =
     by-sixes (λ w. length (records w) ≡ length w / recordWords) (λ w h. rw (short-empty w h) (omega arith)) (λ a b c d e f w again. omega arith)
 
+pub same-records : (w w′ : List ℕ) → length w′ ≡ length w → length (records w′) ≡ length (records w)
+same-records w w′ e = length-records w′ ∙ ap (λ (j : ℕ). j / recordWords) e ∙ sym (length-records w)
+
 pub words-inside : (w : List ℕ) (i : ℕ) → i < length (records w) → recordWords * i + 5 < length w
 words-inside w i h = omega (arith, length-records w)
 

@@ -1,1 +1,9 @@
-pub mod ReplaceLaws
+pub mod FitLaws
+pub mod FrameLaws
+pub mod StrikeLaws
+pub mod StrikeWalk
+pub mod ClearLaws
+pub mod TidyLaws
+pub mod HeldLaws
+pub mod GrownLaws
+pub mod CommitLaws

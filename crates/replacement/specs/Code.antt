@@ -1,40 +1,99 @@
 -- What parts 6 and 7 of a step do to the pool's records. These definitions are the code's own: a reader of the promise needs none of them.
---   stayingOf    what rules 1 and 8 leave of the active records
---   Changing     what the functions ask of the spot and the change that they go by
---   Replaced     what the pool's records are afterwards
---   farWith      the branched node at the far end
+--   isBeaten, isStaying    rules 1 and 8 on an active record
+--   stayingOf              what they leave of the active nodes
+--   Strikes                the records that pass a test are gone
+--   Changing               what the functions ask of the change that they go by
+--   Kept                   the pool and the index after a part of the work, with some nodes active and the far end as it was
+--   Grown                  as laid, but for the minima of records that have just joined
+--   farWith, Committed     the branched node at the far end; what the pool is afterwards
 use mathlib.Core.Path.{_≡_}
-use mathlib.Core.Bool.{cond}
-use mathlib.Core.List.{List, _++_}
-use Prim.Native.Nat.{ℕ, _+_, _-_, _^_, _≤_, _<_}
-use lib.Dec.{T, eqb}
-use lib.ListN.{length, take, drop, set}
-use Rattle.sizes.specs.Sizes.{mostStops}
-use Rattle.lists.specs.Lists.{keep}
+use mathlib.Core.Bool.{Bool, true, false, not, _&&_, cond}
+use mathlib.Core.List.{List, [], _∷_, _++_}
+use mathlib.Core.Logic.{_⊎_}
+use Prim.Native.Nat.{ℕ, _+_, _*_, _^_, _≤_, _<_}
+use lib.Dec.{T, eqb, leb}
+use lib.ListN.{length, getD}
+use Rattle.lists.specs.Lists.{In, keep, any}
+use Rattle.stops.specs.Code.{emptyRecord, recDominates, stopsIn}
 use Rattle.stops.specs.declared.node_record.Record.{Record}
-use Rattle.records.specs.Code.{slots}
-use Rattle.rivals.specs.Code.{Siblings}
-use Rattle.passes.specs.Code.{isStaying}
-use Rattle.children.specs.Code.{othersIn, Spotted}
-use Rattle.children.specs.declared.spot.Spot.{Spot}
-use Rattle.replacement.specs.declared.Change.{Change}
+use Rattle.records.specs.Code.{inSlot, slots, Slotted}
+use Rattle.lanes.specs.Sizes.{gone, blocks}
+use Rattle.lanes.specs.Code.{sized, isLive, marked, liveOf, othersOf, farOf}
+use Rattle.lanes.specs.declared.layout.Layout.{Layout}
+use Rattle.lanes.specs.Layouts.{activeLane, farLane}
+use Rattle.chains.specs.Code.{Sized, Walkable}
+use Rattle.blocks.specs.Code.{Blocked}
+use Rattle.pool.specs.Code.{Laid, Alike}
+use Rattle.replacement.specs.declared.change.Change.{Change}
 
-unfoldable pub stayingOf : List Record → Spot → Change → List Record → List Record
-stayingOf recs p c kids = keep (isStaying (c .test .limit) (slots (c .taking) kids)) (othersIn recs (p .active) (p .at))
+-- a child dominates x
+abbrev pub isBeaten : List Record → Record → Bool
+isBeaten kids x = any (λ y. recDominates y x) kids
 
--- the children that take part in rule 8 stand in their slots; where `all` says so, every active record stays but the one that is branched
-pub record Changing (recs : List Record) (p : Spot) (c : Change) (kids : List Record) : Type 0 where
-  pub spotted : Spotted recs p
-  pub takes : Siblings (c .test) (c .taking) kids
-  pub right : T (c .all) → stayingOf recs p c kids ≡ othersIn recs (p .active) (p .at)
-  pub small : c .alive < 2 ^ mostStops
+unfoldable pub isStaying : ℕ → List Record → Record → Bool
+isStaying limit kids x = leb (x .bound) limit && not (isBeaten kids x)
 
--- those that stay, then the children that survive, r in all; behind these, and behind what was active, the records are as before
-pub record Replaced (recs : List Record) (p : Spot) (c : Change) (kids recs′ : List Record) (r : ℕ) : Type 0 where
-  pub front : take r recs′ ≡ stayingOf recs p c kids ++ slots (c .alive) kids
-  pub count : r ≡ length (stayingOf recs p c kids) + length (slots (c .alive) kids)
-  pub behind : (j : ℕ) → p .active ≤ j → r ≤ j → drop j recs′ ≡ drop j recs
+unfoldable pub stayingOf : List Record → Layout → ℕ → Change → List Record → List Record
+stayingOf recs p i c kids = keep (isStaying (c .limit) (slots (c .taking) kids)) (othersOf (p .used) i recs)
 
--- b in front of the records at the far end, if these are held
-unfoldable pub farWith : List Record → ℕ → ℕ → Record → List Record
-farWith recs capacity far b = cond (eqb far 0) recs (set recs (capacity - far) b)
+-- a node that passes a test is marked as gone
+unfoldable pub struck : (Record → Bool) → Record → Record
+struck test x = cond (isLive x && test (sized x)) (marked x) x
+
+-- of the first `used` records those that are nodes and pass the test are gone, and are `lost` in number
+pub record Strikes (test : Record → Bool) (used : ℕ) (recs recs′ : List Record) (lost : ℕ) : Type 0 where
+  pub same-length : length recs′ ≡ length recs
+  pub each : (j : ℕ) → j < used → getD recs′ j emptyRecord ≡ struck test (getD recs j emptyRecord)
+  pub behind : (j : ℕ) → used ≤ j → getD recs′ j emptyRecord ≡ getD recs j emptyRecord
+  pub count : lost + length (liveOf used recs′) ≡ length (liveOf used recs)
+
+-- the node at i is branched; the children that survive stand in their slots; those that take part in rule 8 are all of them or none; where U did not fall, no
+-- active node is above the limit; and the far end grows by b, or has none
+pub record Changing (recs : List Record) (p : Layout) (i : ℕ) (c : Change) (kids : List Record) : Type 0 where
+  pub whole : p .capacity ≡ length recs
+  pub front : p .used + p .far ≤ p .capacity
+  pub counted : p .active ≡ length (liveOf (p .used) recs)
+  pub inside : i < p .used
+  pub live : isLive (getD recs i emptyRecord) ≡ true
+  pub limited : c .limit < gone
+  pub slotted : Slotted (c .alive) kids
+  pub sizes : Sized (c .alive) kids
+  pub lives : (s : ℕ) → In s (stopsIn (c .alive)) → inSlot kids s .bound < gone
+  pub takes : (c .taking ≡ c .alive) ⊎ (c .taking ≡ 0)
+  pub right : c .fell ≡ false → (x : Record) → In x (othersOf (p .used) i recs) → x .bound ≤ c .limit
+  pub back : ((c .far ≡ 0) × (p .far ≡ 0)) ⊎ (c .far ≡ p .far + 1)
+
+-- recs′, q and index′ belong together and show the nodes xs; q is of the pool that p was of, and its far end is as it was
+pub record Kept (recs : List Record) (p : Layout) (xs : List Record) (recs′ : List Record) (q : Layout) (index′ : List ℕ) : Type 0 where
+  pub laid : Laid recs′ q index′
+  pub alike : Alike p q
+  pub nodes : liveOf (q .used) recs′ ≡ xs
+  pub counted : q .active ≡ length xs
+  pub far-count : q .far ≡ p .far
+  pub far-end : farOf (p .far) recs′ ≡ farOf (p .far) recs
+
+-- as `Laid`, but the minima are those of the first `from` records of the lane
+pub record Grown (recs : List Record) (p : Layout) (from : ℕ) (index : List ℕ) : Type 0 where
+  pub more : from ≤ p .used
+  pub whole : p .capacity ≡ length recs
+  pub some : 1 ≤ p .capacity
+  pub fits : p .used + p .far ≤ p .capacity
+  pub lane : Walkable recs (activeLane p) index
+  pub far-lane : Walkable recs (farLane p) index
+  pub few : T (p .linked) → p .capacity < 2 ^ 32
+  pub far-few : T (p .«far_linked») → p .capacity < 2 ^ 32
+  pub minima : T (p .ranked) → Blocked recs from (2 ^ p .shift) index
+  pub reach : T (p .ranked) → blocks * 2 ^ p .shift < 2 ^ 62
+
+-- b in front of those at the far end, if these are held
+abbrev pub farWith : ℕ → Record → List Record → List Record
+farWith far b xs = cond (eqb far 0) [] (b ∷ xs)
+
+-- those that stay, then the children that survive; at the far end b too, if branched nodes are held
+pub record Committed (recs : List Record) (p : Layout) (i : ℕ) (b : Record) (c : Change) (kids recs′ : List Record) (q : Layout) (index′ : List ℕ) : Type 0 where
+  pub laid : Laid recs′ q index′
+  pub alike : Alike p q
+  pub nodes : liveOf (q .used) recs′ ≡ stayingOf recs p i c kids ++ slots (c .alive) kids
+  pub counted : q .active ≡ length (stayingOf recs p i c kids) + length (slots (c .alive) kids)
+  pub far-count : q .far ≡ c .far
+  pub far-end : farOf (c .far) recs′ ≡ farWith (c .far) b (farOf (p .far) recs)

@@ -1,16 +1,26 @@
 // Which active node is branched, and the least bound among the active nodes. `choose` and `floor` are public for the crate above and not for
 // hosts; what they require, that crate meets.
 ghost use mathlib.Core.Path.{_≡_};
-ghost use mathlib.Core.Bool.{false, cond};
-ghost use Prim.Native.Nat.{ℕ, _+_, _≤_, _<_};
-ghost use lib.ListN.{length, getD, take};
-ghost use lib.Seq.{slice};
-ghost use Rattle.lists.specs.Lists.{any, least};
+ghost use mathlib.Core.Bool.{not, cond, _&&_};
+ghost use Prim.Native.Nat.{ℕ, _*_, _^_, _≤_, _<_};
+ghost use lib.Dec.{eqb};
+ghost use lib.ListN.{length, getD};
+ghost use Rattle.lists.specs.Lists.{least};
 ghost use Rattle.stops.specs.Code.{emptyRecord};
-ghost use Rattle.records.specs.Code.{records, RunsTo};
-ghost use Rattle.selection.specs.Code.{Chose, Chosen, NextAhead, boundAt, isBelow};
-use records::bound_at;
-use sizes::RECORD_WORDS;
+ghost use Rattle.records.specs.Code.{records};
+ghost use Rattle.lanes.specs.Sizes.{blocks};
+ghost use Rattle.lanes.specs.Code.{sized, isLive, liveOf};
+ghost use Rattle.blocks.specs.Code.{Blocked};
+ghost use Rattle.selection.specs.Code.{Chose, Chosen};
+use blocks::find::earliest;
+use blocks::find::last_before;
+use blocks::find::latest;
+use blocks::find::least;
+use blocks::keep::least_in;
+use lanes::constants::EVERY_BOUND;
+use lanes::layout::Layout;
+use lanes::live;
+use records::set_at;
 
 // Where the chosen node stands, or the number of a refusal.
 pub enum Place {
@@ -18,114 +28,62 @@ pub enum Place {
     Refused(u32),
 }
 
-// What a bound must be below to go before a least one: at an equal bound too if the side is late.
-fn edge(least: u32, late: bool) -> u64
-    ensures { λ r. ⌜ r ≡ cond late (least + 1) least ⌝ }
-{
-    if late {
-        return least as u64 + 1;
-    }
-    least as u64
-}
-
-// Whether the bound of record i is below an edge.
-fn below(w: &[u32], i: usize, edge: u64) -> bool
+// Whether record i is a node that is not complete, of n stops.
+fn open(w: &[u32], i: usize, n: u32) -> bool
     requires { ⌜ i < length (records (now w)) ⌝ }
-    ensures { λ r. ⌜ r ≡ isBelow edge (getD (records (now (w .entry))) i emptyRecord) ⌝ }
+    ensures { λ r. ⌜ r ≡ (isLive (getD (records (now (w .entry))) i emptyRecord) && not (eqb (sized (getD (records (now (w .entry))) i emptyRecord) .size) n)) ⌝ }
 {
-    (w[RECORD_WORDS * i + 3] as u64) < edge
+    if !live(w, i) {
+        return false;
+    }
+    u32::count_ones(set_at(w, i)) != n
 }
 
-// Whether one of the four records from i on has a bound below an edge.
-fn four_below(w: &[u32], i: usize, edge: u64) -> bool
-    requires { ⌜ i + 4 ≤ length (records (now w)) ⌝ }
-    ensures { λ r. ⌜ r ≡ any (isBelow edge) (slice i (i + 4) (records (now (w .entry)))) ⌝ }
+// The latest of the active nodes that is not complete; if all are, the latest.
+fn latest_open(w: &[u32], used: usize, n: u32) -> usize
+    requires { ⌜ (used ≤ length (records (now w))) × (0 < length (liveOf used (records (now w)))) ⌝ }
+    ensures { λ r. ⌜ Chosen n (records (now (w .entry))) used 3 r ⌝ }
 {
-    if below(w, i, edge) {
-        return true;
-    }
-    if below(w, i + 1, edge) {
-        return true;
-    }
-    if below(w, i + 2, edge) {
-        return true;
-    }
-    below(w, i + 3, edge)
-}
-
-// The first of the records from `from` to a whose bound is below an edge, or a. Four records a turn, up to four of which one is.
-fn next_below(w: &[u32], from: usize, a: usize, edge: u64) -> usize
-    requires { ⌜ (from ≤ a) × (a ≤ length (records (now w))) ⌝ }
-    ensures { λ r. ⌜ RunsTo (isBelow edge) false (records (now (w .entry))) from a r ⌝ }
-{
-    let mut i = from;
-    while 4 <= a - i && !four_below(w, i, edge) {
-        i += 4;
-    }
-    while i < a {
-        if below(w, i, edge) {
-            return i;
-        }
-        i += 1;
-    }
-    a
-}
-
-// The first of the records from `from` to a whose bound goes before a least one, or a.
-fn next_before(w: &[u32], from: usize, a: usize, least: u32, late: bool) -> usize
-    requires { ⌜ (from ≤ a) × (a ≤ length (records (now w))) ⌝ }
-    ensures { λ r. ⌜ NextAhead late (boundAt (records (now (w .entry)))) from a least r ⌝ }
-{
-    next_below(w, from, a, edge(least, late))
-}
-
-// The earliest, or if the side is late the latest, of the first a records that has the least bound.
-fn least_bound(w: &[u32], a: usize, late: bool) -> usize
-    requires { ⌜ (0 < a) × (a ≤ length (records (now w))) ⌝ }
-    ensures { λ r. ⌜ ((n : ℕ) → Chosen n (take a (records (now (w .entry)))) (cond late 1 0) r) ⌝ }
-{
-    let mut best = 0;
-    let mut i = next_before(w, 1, a, w[3], late);
-    while i < a {
-        best = i;
-        i = next_before(w, i + 1, a, w[RECORD_WORDS * i + 3], late);
-    }
-    best
-}
-
-// The latest of the first a records whose size is not n; if all have that size, the latest.
-fn latest_open(w: &[u32], a: usize, n: u32) -> usize
-    requires { ⌜ (0 < a) × (a ≤ length (records (now w))) ⌝ }
-    ensures { λ r. ⌜ Chosen n (take a (records (now (w .entry)))) 3 r ⌝ }
-{
-    let mut i = a;
+    let mut i = used;
     while 0 < i {
         i -= 1;
-        if w[RECORD_WORDS * i] != n {
+        if open(w, i, n) {
             return i;
         }
     }
-    a - 1
+    last_before(w, used, EVERY_BOUND)
 }
 
-// The floor of request A.3: the least bound among the first a records.
-pub fn floor(w: &[u32], a: usize) -> u32
-    requires { ⌜ (0 < a) × (a ≤ length (records (now w))) ⌝ }
-    ensures { λ r. ⌜ r ≡ least (λ x. x .bound) (take a (records (now (w .entry)))) ⌝ }
+// The floor of request A.3: the least bound among the active nodes.
+pub fn floor(w: &[u32], used: usize) -> u32
+    requires { ⌜ (used ≤ length (records (now w))) × (0 < length (liveOf used (records (now w)))) ⌝ }
+    ensures { λ r. ⌜ r ≡ least (λ x. x .bound) (liveOf used (records (now (w .entry)))) ⌝ }
 {
-    bound_at(w, least_bound(w, a, false))
+    least_in(w, 0, used)
 }
 
-// The place of the node that a selection picks among the first a records.
-pub fn choose(w: &[u32], a: usize, n: u32, selection: u32) -> Place
-    requires { ⌜ (0 < a) × (a ≤ length (records (now w))) ⌝ }
-    ensures { λ r. ⌜ Chose n (take a (records (now (w .entry)))) selection r ⌝ }
+// The first, or the last, of the active nodes with the least bound.
+fn least_bound(w: &[u32], p: Layout, late: bool, index: &[u32]) -> usize
+    requires { ⌜ (Blocked (records (now w)) (p .used) (2 ^ p .shift) (now index) × (blocks * 2 ^ p .shift < 2 ^ 62)) × (0 < length (liveOf (p .used) (records (now w)))) ⌝ }
+    ensures { λ r. ⌜ ((n : ℕ) → Chosen n (records (now (w .entry))) (p .used) (cond late 1 0) r) ⌝ }
+{
+    let limit = least(p.used, p.shift, index);
+    if late {
+        return latest(w, p.used, p.shift, index, limit);
+    }
+    earliest(w, p.used, p.shift, index, limit)
+}
+
+// The place of the node that a selection picks among the active ones.
+pub fn choose(w: &[u32], p: Layout, n: u32, selection: u32, index: &[u32]) -> Place
+    requires { ⌜ ((p .used ≤ length (records (now w))) × (0 < length (liveOf (p .used) (records (now w))))) × (selection < 3 → Blocked (records (now w)) (p .used) (2 ^ p .shift) (now index) × (blocks * 2 ^ p .shift < 2 ^ 62)) ⌝ }
+    ensures { λ r. ⌜ Chose n (records (now (w .entry))) (p .used) selection r ⌝ }
 {
     match selection {
-        0 => Place::At(least_bound(w, a, false)),
-        1 => Place::At(least_bound(w, a, true)),
-        2 => Place::At(0),
-        3 => Place::At(latest_open(w, a, n)),
+        0 => Place::At(least_bound(w, p, false, index)),
+        1 => Place::At(least_bound(w, p, true, index)),
+        2 => Place::At(earliest(w, p.used, p.shift, index, EVERY_BOUND)),
+        3 => Place::At(latest_open(w, p.used, n)),
         _ => Place::Refused(4),
     }
 }

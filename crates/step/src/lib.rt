@@ -8,32 +8,33 @@ ghost use Rattle.sizes.specs.Sizes.{mostStops};
 ghost use Rattle.search.specs.Problem.{State};
 ghost use Rattle.stops.specs.declared.node_record.Record.{Record};
 ghost use Rattle.records.specs.Code.{records};
-ghost use Rattle.step.specs.Code.{Ready, Shown, Stepping, Expansion, spotOf, runAfter};
+ghost use Rattle.children.specs.Code.{Rows, Encoded};
+ghost use Rattle.pool.specs.Code.{Laid};
+ghost use Rattle.step.specs.Code.{Ready, Shown, Stepping, Expansion, nodeAt, restAt, runAfter};
+
+pub mod change;
+
+use crate::change::falls;
+use crate::change::holding;
+use crate::change::taking_of;
 use children::best::Best;
 use children::best::learn;
 use children::family::family;
 use children::setting::Setting;
-use children::spot::Spot;
 use children::survivors::limit_of;
 use children::survivors::survivors;
-use replacement::Change;
-use replacement::all_stay;
-use replacement::fits;
-use replacement::hold;
-use replacement::holding;
-use replacement::replace;
-use replacement::taking_of;
-use rivals::Test;
+use lanes::layout::Layout;
+use lanes::sized_at;
+use replacement::change::Change;
+use replacement::commit::commit;
+use replacement::fits::fits;
 use sizes::PLACES;
-use sizes::RECORD_WORDS;
 use stops::node_record::Record;
 use stops::sets::count;
 
-// Where a run stands beside the pool: how many active records stand at its front and how many branched ones at its far end, U with
-// its order, and the counts.
+// Where a run stands beside the pool: how the pool's records stand, U with its order, and the counts.
 pub struct Run {
-    pub active: usize,
-    pub far: usize,
+    pub layout: Layout,
     pub best: Best,
     pub branched: u64,
     pub generated: u64,
@@ -47,19 +48,19 @@ pub enum After {
     Go(Run),
 }
 
-// The counts after a step that generated some children and left some nodes active.
-fn counted(r: Run, best: Best, generated: usize, active: usize, far: usize) -> Run
-    requires { ⌜ (1 ≤ r .active) × ((r .active + generated < 2 ^ 62) × ((active ≤ r .active - 1 + generated) × (r .generated + r .eliminated + r .branched < 2 ^ 62))) ⌝ }
-    ensures { λ q. ⌜ q ≡ runAfter r best generated active far ⌝ }
+// The counts after a step that generated some children and left the pool in some layout.
+fn counted(r: Run, best: Best, generated: usize, layout: Layout) -> Run
+    requires { ⌜ (1 ≤ r .layout .active) × ((r .layout .active + generated < 2 ^ 62) × ((layout .active ≤ r .layout .active - 1 + generated) × (r .generated + r .eliminated + r .branched < 2 ^ 62))) ⌝ }
+    ensures { λ q. ⌜ q ≡ runAfter r best generated layout ⌝ }
 {
-    let gone = r.active - 1 + generated - active;
+    let before = r.layout;
+    let gone = before.active - 1 + generated - layout.active;
     let mut most = r.most;
-    if most < active as u64 {
-        most = active as u64;
+    if most < layout.active as u64 {
+        most = layout.active as u64;
     }
     Run {
-        active: active,
-        far: far,
+        layout: layout,
         best: best,
         branched: r.branched + 1,
         generated: r.generated + generated as u64,
@@ -68,90 +69,68 @@ fn counted(r: Run, best: Best, generated: usize, active: usize, far: usize) -> R
     }
 }
 
-// Where b stands, which is record i.
-fn spot_of(w: &[u32], i: usize, r: Run) -> Spot
-    ensures { λ p. ⌜ p ≡ spotOf (now (w .entry)) i r ⌝ }
-{
-    Spot {
-        capacity: w.len() / RECORD_WORDS,
-        active: r.active,
-        at: i,
-        far: r.far,
-    }
-}
-
-// What parts 1 to 5 of a step give: the stops of the children and of those that survive, what the pool's records are held against, and U.
+// What parts 1 to 5 of a step give: the stops of the children and of those that survive, the limit of rule 1, and U.
 struct Expanded {
     born: u32,
     alive: u32,
-    test: Test,
+    limit: u32,
     best: Best,
 }
 
-// Parts 1 to 5 of the step of b, which stands at i: each child stands in the slot of its stop in kids.
+// Parts 1 to 5 of the step of b: each child stands in the slot of its stop in kids.
 fn expand(
     setting: Setting,
     t: [[u32; PLACES]; PLACES],
     w: &[u32],
-    i: usize,
     b: Record,
     r: Run,
     kids: &mut [u32],
+    index: &[u32],
 ) -> Expanded
-    requires { ⌜ Ready setting t (now w) i b r × (mostStops ≤ length (records (now kids))) ⌝ }
-    ensures { λ e. ⌜ Expansion setting t (now (w .entry)) i b r e (records (now (kids .exit))) ⌝ }
+    requires { ⌜ (Rows setting t × (Encoded setting t b × (b .size < setting .n))) × (Laid (records (now w)) (r .layout) (now index) × (mostStops ≤ length (records (now kids)))) ⌝ }
+    ensures { λ e. ⌜ Expansion setting t (now (w .entry)) b r e (records (now (kids .exit))) ⌝ }
 {
-    let spot = spot_of(w, i, r);
-    let known = r.best;
-    let size = b.size + 1;
     let born = family(setting, t, b, kids);
-    let best = learn(setting, kids, born, size, known);
-    let test = Test {
-        size: size,
-        base: b.set,
-        limit: limit_of(setting.rules, best.upper),
-    };
-    let alive = survivors(setting, kids, born, w, spot, test);
+    let best = learn(setting, kids, born, b.size + 1, r.best);
+    let limit = limit_of(setting.rules, best.upper);
+    let alive = survivors(setting, kids, born, w, r.layout, index, limit);
     Expanded {
         born: born,
         alive: alive,
-        test: test,
+        limit: limit,
         best: best,
     }
 }
 
-// The step of b, which stands at i; kids has a slot for each stop's child, whatever stands there. Nothing is written to the pool before it
-// is known that the step fits.
+// The step of the node at i; kids has a slot for each stop's child, whatever stands there. Nothing is written to the pool before it is known
+// that the step fits.
 pub fn step(
     setting: Setting,
     t: [[u32; PLACES]; PLACES],
     w: &mut [u32],
     i: usize,
-    b: Record,
     r: Run,
     kids: &mut [u32],
+    index: &mut [u32],
 ) -> After
-    requires { ⌜ Ready setting t (now w) i b r × (mostStops ≤ length (records (now kids))) ⌝ }
-    ensures { λ q. ⌜ ((s : State Record) → Shown setting (now (w .entry)) r s → Stepping setting t i b (now (w .entry)) (now (w .exit)) s q) ⌝ }
+    requires { ⌜ Ready setting t (now w) (now index) i r × (mostStops ≤ length (records (now kids))) ⌝ }
+    ensures { λ q. ⌜ ((s : State Record) → Shown setting (now (w .entry)) (now (index .entry)) r s → Stepping setting t (nodeAt (now (w .entry)) i) (restAt (now (w .entry)) r i) (now (w .entry)) (now (w .exit)) (now (index .exit)) s q) ⌝ }
 {
     let known = r.best;
-    let e = expand(setting, t, w, i, b, r, kids);
+    let p = r.layout;
+    let b = sized_at(w, i);
+    let e = expand(setting, t, w, b, r, kids, index);
     let best = e.best;
-    let test = e.test;
-    let taking = taking_of(setting.rules, e.alive);
-    let far = holding(setting.rules, r.far);
-    let all = all_stay(setting.rules, known.upper, best.upper, taking);
-    let spot = spot_of(w, i, r);
     let change = Change {
-        test: test,
+        limit: e.limit,
         alive: e.alive,
-        taking: taking,
-        all: all,
+        taking: taking_of(setting.rules, e.alive),
+        fell: falls(setting.rules, known.upper, best.upper),
+        far: holding(setting.rules, p.far),
     };
-    if !fits(w, spot, change, far, kids) {
+    if !fits(w, p, i, change, kids) {
         return After::Full;
     }
-    let active = replace(w, spot, change, kids);
-    hold(w, spot.capacity, far, b);
-    After::Go(counted(r, best, count(e.born), active, far))
+    let q = commit(w, p, i, b, change, kids, index);
+    After::Go(counted(r, best, count(e.born), q))
 }

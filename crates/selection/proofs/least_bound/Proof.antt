@@ -1,69 +1,74 @@
--- `least_bound` meets its contract. The loop's invariant: of the first i records, `best` is the one that the side picks, and the record at
--- i, if there is one, goes before it.
-use mathlib.Core.Path.{_≡_}
-use Prim.Native.Nat.{_+_, _-_, _/_, _≤_, _<_}
+-- `least_bound` meets its contract: the least bound is met, so the first and the last place up to it have it.
+use Prim.Native.Nat.{ℕ, _≤_, _<_}
 use native.Mathlib.Omega.{arith}
-use borrow.Author.Needs.{needs}
-use lib.ListN.{length}
-use Rattle.sizes.specs.Sizes.{recordWords}
 use Rattle.records.specs.Code.{records}
-use Rattle.selection.specs.Code.{Ahead, boundAt}
-use Rattle.records.proofs.ViewLaws.{length-records}
-use Rattle.selection.proofs.ChooseLaws.{Leads, bound-at, leads-first, lead-on, lead-moves, chosen-least}
+use Rattle.lanes.specs.Sizes.{gone}
+use Rattle.blocks.specs.Code.{Least, boundAt}
+use Rattle.blocks.proofs.SelectLaws.{some-live, least-met}
+use Rattle.selection.proofs.ChooseLaws.{chosen-least, chosen-last-least}
 use Rattle.selection.proofs.least_bound.Statement.{statement}
 use Rattle.selection.proofs.least_bound.Tie as tie
 
-abbrev Inv-loop : tie.InvT-loop
-Inv-loop w a late best₀ i₀ best i =
-    (i ≤ a)
-    × (Leads late (boundAt (records w)) i best × (i < a → Ahead late (boundAt (records w) i) (boundAt (records w) best)))
+least-requires : tie.Need-least-requires
+least-requires c κs =
+    let start = c .before .before in
+    let ((blocked, small), some) = start .pre in
+    let (i, (inside, _)) = some-live (records (start .args .w .now)) (start .args .p .used) (blocked .inside) some in
+    (omega arith, (blocked .reach, (small, blocked .whole)))
 
-abbrev μ-loop : tie.MeasureT-loop
-μ-loop w a late best₀ i₀ best i = a - i
+-- the function's entry, seen from behind its first call
+abbrev entry : tie.After-least → tie.Start
+entry c = c .before .before .before
 
--- the function's entry, seen from the loop's head, and how many records its words are
-abbrev entry : tie.At-loop Inv-loop μ-loop → tie.Start Inv-loop μ-loop
-entry c = c .before .before .before .before
+low : (c : tie.After-least) → Least (λ (i : ℕ). i < entry c .args .p .used) (boundAt (records (entry c .args .w .now))) (c .least .result)
+low c = c .least .ensures (records (entry c .args .w .now)) (entry c .pre .0 .0)
 
-whole : (c : tie.Start Inv-loop μ-loop) → length (records (c .args .w .now)) ≡ length (c .args .w .now) / recordWords
-whole c = length-records (c .args .w .now)
+met :
+    (c : tie.After-least)
+    → let recs = records (entry c .args .w .now) in
+    (c .least .result < gone) × ((i : ℕ) × ((i < entry c .args .p .used) × (boundAt recs i ≤ c .least .result)))
+met c =
+    least-met (records (entry c .args .w .now)) (entry c .args .p .used) (entry c .pre .0 .0 .inside) (c .least .result) (low c) (entry c .pre .1)
 
-loop-holds : tie.Need-loop-holds Inv-loop μ-loop
-loop-holds c =
-    let a = c .before .before .before .args in
-    lead-on (a .late) _ 1 (a .a) 0 _ (leads-first (a .late) _) (rw (bound-at (a .w .now) 0 (omega arith)) (c .next-before .ensures))
+latest-requires : tie.Need-latest-requires
+latest-requires c κs =
+    let start = entry (c .before) in
+    let (live, (i, (inside, at))) = met (c .before) in
+    (start .pre .0 .0, (start .pre .0 .1, (omega arith, (i, (inside, omega arith)))))
 
-loop-again : tie.Need-loop-again Inv-loop μ-loop
-loop-again c =
-    let head = c .before .before .before in
-    let a = entry head .args in
-    let loop = head .loop in
-    let lead = lead-moves (a .late) _ (loop .i) (loop .best) (loop .inv .1 .0) (loop .inv .1 .1 (omega arith)) in
-    lead-on (a .late) _ (loop .i + 1) (a .a) (loop .i) _ lead (rw (bound-at (a .w .now) (loop .i) (omega arith)) (c .next-before2 .ensures))
+earliest-requires : tie.Need-earliest-requires
+earliest-requires c κs =
+    let start = entry (c .before) in
+    let (live, (i, (inside, at))) = met (c .before) in
+    (start .pre .0 .0, (start .pre .0 .1, (omega arith, (i, (inside, omega arith)))))
 
-returns : tie.Need-returns Inv-loop μ-loop
+returns : tie.Need-returns
 returns c n =
-    let head = c .before in
-    let a = entry head .args in
-    let loop = head .loop in
-    let e : loop .i ≡ a .a = omega arith in
-    chosen-least (a .w .now) (a .a) (omega arith) n (a .late) (loop .best) (rw e at (loop .inv .1 .0))
+    let found = c .before .before in
+    let start = entry found in
+    rw (c .before .if1 .taken)
+    (chosen-last-least (records (start .args .w .now)) (start .args .p .used) (start .pre .0 .0 .inside) n (found .least .result)
+    (c .latest .result)
+    (low found)
+    (met found .0)
+    (c .latest .ensures))
+
+returns-2 : tie.Need-returns-2
+returns-2 c n =
+    let found = c .before .before in
+    let start = entry found in
+    rw (c .before .if1 .left)
+    (chosen-least (records (start .args .w .now)) (start .args .p .used) (start .pre .0 .0 .inside) n (found .least .result) (c .earliest .result)
+    (low found)
+    (met found .0)
+    (c .earliest .ensures))
 
 pub least-bound-spec : {M : Type 1} → statement M
 least-bound-spec =
     tie.close
     (tie.spec
-    Inv-loop
-    μ-loop
-    (λ c. omega (arith, whole (c .before .before)))
-    (λ c κs. search needs)
-    loop-holds
-    (λ c. omega arith)
-    (λ c. omega (arith, whole (entry (c .before))))
-    (λ c. omega (arith, whole (entry (c .before))))
-    (λ c. omega (arith, whole (entry (c .before))))
-    (λ c. omega (arith, whole (entry (c .before .before))))
-    (λ c κs. omega arith)
-    (λ c. omega (arith, c .next-before2 .ensures .from-there))
-    loop-again
-    returns)
+    least-requires
+    latest-requires
+    returns
+    earliest-requires
+    returns-2)

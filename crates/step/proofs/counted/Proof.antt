@@ -8,12 +8,16 @@ use Rattle.step.specs.Code.{runAfter}
 use Rattle.step.proofs.counted.Statement.{statement}
 use Rattle.step.proofs.counted.Tie as tie
 
-most-is : (c : tie.Joined1) → c .if1 .most ≡ max (c .before .before .args .r .most) (c .before .before .args .active)
+-- the entry, seen from behind the comparison
+abbrev entry : tie.Joined1 → tie.Start
+entry c = c .before .before .before .before
+
+most-is : (c : tie.Joined1) → c .if1 .most ≡ max (entry c .args .r .most) (entry c .args .layout .active)
 most-is c =
-    let a = c .before .before .args in
+    let a = entry c .args in
     ⊎-elim
-    (λ w. let h : a .r .most ≤ a .active = omega arith in w .1 ∙ sym (max-eq-right h))
-    (λ w. let h : a .active ≤ a .r .most = omega arith in w .1 ∙ sym (max-eq-left h))
+    (λ w. let h : a .r .most ≤ a .layout .active = omega arith in w .1 ∙ sym (max-eq-right h))
+    (λ w. let h : a .layout .active ≤ a .r .most = omega arith in w .1 ∙ sym (max-eq-left h))
     (c .if1 .came)
 
 returns : tie.Need-returns

@@ -1,236 +1,225 @@
--- `step` meets its contract: what its callees ensure up to where b's spot is known is what parts 6 and 7 ask, and the laws say what is kept,
--- what is active and what is shown afterwards (`StepShown`, `StepAfter`).
-use mathlib.Core.Path.{_≡_, refl, sym, _∙_, ap, ap₂, subst}
-use mathlib.Core.Bool.{Bool, true, false, not, _&&_, cond}
+-- `step` meets its contract: what its callees ensure up to where the far end's number is known is what parts 6 and 7 ask, and the laws say
+-- what is kept, what is active and what is shown afterwards (`StepShown`, `StepAfter`).
+use mathlib.Core.Path.{_≡_, refl, sym, _∙_, ap, subst}
+use mathlib.Core.Bool.{Bool, true, false}
 use mathlib.Core.List.{List}
 use Prim.Native.Nat.{ℕ, _+_, _-_, _^_, _≤_, _<_}
 use native.Mathlib.Omega.{arith}
 use borrow.Author.Needs.{needs}
 use borrow.Author.Tests.{leb-true, leb-false, not-true, not-false}
-use lib.Dec.{ltb, eqb}
-use lib.ListN.{length}
+use lib.Dec.{leb}
+use lib.ListN.{length, getD}
 use Rattle.sizes.specs.Sizes.{mostStops}
-use Rattle.search.specs.Step.{on}
 use Rattle.records.specs.Code.{records}
 use Rattle.records.proofs.ViewLaws.{length-records, records-small}
-use Rattle.stops.specs.Code.{stopsIn}
+use Rattle.stops.specs.Code.{emptyRecord, stopsIn}
 use Rattle.stops.specs.declared.node_record.Record.{Record}
+use Rattle.lanes.specs.Code.{sized}
 use Rattle.children.specs.Code.{childrenOf}
 use Rattle.children.specs.declared.setting.Setting.{Setting}
-use Rattle.children.specs.declared.spot.Spot.{Spot}
-use Rattle.replacement.specs.Code.{Changing, Replaced, stayingOf, farWith}
-use Rattle.replacement.specs.declared.Change.{Change}
-use Rattle.replacement.proofs.ReplaceLaws.{staying-few}
-use Rattle.step.specs.Code.{Shown, Expansion, spotOf, changeOf, farAfter, stepOf, runAfter}
+use Rattle.replacement.specs.Code.{Changing, Committed, stayingOf}
+use Rattle.replacement.specs.declared.change.Change.{Change}
+use Rattle.step.specs.Code.{Shown, Expansion, nodeAt, restAt, changeOf, farAfter, stepOf, runAfter}
 use Rattle.step.specs.declared.Run.{Run}
 use Rattle.step.specs.declared.Expanded.{Expanded}
-use Rattle.step.proofs.ExpandLaws.{same-records}
 use Rattle.step.proofs.StepLaws.{Bounded}
-use Rattle.step.proofs.StepShown.{stayingAfter, leftOf, stage-born, stage-generated, stage-kept, stage-changing}
+use Rattle.step.proofs.StepShown.{stayingAfter, leftOf, stage-born, stage-generated, stage-kept, stage-rest, stage-few, stage-room, stage-changing}
 use Rattle.step.proofs.StepAfter.{stage-shown}
 use Rattle.step.proofs.step.Statement.{statement}
 use Rattle.step.proofs.step.Tie as tie
 
--- the places before: the function's entry, seen from behind `expand`; that, seen from where `all_stay` has answered; this, seen from where
--- b's spot is known; this, seen from where the nodes to keep fit; and `replace`, seen from behind `hold`
-abbrev entry : tie.After-expand → tie.Start
-entry c = c .before .before .before .before .before .before
+-- the places before: the node that is branched, seen from behind `expand`; the function's entry, seen from there; `expand`, seen from where the
+-- far end's number is known; that, seen from where the nodes to keep fit; and this, seen from behind `commit`
+abbrev branched : tie.After-expand → tie.After-sized-at
+branched c = c .before .before .before .before
 
-abbrev expanded : tie.After-all-stay → tie.After-expand
-expanded c = c .before .before .before .before .before .before .before
+abbrev entry : tie.After-sized-at → tie.Start
+entry c = c .before .before .before .before .before .before .before
 
-abbrev asked : tie.After-spot-of → tie.After-all-stay
-asked c = c .before .before
+abbrev expanded : tie.After-holding → tie.After-expand
+expanded c = c .before .before .before .before .before .before
 
-abbrev spotted : tie.Else1 → tie.After-spot-of
-spotted c = c .before .before .before .before
+abbrev held : tie.Else1 → tie.After-holding
+held c = c .before .before .before .before
 
-abbrev replaced : tie.After-hold → tie.After-replace
-replaced c = c .before .before .before .before
+abbrev fitted : tie.After-commit → tie.Else1
+fitted c = c .before .before .before .before
 
-abbrev start : tie.After-spot-of → tie.Start
-start d = entry (expanded (asked d))
+abbrev start : tie.After-holding → tie.Start
+start d = entry (branched (expanded d))
 
-abbrev setting : tie.After-spot-of → Setting
+abbrev setting : tie.After-holding → Setting
 setting d = start d .args .setting
 
-abbrev run : tie.After-spot-of → Run
+abbrev run : tie.After-holding → Run
 run d = start d .args .r
 
-abbrev words : tie.After-spot-of → List ℕ
+abbrev place : tie.After-holding → ℕ
+place d = start d .args .i
+
+abbrev words : tie.After-holding → List ℕ
 words d = start d .args .w .now
 
-abbrev given : tie.After-spot-of → Expanded
-given d = expanded (asked d) .expand .result
+abbrev given : tie.After-holding → Expanded
+given d = expanded d .expand .result
 
-abbrev kids : tie.After-spot-of → List Record
-kids d = records (expanded (asked d) .expand .last .1 .1 .1 .1 .1 .1 .0)
+abbrev kids : tie.After-holding → List Record
+kids d = records (expanded d .expand .last .1 .1 .1 .1 .1 .0)
 
-made : (d : tie.After-spot-of) → Expansion (setting d) (start d .args .t) (words d) (start d .args .i) (start d .args .b) (run d) (given d) (kids d)
-made d = expanded (asked d) .expand .ensures
+-- b is the node at i
+abbrev node : tie.After-holding → Record
+node d = branched (expanded d) .sized-at .result
 
--- b's spot, and what parts 6 and 7 go by, are those that are written
-abbrev spot : tie.After-spot-of → Spot
-spot d = d .spot-of .result
+same-node : (d : tie.After-holding) → node d ≡ nodeAt (words d) (place d)
+same-node d = branched (expanded d) .sized-at .ensures
 
-abbrev writtenSpot : tie.After-spot-of → Spot
-writtenSpot d = spotOf (words d) (start d .args .i) (run d)
+sized-twice : (x : Record) → sized x ≡ sized (sized x)
+unfolding sized
+sized-twice x = refl
 
-abbrev far : tie.After-spot-of → ℕ
-far d = asked d .before .holding .result
+made : (d : tie.After-holding) → Expansion (setting d) (start d .args .t) (words d) (nodeAt (words d) (place d)) (run d) (given d) (kids d)
+made d =
+    subst (λ (b : Record). Expansion (setting d) (start d .args .t) (words d) b (run d) (given d) (kids d)) (same-node d)
+    (expanded d .expand .ensures)
 
-abbrev change : tie.After-spot-of → Change
-change d =
-    record { test = given d .test; alive = given d .alive; taking = asked d .before .before .taking-of .result; all = asked d .all-stay .result }
+-- what parts 6 and 7 go by is what is written
+abbrev change : tie.After-holding → Change
+change d = record {
+  limit = given d .limit;
+  alive = given d .alive;
+  taking = d .before .before .taking-of .result;
+  fell = d .before .falls .result;
+  far = d .holding .result;
+}
 
-same-change : (d : tie.After-spot-of) → change d ≡ changeOf (setting d) (run d) (given d)
+same-change : (d : tie.After-holding) → change d ≡ changeOf (setting d) (run d) (given d)
 same-change d =
-    let taken = asked d .before .before .taking-of .ensures in
-    let fell : Bool = on 1 (setting d .rules) && ltb (given d .best .upper) (run d .best .upper) in
-    λ j. record {
-      test = given d .test;
-      alive = given d .alive;
-      taking = taken j;
-      all = (asked d .all-stay .ensures ∙ ap (λ (k : ℕ). eqb k 0 && not fell) taken) j;
-    }
+    let taken = d .before .before .taking-of .ensures in
+    let fell = d .before .falls .ensures in
+    let far = d .holding .ensures in
+    λ j. record { limit = given d .limit; alive = given d .alive; taking = taken j; fell = fell j; far = far j }
 
--- what stays of the active records, as the code counts it and as it is written
-abbrev staying : tie.After-spot-of → List Record
-staying d = stayingAfter (setting d) (words d) (start d .args .i) (run d) (given d) (kids d)
+-- what stays of the active nodes, and how many children survive
+abbrev staying : tie.After-holding → List Record
+staying d = stayingAfter (setting d) (words d) (place d) (run d) (given d) (kids d)
 
--- how many children survive
-abbrev left : tie.After-spot-of → ℕ
+abbrev left : tie.After-holding → ℕ
 left d = leftOf (given d) (kids d)
 
-same-staying : (d : tie.After-spot-of) → stayingOf (records (words d)) (spot d) (change d) (kids d) ≡ staying d
-same-staying d = ap₂ (λ (p : Spot) (c : Change). stayingOf (records (words d)) p c (kids d)) (d .spot-of .ensures) (same-change d)
+-- the nodes to keep, as the code counts them
+abbrev kept : tie.After-holding → ℕ
+kept d = length (stayingOf (records (words d)) (run d .layout) (place d) (change d) (kids d)) + left d + d .holding .result
 
-bounded : (d : tie.After-spot-of) → Bounded (records (words d))
+kept-count : (d : tie.After-holding) → kept d ≡ length (staying d) + left d + farAfter (setting d) (run d)
+kept-count d =
+    ap (λ (c : Change). length (stayingOf (records (words d)) (run d .layout) (place d) c (kids d)) + left d + c .far) (same-change d)
+
+bounded : (d : tie.After-holding) → Bounded (records (words d))
 bounded d x m =
-    let known = expanded (asked d) .before .before .before .before .before in
+    let known = branched (expanded d) .before .before .before .before .before .before in
     let small : x .bound < 2 ^ 32 = records-small (words d) (λ j. omega (arith, known .slice-known .given j)) x m .bound in
     omega arith
 
-changing : (d : tie.After-spot-of) → Changing (records (words d)) (spot d) (change d) (kids d)
+changing : (d : tie.After-holding) → Changing (records (words d)) (run d .layout) (place d) (change d) (kids d)
 changing d =
-    subst (λ (p : Spot). Changing (records (words d)) p (change d) (kids d)) (sym (d .spot-of .ensures))
-    (subst (λ (c : Change). Changing (records (words d)) (writtenSpot d) c (kids d)) (sym (same-change d))
-    (stage-changing (made d) (bounded d) (start d .pre .0)))
+    subst (λ (c : Change). Changing (records (words d)) (run d .layout) (place d) c (kids d)) (sym (same-change d))
+    (stage-changing (made d) (bounded d) (start d .pre .0))
 
--- the nodes to keep, as the code counts them
-kept-count :
-    (d : tie.After-spot-of)
-    → (length (stayingOf (records (words d)) (spot d) (change d) (kids d)) + left d + far d
-    ≡ length (staying d) + left d + farAfter (setting d) (run d))
-    × (spot d .capacity ≡ length (records (words d)))
-kept-count d = (
-  omega (arith, ap length (same-staying d), asked d .before .holding .ensures),
-  ap (λ (p : Spot). p .capacity) (d .spot-of .ensures),
-)
-
-far-few : (d : tie.After-spot-of) → far d ≤ run d .far + 1
-far-few d = go (on 4 (setting d .rules)) (asked d .before .holding .ensures)
-  where
-    go : (rule : Bool) → far d ≡ cond rule (run d .far + 1) 0 → far d ≤ run d .far + 1
-    go true q = omega arith
-    go false q = omega arith
+expand-requires : tie.Need-expand-requires
+expand-requires c κs =
+    let n = c .before .before .before in
+    let ready = entry n .pre .0 in
+    ((ready .rows, (rw (n .sized-at .ensures) (ready .encoded), rw (n .sized-at .ensures) (ready .partial))), (ready .laid, entry n .pre .1))
 
 holding-requires : tie.Need-holding-requires
 holding-requires c κs =
-    let s = entry (c .before .before .before .before .before) in
-    let few : s .args .r .far < 2 ^ 62 = omega (arith, s .pre .0 .fits, length-records (s .args .w .now)) in
+    let s = entry (branched (c .before .before .before .before .before)) in
+    let laid = s .pre .0 .laid in
+    let few : s .args .r .layout .far < 2 ^ 62 = omega (arith, laid .fits, laid .whole, length-records (s .args .w .now)) in
     few
 
-fits-requires : tie.Need-fits-requires
-fits-requires c κs =
-    let d = c .before .before in
-    let ready = start d .pre .0 in
-    (changing d, omega (arith, far-few d, ready .fits, ready .inside, ap (λ (p : Spot). p .active) (d .spot-of .ensures)))
+-- what `fits` says
+abbrev counting : tie.After-fits2 → tie.After-holding
+counting c = c .before .before .before
+
+answer : (c : tie.After-fits2) (said : Bool) → c .fits2 .result ≡ said → leb (kept (counting c)) (run (counting c) .layout .capacity) ≡ said
+answer c said e =
+    let is : c .fits2 .result ≡ leb (kept (counting c)) (run (counting c) .layout .capacity) = c .fits2 .ensures in
+    cc
 
 returns : tie.Need-returns
 returns c s shown =
-    let tested = c .before in
-    let d = tested .before .before .before in
-    let over : spot d .capacity < length (stayingOf (records (words d)) (spot d) (change d) (kids d)) + left d + far d =
-    leb-false (length (stayingOf (records (words d)) (spot d) (change d) (kids d)) + left d + far d) (spot d .capacity)
-    (sym (tested .fits2 .ensures) ∙ not-true (tested .fits2 .result) (c .if1 .taken)) in
-    (omega (arith, stage-kept (made d) (bounded d) (start d .pre .0) s shown, kept-count d), refl)
+    let d = counting (c .before) in
+    let ready = start d .pre .0 in
+    let over : run d .layout .capacity < kept d =
+    leb-false (kept d) (run d .layout .capacity) (answer (c .before) false (not-true (c .before .fits2 .result) (c .if1 .taken))) in
+    (omega (arith, stage-kept (made d) (bounded d) ready s shown, kept-count d, ready .laid .whole), refl)
 
 -- the nodes to keep are at most the records
-fitting :
-    (c : tie.Else1)
-    → let d = spotted c in length (staying d) + left d + farAfter (setting d) (run d) ≤ length (records (words d))
+fitting : (c : tie.Else1) → let d = held c in kept d ≤ run d .layout .capacity
 fitting c =
-    let d = spotted c in
-    let few : length (stayingOf (records (words d)) (spot d) (change d) (kids d)) + left d + far d ≤ spot d .capacity =
-    leb-true (length (stayingOf (records (words d)) (spot d) (change d) (kids d)) + left d + far d) (spot d .capacity)
-    (sym (c .before .fits2 .ensures) ∙ not-false (c .before .fits2 .result) (c .if1 .left)) in
-    omega (arith, kept-count d)
+    let d = held c in
+    leb-true (kept d) (run d .layout .capacity) (answer (c .before) true (not-false (c .before .fits2 .result) (c .if1 .left)))
 
-replace-requires : tie.Need-replace-requires
-replace-requires c κs =
-    let e = c .before .before in
-    let d = spotted e in
-    (changing d, omega (arith, fitting e, ap length (same-staying d)))
+commit-requires : tie.Need-commit-requires
+commit-requires c κs =
+    let e = c .before .before .before in
+    let d = held e in
+    let x : Record = getD (records (words d)) (place d) emptyRecord in
+    let whole : node d ≡ sized (node d) = same-node d ∙ sized-twice x ∙ ap sized (sym (same-node d)) in
+    ((start d .pre .0 .laid, changing d), (whole, fitting e))
 
--- what `replace` gives, in what is written
+-- what `commit` gives, in what is written
 put :
-    (c : tie.After-replace)
-    → let d = spotted (c .before .before .before) in
-    Replaced (records (words d)) (writtenSpot d) (changeOf (setting d) (run d) (given d)) (kids d) (records (c .replace .last .0)) (c .replace .result)
+    (c : tie.After-commit)
+    → let d = held (fitted c) in
+    Committed (records (words d)) (run d .layout) (place d) (nodeAt (words d) (place d)) (changeOf (setting d) (run d) (given d)) (kids d)
+    (records (c .commit .last .0)) (c .commit .result) (c .commit .last .1 .1 .1 .1 .1 .1 .0)
 put c =
-    let d = spotted (c .before .before .before) in
-    subst (λ (p : Spot). Replaced (records (words d)) p (changeOf (setting d) (run d) (given d)) (kids d) (records (c .replace .last .0)) (c .replace .result))
-    (d .spot-of .ensures)
-    (subst (λ (q : Change). Replaced (records (words d)) (spot d) q (kids d) (records (c .replace .last .0)) (c .replace .result)) (same-change d)
-    (c .replace .ensures))
-
--- the pool has as many records as before
-whole : (c : tie.After-replace) → let d = spotted (c .before .before .before) in length (records (c .replace .last .0)) ≡ length (records (words d))
-whole c = let d = spotted (c .before .before .before) in same-records (words d) (c .replace .last .0) (c .replace .kept .0)
-
-hold-requires : tie.Need-hold-requires
-hold-requires c κs =
-    let r = c .before .before .before in
-    let e = r .before .before .before in
-    let d = spotted e in
-    (kept-count d .1 ∙ sym (whole r), omega (arith, fitting e, kept-count d))
+    let d = held (fitted c) in
+    let recs = records (words d) in
+    let recs′ = records (c .commit .last .0) in
+    let index′ : List ℕ = c .commit .last .1 .1 .1 .1 .1 .1 .0 in
+    subst (λ (b : Record). Committed recs (run d .layout) (place d) b (changeOf (setting d) (run d) (given d)) (kids d) recs′ (c .commit .result) index′)
+    (same-node d)
+    (subst (λ (q : Change). Committed recs (run d .layout) (place d) (node d) q (kids d) recs′ (c .commit .result) index′) (same-change d)
+    (c .commit .ensures))
 
 -- as many children as stops that b leaves, and no fewer than survive
 generated :
-    (d : tie.After-spot-of) (m : ℕ) → m ≡ length (stopsIn (given d .born))
-    → (m ≡ length (childrenOf (setting d) (start d .args .t) (start d .args .b))) × (left d ≤ m) × (m ≤ mostStops)
+    (d : tie.After-holding) (m : ℕ) → m ≡ length (stopsIn (given d .born))
+    → (m ≡ length (childrenOf (setting d) (start d .args .t) (nodeAt (words d) (place d)))) × (left d ≤ m) × (m ≤ mostStops)
 generated d m e = stage-generated (made d) (bounded d) (start d .pre .0) m e
 
 counted-requires : tie.Need-counted-requires
 counted-requires c κs =
-    let r = replaced (c .before .before .before) in
-    let d = spotted (r .before .before .before) in
+    let q = c .before .before .before .before .before in
+    let d = held (fitted q) in
     let ready = start d .pre .0 in
-    let stay : length (staying d) ≤ run d .active - 1 =
-    staying-few (records (words d)) (writtenSpot d) (changeOf (setting d) (run d) (given d)) (kids d)
-    (stage-changing (made d) (bounded d) ready .spotted) in
-    let some : 1 ≤ run d .active = omega (arith, ready .inside) in
     let born = generated d (c .count .result) (c .count .ensures) in
-    let room : run d .active + c .count .result < 2 ^ 62 = omega (arith, ready .fits, length-records (words d), born, start d .good) in
-    (some, (room, (omega (arith, put r .count, born), ready .room)))
+    let some : 1 ≤ run d .layout .active = omega (arith, stage-rest (made d) (bounded d) ready) in
+    let room : run d .layout .active + c .count .result < 2 ^ 62 =
+    omega (arith, stage-room (made d) (bounded d) ready, length-records (words d), born, start d .good) in
+    let few : q .commit .result .active ≤ run d .layout .active - 1 + c .count .result =
+    omega (arith, put q .counted, stage-few (made d) (bounded d) ready, born) in
+    (some, (room, (few, ready .room)))
 
 returns-2 : tie.Need-returns-2
 returns-2 c s shown =
-    let joined = c .before .before .before .before in
-    let r = replaced joined in
-    let e = r .before .before .before in
-    let d = spotted e in
-    let after : List ℕ = joined .hold .last .0 in
-    let made-shown =
-    stage-shown (made d) (bounded d) (start d .pre .0) s shown after (records (r .replace .last .0)) (r .replace .result) (fitting e) (put r) (whole r)
-    (joined .hold .ensures
-    ∙ ap₂ (λ (j k : ℕ). farWith (records (r .replace .last .0)) j k (start d .args .b)) (kept-count d .1) (asked d .before .holding .ensures))
-    (c .before .count .result) (generated d (c .before .count .result) (c .before .count .ensures) .0) in (
-      omega (arith, stage-kept (made d) (bounded d) (start d .pre .0) s shown, fitting e),
-      subst (λ (q : Run). Shown (setting d) after q (stepOf (setting d) (start d .args .t) (start d .args .i) (start d .args .b) s))
-          (sym (c .counted .ensures ∙ ap (λ (k : ℕ). runAfter (run d) (given d .best) (c .before .count .result) (r .replace .result) k) (asked d .before .holding .ensures)))
-          made-shown,
+    let q = c .before .before .before .before .before .before in
+    let e = fitted q in
+    let d = held e in
+    let ready = start d .pre .0 in
+    let after : List ℕ = q .commit .last .0 in
+    let index : List ℕ = q .commit .last .1 .1 .1 .1 .1 .1 .0 in
+    let m = c .before .count .result in
+    let counts : c .counted .result ≡ runAfter (run d) (given d .best) m (q .commit .result) = c .counted .ensures in (
+      omega (arith, stage-kept (made d) (bounded d) ready s shown, fitting e, kept-count d, ready .laid .whole),
+      subst
+          (λ (l : Run).
+          Shown (setting d) after index l (stepOf (setting d) (start d .args .t) (nodeAt (words d) (place d)) (restAt (words d) (run d) (place d)) s))
+          (sym counts)
+          (stage-shown (made d) (bounded d) ready s shown after index (q .commit .result) (put q) m (generated d m (c .before .count .ensures) .0)),
     )
 
 pub step-spec : {M : Type 1} → statement M
@@ -238,20 +227,21 @@ step-spec =
     tie.close
     (tie.spec
     (λ c κs. search needs)
+    expand-requires
+    (λ c κs. search needs)
     (λ c κs. search needs)
     holding-requires
-    (λ c κs. search needs)
-    (λ c κs. search needs)
-    fits-requires
+    (λ c κs. changing (c .before .before))
+    (λ c. search needs)
     (λ c. search needs)
     (λ c. search needs)
     returns
-    replace-requires
-    hold-requires
-    (λ c κs. let d = spotted (replaced (c .before .before) .before .before .before) in stage-born (made d) (bounded d) (start d .pre .0))
+    commit-requires
+    (λ c κs.
+    let d = held (fitted (c .before .before .before .before)) in
+    stage-born (made d) (bounded d) (start d .pre .0))
     counted-requires
     (λ c. search needs)
-    (λ c.
-    let d = spotted (replaced (c .before .before .before .before) .before .before .before) in
-    expanded (asked d) .expand .kept .1 .1 .1 .1 .1 .1 .0)
+    (λ c. expanded (held (fitted (c .before .before .before .before .before .before))) .expand .kept .1 .1 .1 .1 .1 .0)
+    (λ c. search needs)
     returns-2)

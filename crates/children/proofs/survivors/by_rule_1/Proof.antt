@@ -1,7 +1,7 @@
 -- `by_rule_1` meets its contract: the pass of rule 1, if it is on.
 use mathlib.Core.Path.{sym, _∙_}
 use borrow.Author.Needs.{needs}
-use Rattle.passes.specs.Code.{isWithin}
+use Rattle.lanes.specs.Code.{isWithin}
 use Rattle.children.proofs.SurvivorLaws.{thinned-on, thinned-off}
 use Rattle.children.proofs.survivors.by_rule_1.Statement.{statement}
 use Rattle.children.proofs.survivors.by_rule_1.Tie as tie

@@ -1,37 +1,59 @@
--- `pool::settle::settle` meets its contract: `turn`, `slide` and `clear` one after the other, joined by `settle-joins`. What `slide` and
--- `clear` require rests on turning and sliding keeping how many records there are.
-use mathlib.Core.Path.{_≡_, _∙_}
-use Prim.Native.Nat.{_-_}
+-- `settle` meets its contract: `squeeze`, `resize` of both lanes and `lay_out`, joined by `back-joins`.
+use mathlib.Core.Path.{sym}
 use native.Mathlib.Omega.{arith}
 use borrow.Author.Needs.{needs}
-use lib.ListN.{length}
-use Rattle.records.specs.Code.{records}
-use Rattle.pool.proofs.SettleLaws.{length-turned, slide-end, settle-joins}
+use Rattle.pool.proofs.BackLaws.{back-below, back-long, back-whole, back-joins}
 use Rattle.pool.proofs.settle.settle.Statement.{statement}
 use Rattle.pool.proofs.settle.settle.Tie as tie
 
-turned-long : (c : tie.After-turn) → length (records (c .turn .last .0)) ≡ length (records (c .before .before .before .args .w .now))
-turned-long c =
-    let a = c .before .before .before .args in
-    rw (c .turn .ensures) (length-turned (a .capacity - a .far) (a .capacity) (records (a .w .now)) (omega arith))
+-- the places before: the entry, seen from behind `squeeze`; and each call, seen from the next
+abbrev entry : tie.After-squeeze → tie.Start
+entry c = c .before .before .before .before
 
-clear-requires : tie.Need-clear-requires
-clear-requires c κs =
-    let at-slide = c .before .before .before in
-    let at-turn = at-slide .before .before .before .before in
-    let long = turned-long at-turn in
-    let slid = at-slide .slide .ensures in
-    omega (arith, long, slid .same-length, slide-end (records (at-turn .turn .last .0)) _ _ _ _ _ (omega (arith, long)) slid)
+abbrev squeezed : tie.After-resize → tie.After-squeeze
+squeezed c = c .before .before .before .before
+
+abbrev first : tie.After-resize2 → tie.After-resize
+first c = c .before .before .before .before
+
+abbrev second : tie.After-lay-out → tie.After-resize2
+second c = c .before .before .before .before
+
+resize-requires : tie.Need-resize-requires
+resize-requires c κs =
+    let at-squeeze = c .before .before .before in
+    let start = entry at-squeeze in
+    let below = back-below _ _ _ _ _ _ (start .pre .0) (start .pre .1) (at-squeeze .squeeze .ensures) in
+    (omega arith, omega (arith, below, at-squeeze .squeeze .ensures .same-length))
+
+resize-requires-2 : tie.Need-resize-requires-2
+resize-requires-2 c κs =
+    let at-resize = c .before .before .before in
+    let at-squeeze = squeezed at-resize in
+    let start = entry at-squeeze in
+    (omega arith, omega (arith, back-long _ _ _ _ _ _ (start .pre .0) (start .pre .1) (at-squeeze .squeeze .ensures) _ (at-resize .resize .ensures)))
+
+lay-out-requires : tie.Need-lay-out-requires
+lay-out-requires c κs =
+    let at-resize2 = c .before .before .before in
+    let at-resize = first at-resize2 in
+    let at-squeeze = squeezed at-resize in
+    let start = entry at-squeeze in (
+      sym
+          (back-whole _ _ _ _ _ _ (start .pre .0) (start .pre .1) (at-squeeze .squeeze .ensures) _ (at-resize .resize .ensures) _
+          (at-resize2 .resize2 .ensures)),
+      omega (arith, back-below _ _ _ _ _ _ (start .pre .0) (start .pre .1) (at-squeeze .squeeze .ensures)),
+    )
 
 returns : tie.Need-returns
 returns c =
-    let at-clear = c .before .before in
-    let at-slide = at-clear .before .before .before .before in
-    let at-turn = at-slide .before .before .before .before in
-    let at-start = at-turn .before .before .before in
-    at-clear .clear .ensures
-    ∙ settle-joins _ _ _ _ (records (at-start .args .w .now)) _ _ (at-start .pre .0) (at-start .pre .1) (at-turn .turn .ensures)
-    (at-slide .slide .ensures)
+    let at-lay-out = c .before .before in
+    let at-resize2 = second at-lay-out in
+    let at-resize = first at-resize2 in
+    let at-squeeze = squeezed at-resize in
+    let start = entry at-squeeze in
+    back-joins _ _ _ _ _ _ (start .pre .0) (start .pre .1) (at-squeeze .squeeze .ensures) _ (at-resize .resize .ensures) _
+    (at-resize2 .resize2 .ensures) _ (at-lay-out .lay-out .ensures)
 
 pub settle-spec : {M : Type 1} → statement M
 settle-spec =
@@ -39,7 +61,8 @@ settle-spec =
     (tie.spec
     (λ c. search needs)
     (λ c κs. search needs)
-    (λ c κs. omega (arith, turned-long (c .before .before .before)))
-    clear-requires
+    resize-requires
+    resize-requires-2
+    lay-out-requires
     (λ c. search needs)
     returns)

@@ -1,7 +1,0 @@
--- `taking_of` meets its contract.
-use borrow.Author.Needs.{needs}
-use Rattle.replacement.proofs.taking_of.Statement.{statement}
-use Rattle.replacement.proofs.taking_of.Tie as tie
-
-pub taking-of-spec : {M : Type 1} → statement M
-taking-of-spec = tie.close (tie.spec (λ c κs. search needs) (λ c. rw (← c .before .on .ensures, c .if1 .taken)) (λ c. rw (← c .before .on .ensures, c .if1 .left)))
