@@ -1,3 +1,4 @@
 pub mod CarriedLaws
 pub mod SetLaws
 pub mod HomeLaws
+pub mod RowLaws

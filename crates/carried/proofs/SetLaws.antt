@@ -1,7 +1,7 @@
 -- What the code of this crate needs of the laws of what is carried, for sets of stops that are numbers.
---   Entered, entered-again    the invariant of a loop that enters a number for each stop
 --   several                   a set with stops behind its first one is one of several
---   among-set, total-most, shares-made    what the children share: its parts as the code finds them, and that their sum is small
+--   others-some               each stop of several has another one beside it
+--   total-most, shares-made    what the children share: its parts as the code finds them, and that their sum is small
 --   carried-ahead             what the code adds for a child is what is carried to the child
 --   gives-close, gives-plain, gives-none, gives-one    so it is document 01's bound: close, plain, where no stop is left, and of a complete child
 use mathlib.Core.Path.{_≡_, refl, ap, sym, subst, _∙_}
@@ -13,8 +13,7 @@ use native.Mathlib.Nat.{mul-le-mul-right}
 use native.Mathlib.Omega.{arith}
 use lib.Count.{trailingZeros}
 use lib.Dec.{T, eqb}
-use lib.ListN.{length, getD, set, replicate, length-set, length-replicate, getD-replicate}
-use lib.Seq.{getD-set-same, getD-set-other}
+use lib.ListN.{length, getD, replicate, length-replicate, getD-replicate}
 use Rattle.sizes.specs.Sizes.{mostStops, places, dearest}
 use Rattle.lists.specs.Lists.{In, sum, least, without, Distinct}
 use Rattle.lists.proofs.Tests.{compared, to-false, ne-neqb}
@@ -24,26 +23,11 @@ use Rattle.stops.specs.Legs.{rowLeg, legs}
 use Rattle.stops.specs.Bounds.{isClose, cheapestInto, remainder}
 use Rattle.stops.specs.Code.{stopsIn, First, Cheap, reckoning, reckonOn}
 use Rattle.stops.proofs.SetBits.{stopsIn-zero, stopsIn-range, stopsIn-distinct, stopsIn-few, stopsIn-without}
-use Rattle.stops.proofs.SetLoops.{first-out, Passed, passed-again, ahead-none, ahead-plain, ahead-close}
+use Rattle.stops.proofs.SetLoops.{first-out, ahead-none, ahead-plain, ahead-close}
 use Rattle.carried.specs.Carried.{among, carried}
 use Rattle.carried.specs.Code.{Table, Several, homeOf, aheadOf, familyOf, Shares, Gives}
 use Rattle.carried.specs.declared.Family.{Family}
 use Rattle.carried.proofs.CarriedLaws.{share-corrected, held-corrected, carried-home, family-child, carried-sum, carried-remainder}
-
--- The invariant of a loop that enters a number for each stop of a set: those of the stops passed stand at their places.
-pub record Entered (f : ℕ → ℕ) (rest : ℕ) (xs : List ℕ) (left : ℕ) : Type 0 where
-  pub passed : Passed (λ s. getD xs s 0 ≡ f s) rest left
-  pub room : length xs ≡ places
-
-pub entered-again :
-    {f : ℕ → ℕ} {rest left left′ s v : ℕ} {xs : List ℕ} → Entered f rest xs left → First left s → left′ ≡ left - 2 ^ (s - 1) → v ≡ f s
-    → Entered f rest (set xs s v) left′
-entered-again {s = s} {v} {xs} l o e h = record {
-  passed =
-      passed-again (l .passed) o e (getD-set-same xs s v 0 (omega (arith, l .room, o .few)) ∙ h)
-      (λ r i n was. getD-set-other xs s r v 0 n ∙ was);
-  room = length-set xs s v ∙ l .room;
-}
 
 -- a family of which only the total counts: each stop has nothing of it
 zero-at : (s : ℕ) → s ≤ mostStops → getD {A = ℕ} (replicate places 0) s 0 ≡ 0
@@ -90,12 +74,6 @@ module _ (t : Table) {rest : ℕ} (v : Several rest) where
       let m = rest - 2 ^ (s - 1) in
       let first = first-out m (v .beside s i) (omega (arith, v .small)) _ refl in
       (trailingZeros 32 m + 1, subst (λ (xs : List ℕ). In (trailingZeros 32 m + 1) xs) (others-are s i) (first .member))
-
-  pub among-set :
-      (others s : ℕ) → In s (stopsIn rest) → others ≡ rest - 2 ^ (s - 1)
-      → least (λ p. rowLeg t p s) (stopsIn others) ≡ among (legs t) (stopsIn rest) s
-  unfolding legs among
-  among-set others s i e = rw (e, others-are s i)
 
   module _ (cheap : Cheap t) where
     among-most : (s : ℕ) → among (legs t) (stopsIn rest) s ≤ dearest

@@ -3,21 +3,24 @@
 // stop, found once for the family, and with it the cheapest leg home. specs/Carried has this in the request's words, and proofs/ that it is document
 // 01's close bound. The functions are public for the crates above and not for hosts; what they require, those crates meet.
 ghost use mathlib.Core.Path.{_≡_};
-ghost use Prim.Native.Nat.{_-_, _^_, _≤_, _<_};
-ghost use lib.ListN.{length, replicate};
-ghost use Rattle.sizes.specs.Sizes.{mostStops, places};
-ghost use Rattle.stops.specs.Code.{lastStop, Cheap};
+ghost use mathlib.Core.Bool.{cond};
+ghost use Prim.Native.Nat.{ℕ, _-_, _^_, _≤_, _<_, min};
+ghost use lib.Dec.{eqb};
+ghost use lib.ListN.{length, getD, replicate};
+ghost use Rattle.sizes.specs.Sizes.{mostStops, places, aboveEveryCost};
+ghost use Rattle.lists.specs.Lists.{In};
+ghost use Rattle.stops.specs.Legs.{legs};
+ghost use Rattle.stops.specs.Code.{stopsIn, lastStop, Cheap};
+ghost use Rattle.carried.specs.Carried.{among};
 ghost use Rattle.carried.specs.Code.{noted, aheadOf, familyOf, Several, Shares, Gives, Adds};
 use sizes::ABOVE_EVERY_COST;
 use sizes::PLACES;
-use stops::bound::cheapest;
 use stops::bound::is_close;
 use stops::bound::lesser;
 use stops::legs::leg;
 use stops::node_record::Record;
 use stops::sets::later;
 use stops::sets::next;
-use stops::sets::without;
 use stops::table::Rows;
 
 // Of the legs home from some stops the cheapest, the stop that gives it, and the cheapest of the others.
@@ -58,11 +61,58 @@ fn noted(x: Homes, s: u32, home: u32) -> Homes
     }
 }
 
+// A leg from r to s, above every cost from a stop to itself.
+fn from_another(leg: u32, r: usize, s: usize) -> u32
+    ensures { λ v. ⌜ v ≡ cond (eqb s r) aboveEveryCost leg ⌝ }
+{
+    if s == r { ABOVE_EVERY_COST } else { leg }
+}
+
+// The row of stop r joins: into has the cheapest leg into each stop so far. A whole row is gone through, whatever stops are left, so that several
+// are done at a time.
+fn row_joins(row: [u32; PLACES], r: usize, into: &mut [u32])
+    requires { ⌜ length (now into) ≡ places ⌝ }
+    ensures { λ u. ⌜ ((s : ℕ) → 1 ≤ s → s < places → getD (now (into .exit)) s 0 ≡ min (getD (now (into .entry)) s 0) (cond (eqb s r) aboveEveryCost (getD row s 0))) × (length (now (into .exit)) ≡ places) ⌝ }
+{
+    let mut s = 1;
+    while s < PLACES {
+        into[s] = lesser(into[s], from_another(row[s], r, s));
+        s += 1;
+    }
+}
+
+// Puts above every cost wherever a leg is to stand.
+fn cleared(into: &mut [u32])
+    requires { ⌜ length (now into) ≡ places ⌝ }
+    ensures { λ u. ⌜ ((s : ℕ) → 1 ≤ s → s < places → getD (now (into .exit)) s 0 ≡ aboveEveryCost) × (length (now (into .exit)) ≡ places) ⌝ }
+{
+    let mut s = 1;
+    while s < PLACES {
+        into[s] = ABOVE_EVERY_COST;
+        s += 1;
+    }
+}
+
+// The cheapest leg into each stop of rest from another one of them, a row at a time.
+fn least_into(t: &Rows, rest: u32, into: &mut [u32])
+    requires { ⌜ Several rest × (Cheap (now t) × (length (now into) ≡ places)) ⌝ }
+    ensures { λ u. ⌜ ((s : ℕ) → In s (stopsIn rest) → getD (now (into .exit)) s 0 ≡ among (legs (now (t .entry))) (stopsIn rest) s) × (length (now (into .exit)) ≡ places) ⌝ }
+{
+    cleared(into);
+    let mut left = rest;
+    while left != 0 {
+        let r = next(left) as usize;
+        left = later(left);
+        row_joins(t[r], r, into);
+    }
+}
+
 // What the children by the stops of rest share where the bound is close. Each stop's part of the total is written to its place.
 fn shared(t: &Rows, rest: u32, into: &mut [u32]) -> Family
     requires { ⌜ Several rest × (Cheap (now t) × (length (now into) ≡ places)) ⌝ }
     ensures { λ r. ⌜ Shares (now (t .entry)) rest r (now (into .exit)) ⌝ }
 {
+    least_into(t, rest, into);
     let mut total = 0;
     let mut homes = Homes {
         cheapest: ABOVE_EVERY_COST,
@@ -73,9 +123,7 @@ fn shared(t: &Rows, rest: u32, into: &mut [u32]) -> Family
     while left != 0 {
         let s = next(left);
         left = later(left);
-        let leg_in = cheapest(t, without(rest, s), s);
-        into[s as usize] = leg_in;
-        total += leg_in;
+        total += into[s as usize];
         homes = noted(homes, s, leg(t, s, 0));
     }
     Family { total, homes }

@@ -1,4 +1,4 @@
-//! A row of the table: some tables of one kind and size, planned by the three in turn.
+//! A row of the table: some tables of one kind and size, planned by the four in turn.
 
 use std::time::Duration;
 
@@ -13,12 +13,14 @@ const RUNS: usize = 3;
 const SHORT_RUNS: usize = 30;
 const SHORT: Duration = Duration::from_millis(20);
 
-/// Times of the simple peer, the lazy one and the library, in this order; none where one was left out.
-const PLANNERS: usize = 3;
+/// Times of the simple peer, the lazy one, the one that walks chains abreast and the library, in this order; none
+/// where one was left out.
+const PLANNERS: usize = 4;
 type Times = [Option<Duration>; PLANNERS];
 const SIMPLE: usize = 0;
 const LAZY: usize = 1;
-const OURS: usize = 2;
+const ABREAST: usize = 2;
+const OURS: usize = 3;
 
 /// A table that was planned.
 struct Planned {
@@ -29,21 +31,22 @@ struct Planned {
 
 pub fn heading() {
     print!("{:<8}{:>3}  {:<26}{:>10}", "table", "n", "job", "tables");
-    print!("{:>12}{:>10}{:>12}{:>10}{:>10}", "branched", "records", "simple ns", "lazy ns", "ours ns");
-    println!("{:>8}{:>8}", "/lazy", "/simple");
+    print!("{:>12}{:>10}{:>12}{:>10}{:>9}{:>9}", "branched", "records", "simple ns", "lazy ns", "abreast", "ours ns");
+    println!("{:>7}{:>9}{:>8}", "/lazy", "/abreast", "/simple");
 }
 
 pub fn row(wind: &str, n: u32, kind: &Kind, tables: u64, seconds: u64, pool: &mut [Record]) {
     let tasks = (0..tables).map(|seed| kind.task(wind, n, seed));
     let planned: Vec<Planned> = tasks.filter_map(|task| plan(&task, seconds, pool)).collect();
     let name = format!("{}: selection {}, rules {}", kind.letter, kind.selection, kind.rules);
-    let ended = [SIMPLE, LAZY, OURS].map(|k| planned.iter().filter(|p| p.times[k].is_some()).count());
-    let ended = format!("{}/{}/{}", ended[SIMPLE], ended[LAZY], ended[OURS]);
+    let ended = [SIMPLE, LAZY, ABREAST, OURS].map(|k| planned.iter().filter(|p| p.times[k].is_some()).count());
+    let ended = format!("{}/{}/{}/{}", ended[SIMPLE], ended[LAZY], ended[ABREAST], ended[OURS]);
     let branched: u64 = planned.iter().map(|p| p.branched).sum();
     let records = planned.iter().map(|p| p.records).max().unwrap_or(0);
     print!("{wind:<8}{n:>3}  {name:<26}{ended:>10}{branched:>12}{records:>10}");
-    print!("{:>12}{:>10}{:>10}", each(&planned, SIMPLE), each(&planned, LAZY), each(&planned, OURS));
-    println!("{:>8}{:>8}", ratio(&planned, LAZY), ratio(&planned, SIMPLE));
+    print!("{:>12}{:>10}", each(&planned, SIMPLE), each(&planned, LAZY));
+    print!("{:>9}{:>9}", each(&planned, ABREAST), each(&planned, OURS));
+    println!("{:>7}{:>9}{:>8}", ratio(&planned, LAZY), ratio(&planned, ABREAST), ratio(&planned, SIMPLE));
 }
 
 /// A planner's time for a branching, over the tables that it ended.
@@ -69,7 +72,7 @@ fn shown(known: bool, number: f64, digits: usize) -> String {
     }
 }
 
-/// All three in a pool of the records needed and a quarter more; none if the lazy peer does not end.
+/// All four in a pool of the records needed and a quarter more; none if the lazy peer does not end.
 fn plan(task: &Task, seconds: u64, pool: &mut [Record]) -> Option<Planned> {
     let (lazy, _) = task.by_peer(peer::lazy, &until(NO_BUDGET, seconds), pool)?;
     let (report, records) = (lazy.report, lazy.records);
@@ -79,13 +82,15 @@ fn plan(task: &Task, seconds: u64, pool: &mut [Record]) -> Option<Planned> {
     let pool = &mut pool[..records + records / 4];
     let simple = by_peer(task, peer::simple, seconds, &report, pool);
     let lazy = by_peer(task, peer::lazy, seconds, &report, pool);
+    let abreast = by_peer(task, peer::abreast, seconds, &report, pool);
     let ours = by_library_in_time(task, seconds, simple.is_some(), &report, pool);
-    let mut times = [simple, lazy, ours];
+    let mut times = [simple, lazy, abreast, ours];
     let short = times.iter().flatten().all(|&time| time < SHORT);
     for _ in 1..if short { SHORT_RUNS } else { RUNS } {
         let again = [
             times[SIMPLE].and_then(|_| by_peer(task, peer::simple, seconds, &report, pool)),
             times[LAZY].and_then(|_| by_peer(task, peer::lazy, seconds, &report, pool)),
+            times[ABREAST].and_then(|_| by_peer(task, peer::abreast, seconds, &report, pool)),
             times[OURS].map(|_| by_library(task, &report, pool)),
         ];
         for (time, again) in times.iter_mut().zip(again) {

@@ -17,7 +17,7 @@ fn compare(task: &Task, budget: u64, records: usize) -> Report {
     let until = Until { budget, deadline: Instant::now() + Duration::from_secs(600) };
     let mut pool = dirty_pool(records);
     let (report, _) = task.by_library(budget, &mut pool);
-    for peer in [peer::simple, peer::lazy] {
+    for peer in [peer::simple, peer::lazy, peer::abreast] {
         task.hold(peer, &until, &report, &pool).expect("it ends");
     }
     report

@@ -13,10 +13,11 @@ use samples::{Random, KINDS};
 /// No pool is so large that it is not squeezed at every step.
 const EAGER: i64 = -(1 << 60);
 
-const LAZY: [Peer; 2] = [peer::lazy, peer::lazy_with::<64, 8, 64>];
+const LAZY: [Peer; 3] = [peer::lazy, peer::abreast, peer::lazy_with::<64, 8, 64, true>];
 
 /// Slow where many records are needed.
-const TINY: [Peer; 3] = [peer::lazy_with::<4, 4, EAGER>, peer::lazy_with::<4, 4, 0>, peer::lazy_with::<2, 2, 16>];
+const TINY: [Peer; 3] =
+    [peer::lazy_with::<4, 4, EAGER, false>, peer::lazy_with::<4, 4, 0, true>, peer::lazy_with::<2, 2, 16, true>];
 const MANY: usize = 1_000;
 
 /// How often each way to end was seen.

@@ -17,7 +17,7 @@ const BRANCHED: usize = 1;
 
 /// The active records stand among the first `used` ones, earliest first; the branched ones from the far end on, the
 /// first outermost. Chains are kept under rules that look at them, and minima under selections that do.
-struct Lazy<'a, const HEADS: usize, const BLOCKS: usize, const SLACK: i64> {
+struct Lazy<'a, const HEADS: usize, const BLOCKS: usize, const SLACK: i64, const ABREAST: bool> {
     pool: &'a mut [Record],
     active: usize,
     used: usize,
@@ -31,7 +31,9 @@ struct Lazy<'a, const HEADS: usize, const BLOCKS: usize, const SLACK: i64> {
     met: u32,
 }
 
-impl<const HEADS: usize, const BLOCKS: usize, const SLACK: i64> Inside for Lazy<'_, HEADS, BLOCKS, SLACK> {
+impl<const HEADS: usize, const BLOCKS: usize, const SLACK: i64, const ABREAST: bool> Inside
+    for Lazy<'_, HEADS, BLOCKS, SLACK, ABREAST>
+{
     fn active(&self) -> usize {
         self.active
     }
@@ -60,6 +62,9 @@ impl<const HEADS: usize, const BLOCKS: usize, const SLACK: i64> Inside for Lazy<
     /// over. The active ones that a child meets and does not yield to are those that rule 8 looks for.
     #[inline(always)]
     fn undominated(&mut self, job: &Job, step: &Step) -> u32 {
+        if !ABREAST {
+            return self.one_by_one(job, step);
+        }
         let mut walks = Walks::new();
         for s in Stops(if job.rule(2) { step.alive } else { 0 }) {
             walks.begin(ACTIVE, s - 1, self.front.head(at(&step.kids, s - 1)));
@@ -140,7 +145,37 @@ fn latest_open(places: &[Record], all: u32) -> usize {
     places.iter().rposition(|x| x[BOUND] != NONE).expect("a node is active")
 }
 
-impl<const HEADS: usize, const BLOCKS: usize, const SLACK: i64> Lazy<'_, HEADS, BLOCKS, SLACK> {
+impl<const HEADS: usize, const BLOCKS: usize, const SLACK: i64, const ABREAST: bool>
+    Lazy<'_, HEADS, BLOCKS, SLACK, ABREAST>
+{
+    /// Each child's chains by themselves, up to its first rival; rule 8 then looks along each survivor's.
+    #[inline(always)]
+    fn one_by_one(&mut self, job: &Job, step: &Step) -> u32 {
+        let mut left = step.alive;
+        for s in Stops(step.alive) {
+            let x = at(&step.kids, s - 1);
+            let rivalled = job.rule(2) && self.rivalled(step, self.front.head(x), x)
+                || job.rule(4) && self.rivalled(step, self.far.head(x), x);
+            left &= !((rivalled as u32) << (s - 1));
+        }
+        self.met = left;
+        left
+    }
+
+    /// Whether a record of a chain that is not gone dominates the child x.
+    #[inline(always)]
+    fn rivalled(&self, step: &Step, head: u32, x: &Record) -> bool {
+        let mut link = head;
+        while link != 0 {
+            let y = at(self.pool, link as usize - 1);
+            if y[SET] == x[SET] && step.kin.rivals(y, x) && y[BOUND] != NONE && y[PATH] <= x[PATH] {
+                return true;
+            }
+            link = y[SIZE];
+        }
+        false
+    }
+
     /// The active record at i is gone.
     #[inline(always)]
     fn kill(&mut self, i: usize) {
@@ -211,13 +246,19 @@ impl<const HEADS: usize, const BLOCKS: usize, const SLACK: i64> Lazy<'_, HEADS, 
 }
 
 /// Plans in a pool of one record or more; none at the deadline. With 8,192 heads to a lane and 512 blocks, squeezed
-/// when the gone records are more than a quarter of the active ones and 256.
+/// when the gone records are more than a quarter of the active ones and 256, and each child's chains walked by
+/// themselves, as the proved planner does.
 pub fn plan(job: &Job, start: &[u8], until: &Until, pool: &mut [Record]) -> Option<Ended> {
-    plan_with::<8192, 512, 1024>(job, start, until, pool)
+    plan_with::<8192, 512, 1024, false>(job, start, until, pool)
+}
+
+/// The same with the chains of all children walked abreast, so that no walk waits for another's records.
+pub fn plan_abreast(job: &Job, start: &[u8], until: &Until, pool: &mut [Record]) -> Option<Ended> {
+    plan_with::<8192, 512, 1024, true>(job, start, until, pool)
 }
 
 /// With any numbers of heads and blocks, powers of two, and any slack before a squeeze, in quarters of a record.
-pub fn plan_with<const HEADS: usize, const BLOCKS: usize, const SLACK: i64>(
+pub fn plan_with<const HEADS: usize, const BLOCKS: usize, const SLACK: i64, const ABREAST: bool>(
     job: &Job,
     start: &[u8],
     until: &Until,
@@ -225,7 +266,7 @@ pub fn plan_with<const HEADS: usize, const BLOCKS: usize, const SLACK: i64>(
 ) -> Option<Ended> {
     const { assert!(HEADS > 1 && HEADS.is_power_of_two() && BLOCKS > 1 && BLOCKS.is_power_of_two()) };
     assert!(pool.len() < NONE as usize, "links have 32 bits");
-    let mut lazy = Lazy::<HEADS, BLOCKS, SLACK> {
+    let mut lazy = Lazy::<HEADS, BLOCKS, SLACK, ABREAST> {
         pool,
         active: 1,
         used: 0,
