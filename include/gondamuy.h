@@ -11,10 +11,10 @@
  *   - each points to as many elements as its length says, aligned as its type is;
  *   - pool and buffer, which are written to, overlap nothing else that the call is given;
  *   - with a length of 0 any pointer will do, a null one too.
- * A call uses nothing but its arguments and a few kilobytes of stack, gondamuy_plan under rules 2, 4 or 8 less than
- * 80 kilobytes; it keeps nothing between calls, and may run in several threads at once over different pools and
- * buffers. There is no bound on the time of gondamuy_plan; a budget bounds its branchings. By a theorem
- * gondamuy_first_order makes at most as many exchanges as its nearest-stop order costs; no time is claimed.
+ * A call uses nothing but its arguments and a few kilobytes of stack, gondamuy_plan less than 80 kilobytes; it keeps
+ * nothing between calls, and may run in several threads at once over different pools and buffers. There is no bound on
+ * the time of gondamuy_plan; a budget bounds its branchings. By a theorem gondamuy_first_order makes at most as many
+ * exchanges as its nearest-stop order costs; no time is claimed.
  */
 #ifndef GONDAMUY_H
 #define GONDAMUY_H

@@ -1,4 +1,4 @@
--- Laws of blocks of places. A block's minimum tells of its places (`above-block`, `some-block`, `in-block`); so the first place with a
+-- Laws of blocks of places. A block's minimum tells of its places (`some-block`, `in-block`); so the first place with a
 -- bound up to a limit is the first in the first block whose minimum is up to it (`first-in-first`), and the last is the last in the last
 -- (`last-in-last`). The least of some numbers and of others is the lesser of the two (`least-both`). Blocks are powers of two of places, and
 -- what is shifted stays in a word (`few-shifts`, `block-starts`).

@@ -12,7 +12,7 @@ use crate::lesser::lesser_place;
 use lanes::constants::GONE;
 use records::bound_at;
 
-// How many blocks the first `used` places have.
+// A number of blocks that holds the first `used` places, and no more than there are.
 fn blocks_of(used: usize, shift: u32) -> usize
     requires { ⌜ (1 ≤ used) × (blocks * 2 ^ shift < 2 ^ 62) ⌝ }
     ensures { λ r. ⌜ ((i : ℕ) → i < used → i / 2 ^ shift < r) × (used ≤ blocks * 2 ^ shift → r ≤ blocks) ⌝ }

@@ -38,7 +38,7 @@ fn refresh(w: &[u32], used: usize, shift: u32, k: usize, index: &mut [u32])
     index[k] = least_in(w, from, to);
 }
 
-// Marks the record at i as gone, and finds the minimum of its block anew.
+// Marks the record at i as gone, and finds the minimum of its block anew if it may have been the record's bound.
 pub fn kill(w: &mut [u32], used: usize, shift: u32, i: usize, index: &mut [u32])
     requires { ⌜ Blocked (records (now w)) used (2 ^ shift) (now index) × ((i < used) × (blocks * 2 ^ shift < 2 ^ 62)) ⌝ }
     ensures { λ u. ⌜ (records (now (w .exit)) ≡ set (records (now (w .entry))) i (marked (getD (records (now (w .entry))) i emptyRecord))) × (Blocked (records (now (w .exit))) used (2 ^ shift) (now (index .exit)) × Same (now (index .entry)) (now (index .exit))) ⌝ }
@@ -86,7 +86,7 @@ pub fn rebuild(w: &[u32], used: usize, shift: u32, index: &mut [u32])
     note(w, 0, used, shift, index);
 }
 
-// A shift, no smaller than one that there is, by which the blocks reach `used` places.
+// A shift by which the blocks reach `used` places; from one that there is on, which answers do not depend on.
 pub fn wide_enough(used: usize, shift: u32) -> u32
     requires { ⌜ (used < 2 ^ 60) × (blocks * 2 ^ shift < 2 ^ 62) ⌝ }
     ensures { λ r. ⌜ (used ≤ blocks * 2 ^ r) × (blocks * 2 ^ r < 2 ^ 62) ⌝ }

@@ -13,11 +13,11 @@ pub fn lesser(a: u32, b: u32) -> u32
 }
 
 // .. places.
-pub fn lesser_place(a: usize, b: usize) -> usize
-    ensures { λ r. ⌜ (r ≤ a) × ((r ≤ b) × ((r < a → r ≡ b) × (r < b → r ≡ a))) ⌝ }
+pub fn lesser_place(i: usize, j: usize) -> usize
+    ensures { λ r. ⌜ (r ≤ i) × ((r ≤ j) × ((r < i → r ≡ j) × (r < j → r ≡ i))) ⌝ }
 {
-    if b < a {
-        return b;
+    if j < i {
+        return j;
     }
-    a
+    i
 }

@@ -122,7 +122,7 @@ layoutOf d capacity = record {
   «far_linked» = links (on 4 (d .rules)) capacity;
 }
 
--- what is kept in a layout has room in the index, whose heads are all 0
+-- what is kept in a layout has room in the index, which is all 0
 pub record Roomy (p : Layout) (index : List ℕ) : Type 0 where
   pub minima : T (p .ranked) → blocks ≤ length index
   pub heads : T (p .linked || p .«far_linked») → indexWords ≤ length index

@@ -52,7 +52,7 @@ use step::step;
 use stops::node_record::Record;
 use stops::table::rows;
 
-// The selection that looks at no bounds: the latest node first.
+// The selection that needs no minima: the latest node first.
 const LIFO: u32 = 3;
 
 // Words for the children of one node, a record for each stop.

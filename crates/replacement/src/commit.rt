@@ -57,7 +57,7 @@ fn cleared(
     q
 }
 
-// Whether the lane is to be squeezed: U fell, or there is no room behind it, or too many of its records are gone.
+// Whether the lane is to be squeezed: U fell, or there is no room behind it, or too many of its records are gone, on which no answer depends.
 fn due(p: Layout, change: Change) -> bool
     requires { ⌜ (p .active ≤ p .used) × ((p .used + p .far ≤ p .capacity) × ((p .capacity + change .far < 2 ^ 61) × (change .alive < 2 ^ mostStops))) ⌝ }
     ensures { λ r. ⌜ (r ≡ false → (change .fell ≡ false) × (p .used + length (stopsIn (change .alive)) + change .far ≤ p .capacity)) ⌝ }

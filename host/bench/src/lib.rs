@@ -1,4 +1,4 @@
-//! What the bench and its tests plan: tables by seed, and two unverified planners beside the proved one.
+//! What the bench and its tests plan: tables by seed, and three unverified planners beside the proved one.
 
 pub mod peer;
 pub mod tables;

@@ -1,4 +1,4 @@
-//! Long runs: the library against both peers, every field of the report and every word of the pool, over tables of
+//! Long runs: the library against the simple peer and the lazy one, every field of the report and every word of the pool, over tables of
 //! twelve to sixteen stops, all selections and many rules, in pools of so many records, stopped after so many
 //! branchings. The simple peer is left out where it takes more than so many seconds.
 

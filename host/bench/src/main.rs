@@ -1,11 +1,11 @@
-//! The proved planner beside two unverified ones of its method, job by job in one run: ns per branching, records
+//! The proved planner beside three unverified ones of its method, job by job in one run: ns per branching, records
 //! needed, and the ratios of the times.
 //!
 //!     bench [tables] [seconds] [R, P, Q or F]
 //!
 //! `tables` to a row (default 5); how many `seconds` one planner may take for a table (default 10); the job to run
 //! alone (default all four). A table that the lazy peer does not end in time is left out, and for one that another does
-//! not end, that one alone: column `tables` says how many the simple peer, the lazy one and the library ended. Each
+//! not end, that one alone: column `tables` says how many each of the four ended, the library last. Each
 //! table is planned three times by each in turn, thirty times where that is short, and the least time counts, so that
 //! what else the machine does shows little. The other modes, which their modules describe:
 //!

@@ -1,4 +1,4 @@
-//! What is planned, and each of the three that plan it.
+//! What is planned, and each of the four that plan it.
 
 use std::time::{Duration, Instant};
 

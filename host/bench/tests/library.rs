@@ -1,4 +1,4 @@
-//! The library against both peers: every field of the report and every word of the pool, on jobs of more branchings and
+//! The library against the peers: every field of the report and every word of the pool, on jobs of more branchings and
 //! records than the differential tests have. `bench long` does the same with as many of both as it is told.
 
 use std::time::{Duration, Instant};
@@ -12,7 +12,7 @@ fn task(wind: &str, n: u32, seed: u64, selection: u32, rules: u32, bound: u32) -
     Task::of(Job { n, selection, rules, bound }, wind, seed)
 }
 
-/// Holds both peers to the library.
+/// Holds the peers to the library.
 fn compare(task: &Task, budget: u64, records: usize) -> Report {
     let until = Until { budget, deadline: Instant::now() + Duration::from_secs(600) };
     let mut pool = dirty_pool(records);
