@@ -1,19 +1,18 @@
 -- Laws of blocks of places. A block's minimum tells of its places (`some-block`, `in-block`); so the first place with a
 -- bound up to a limit is the first in the first block whose minimum is up to it (`first-in-first`), and the last is the last in the last
--- (`last-in-last`). The least of some numbers and of others is the lesser of the two (`least-both`). Blocks are powers of two of places, and
--- what is shifted stays in a word (`few-shifts`, `block-starts`).
+-- (`last-in-last`). The least of some numbers and of others is the lesser of the two (`least-both`).
 use mathlib.Core.Path.{_≡_, refl, ap}
 use mathlib.Core.List.{List}
 use mathlib.Core.Logic.{_⊎_, inl, inr, _≢_}
-use Prim.Native.Nat.{ℕ, _+_, _*_, _/_, _%_, _^_, _≤_, _<_}
-use native.Mathlib.Nat.{div-lt-iff-lt-mul, le-div-iff-mul-le, div-mul-le-self, mul-le-mul-right, mod-eq-of-lt}
+use Prim.Native.Nat.{ℕ, _+_, _*_, _/_, _≤_, _<_}
+use native.Mathlib.Nat.{div-lt-iff-lt-mul, le-div-iff-mul-le, div-mul-le-self}
 use native.Mathlib.Omega.{arith}
 use lib.ListN.{getD}
-use lib.Pow.{pow-mono}
 use Rattle.lists.proofs.Tests.{compared, ordered}
 use Rattle.stops.specs.declared.node_record.Record.{Record}
 use Rattle.lanes.specs.Sizes.{blocks, gone}
 use Rattle.blocks.specs.Code.{boundAt, Least, inBlock, Blocked, Earliest, Latest}
+use Rattle.blocks.proofs.BlockLaws.{block-low, block-high, least-none}
 
 -- Walks that look for a place i where f is up to a limit: a walk has not passed it, and what is above the limit is not it.
 pub not-passed : (a limit k i : ℕ) → a ≤ limit → (i < k → limit < a) → k ≤ i
@@ -53,22 +52,6 @@ module _ (w : ℕ) (wide : 1 ≤ w) where
   pub block-up-to : (i j : ℕ) → i ≤ j → i / w ≤ j / w
   block-up-to i j h = block-from j (i / w) (let e : i / w * w ≤ i = div-mul-le-self i w in omega arith)
 
-  -- a place stands between the start of its block and that of the next one
-  pub block-bounds : (i k : ℕ) → i / w ≡ k → (k * w ≤ i) × (i < (k + 1) * w)
-  block-bounds i k e = (rw (← e) (div-mul-le-self i w), div-lt-iff-lt-mul wide .0 (omega arith))
-
--- The shift by which blocks of 2 ^ s places reach less than 2 ^ 62 is that of a word, and so is where a block starts.
-pub few-shifts : (s : ℕ) → blocks * 2 ^ s < 2 ^ 62 → s < 62
-few-shifts s h = go (ordered 62 s)
-  where
-    go : (62 ≤ s) ⊎ (s < 62) → s < 62
-    go (inl o) = absurd (let up : 2 ^ 62 ≤ 2 ^ s = pow-mono o in omega arith)
-    go (inr o) = o
-
-pub block-starts : (k s : ℕ) → blocks * 2 ^ s < 2 ^ 62 → k ≤ blocks → k * 2 ^ s % 2 ^ 64 ≡ k * 2 ^ s
-block-starts k s h few =
-    mod-eq-of-lt (let up : k * 2 ^ s ≤ blocks * 2 ^ s = mul-le-mul-right (2 ^ s) few in omega arith)
-
 -- The least of what P holds of and of what Q holds of.
 pub least-both :
     {P Q : ℕ → Type 0} (R : ℕ → Type 0) {f : ℕ → ℕ} {a b r : ℕ} → Least P f a → Least Q f b → ((i : ℕ) → R i → P i ⊎ Q i)
@@ -96,10 +79,6 @@ least-same R l to back = record {
   met = λ h. let (i, (p, e)) = l .met h in (i, (back i p, e));
 }
 
--- the least of nothing
-pub least-none : (P : ℕ → Type 0) (f : ℕ → ℕ) → ((i : ℕ) → P i → ⊥) → Least P f gone
-least-none P f none = record { most = omega arith; low = λ i p. absurd (none i p); met = λ h. absurd (omega arith) }
-
 module _ {recs : List Record} {used w : ℕ} {index : List ℕ} (b : Blocked recs used w index) where
   -- the minimum of a block
   pub block-least : (k : ℕ) → k < blocks → Least (inBlock used w k) (boundAt recs) (getD index k 0)
@@ -120,7 +99,8 @@ module _ {recs : List Record} {used w : ℕ} {index : List ℕ} (b : Blocked rec
       → (i : ℕ) × ((k * w ≤ i) × ((i < (k + 1) * w) × ((i < used) × (boundAt recs i ≤ limit))))
   in-block limit k live h up =
       let (i, ((inside, e), same)) = block-least k h .met (omega arith) in
-      let (start, end) = block-bounds w (b .wide) i k e in
+      let start = block-low w k i e in
+      let end = block-high w k i (b .wide) e in
       (i, (start, (end, (inside, omega arith))))
 
   pub first-in-first :

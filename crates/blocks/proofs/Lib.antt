@@ -1,3 +1,4 @@
+pub mod BlockLaws
 pub mod KeepLaws
 pub mod FindLaws
 pub mod SelectLaws

@@ -4,7 +4,7 @@
 --   place-apart, place-fits       records of a lane stand apart, and the number of one more fits a word
 --   chained-like                  a lane is chained still if its records are alike and its heads the same
 --   chained-none                  no record is chained, with heads of nothing
---   chained-more                  one joins (chained-next: as number k + 1; chained-set: stored at its place)
+--   chained-next, chained-set     one joins, as number k + 1; stored at its place
 --   chained-all                   some join, one after the other, at the pool's front (chained-some: as numbers k + 1 and on)
 --   chained-fewer                 the last leaves: the head of its bucket becomes its link
 use mathlib.Core.Path.{_≡_, refl, sym, _∙_}
@@ -26,7 +26,8 @@ use Rattle.lanes.specs.Sizes.{heads}
 use Rattle.lanes.specs.Code.{sized, placeOf, marked}
 use Rattle.lanes.specs.declared.Lane.{Lane}
 use Rattle.chains.specs.Code.{bucketOf, lastWith, keyAt, counting, Chained, linkedTo, joinedOf, indexWith, joinedAll, indexAll}
-use Rattle.chains.proofs.JoinLaws.{bucket-below, sized-joined}
+use Rattle.chains.proofs.WalkLaws.{bucket-head}
+use Rattle.chains.proofs.JoinLaws.{sized-joined}
 
 pub lastWith-same : (f g : ℕ → ℕ) (h k : ℕ) → ((j : ℕ) → j < k → f j ≡ g j) → lastWith f h k ≡ lastWith g h k
 unfolding lastWith
@@ -125,7 +126,7 @@ module _
         → getD recs′ (placeOf (p .end) (suc j)) emptyRecord .size ≡ lastWith (keyAt recs′ (p .end)) (keyAt recs′ (p .end) j) j
     new-links j (inl e) h =
         rw (e, new-key, here, new-link)
-        (c .tops (bucketOf x) (bucket-below x) ∙ lastWith-same (keyAt recs (p .end)) (keyAt recs′ (p .end)) (bucketOf x) k keys)
+        (c .tops (bucketOf x) (bucket-head x) ∙ lastWith-same (keyAt recs (p .end)) (keyAt recs′ (p .end)) (bucketOf x) k keys)
     new-links j (inr n) h =
         let l : j < k = omega arith in
         rw (same j l)
@@ -135,7 +136,7 @@ module _
         (h : ℕ) → (bucketOf x ≡ h) ⊎ (bucketOf x ≢ h) → h < heads
         → getD (set index (p .heads + bucketOf x) (suc k)) (p .heads + h) 0 ≡ lastWith (keyAt recs′ (p .end)) h (suc k)
     new-tops h (inl e) l =
-        rw (← e) (getD-set-same index (p .heads + bucketOf x) (suc k) 0 (omega (arith, bucket-below x, c .room))
+        rw (← e) (getD-set-same index (p .heads + bucketOf x) (suc k) 0 (omega (arith, bucket-head x, c .room))
         ∙ sym (lastWith-here (keyAt recs′ (p .end)) (bucketOf x) k new-key))
     new-tops h (inr n) l =
         getD-set-other index (p .heads + bucketOf x) (p .heads + h) (suc k) 0 (λ e. n (omega arith))
@@ -150,13 +151,6 @@ module _
           links = λ j h. new-links j (compared j k) h;
           tops = λ h l. new-tops h (compared (bucketOf x) h) l;
         }
-
-pub chained-more :
-    (p : Lane) (recs recs′ : List Record) (index : List ℕ) (x : Record) → T (p .linked) → x ≡ sized x
-    → ((j : ℕ) → j < p .count → getD recs′ (placeOf (p .end) (suc j)) emptyRecord ≡ getD recs (placeOf (p .end) (suc j)) emptyRecord)
-    → getD recs′ (placeOf (p .end) (suc (p .count))) emptyRecord ≡ joinedOf p index x → Chained recs p index
-    → Chained recs′ (counting p (suc (p .count))) (indexWith p (suc (p .count)) index x)
-chained-more p recs recs′ index x = chained-next p (p .count) recs recs′ index x
 
 -- the same, with the record stored at its place
 pub chained-set :
@@ -225,7 +219,7 @@ chained-fewer p k recs index c = record {
     link = getD recs (placeOf (p .end) (suc k)) emptyRecord .size
 
     below : keyAt recs (p .end) k < heads
-    below = bucket-below (sized (getD recs (placeOf (p .end) (suc k)) emptyRecord))
+    below = bucket-head (sized (getD recs (placeOf (p .end) (suc k)) emptyRecord))
 
     go :
         (h : ℕ) → (keyAt recs (p .end) k ≡ h) ⊎ (keyAt recs (p .end) k ≢ h) → h < heads

@@ -1,5 +1,4 @@
 -- Records that join a lane.
---   bucket-below                               a bucket is below the number of heads
 --   sized-twice, sized-joined, bound-joined    a link changes no node
 --   length-joined, nodes-joined                those that have joined, as nodes
 --   only-same, only-on, only-set               an index that changes in a lane's heads alone
@@ -31,10 +30,7 @@ use Rattle.lanes.specs.Sizes.{heads}
 use Rattle.lanes.specs.Code.{sized}
 use Rattle.lanes.specs.declared.Lane.{Lane}
 use Rattle.chains.specs.Code.{bucketOf, linkedTo, joinedOf, indexWith, joinedAll, indexAll, Only}
-
-pub bucket-below : (x : Record) → bucketOf x < heads
-unfolding bucketOf
-bucket-below x = omega arith
+use Rattle.chains.proofs.WalkLaws.{bucket-head}
 
 -- a link changes no node
 pub sized-twice : (x : Record) → sized (sized x) ≡ sized x
@@ -94,7 +90,7 @@ only-set from index i c low high = record {
 only-linked : (b : Bool) (p : Lane) (c : ℕ) (index : List ℕ) (x : Record) → p .linked ≡ b → Only (p .heads) index (indexWith p c index x)
 unfolding indexWith
 only-linked true p c index x e =
-    rw e (only-set (p .heads) index (p .heads + bucketOf x) c (omega arith) (omega (arith, bucket-below x)))
+    rw e (only-set (p .heads) index (p .heads + bucketOf x) c (omega arith) (omega (arith, bucket-head x)))
 only-linked false p c index x e = rw e (only-same (p .heads) index)
 
 pub only-with : (p : Lane) (c : ℕ) (index : List ℕ) (x : Record) → Only (p .heads) index (indexWith p c index x)

@@ -16,7 +16,7 @@ use Rattle.lanes.specs.Sizes.{heads}
 use Rattle.lanes.specs.Code.{sized, isLive, placeOf}
 use Rattle.lanes.specs.declared.Lane.{Lane}
 use Rattle.chains.specs.Code.{bucketOf, keyAt, counting, Chained, Walkable, Only}
-use Rattle.chains.proofs.JoinLaws.{bucket-below}
+use Rattle.chains.proofs.WalkLaws.{bucket-head}
 use Rattle.chains.proofs.ChainLaws.{chained-fewer, place-front}
 
 -- the lane has its first k records still, with the index as it should be for these, and those behind are gone
@@ -71,7 +71,7 @@ module _ (recs : List Record) (p : Lane) (index index′ : List ℕ) (front : p 
       x = getD recs k emptyRecord
 
       go : (b : Bool) → Only (p .heads) index (cond b (set index′ (p .heads + bucketOf (sized x)) (x .size)) index′)
-      go true = only-one (p .heads) (bucketOf (sized x)) (x .size) index index′ (bucket-below (sized x)) o
+      go true = only-one (p .heads) (bucketOf (sized x)) (x .size) index index′ (bucket-head (sized x)) o
       go false = o
 
   pub trimmed-one :

@@ -2,12 +2,12 @@
 -- of these lists alone. These definitions are the code's own.
 --   records, words      words as records, and back; fewer than six words at the end are no record
 --   encode              the record of a node
---   Sifted, RunsTo      what a pass keeps, and how far a walk goes
+--   Sifted              what a pass keeps
 --   inSlot, slots       records that stand one for each stop: that of one stop, and those of a set of stops
 --   Slotted             the stops of a set have slots
 --   Thinned             what a pass keeps of these: those of a smaller set
 use mathlib.Core.Path.{_≡_}
-use mathlib.Core.Bool.{Bool, true, not, cond}
+use mathlib.Core.Bool.{Bool, true}
 use mathlib.Core.List.{List, [], _∷_, _++_, map}
 use Prim.Native.Nat.{ℕ, _+_, _-_, _^_, _≤_, _<_}
 use lib.ListN.{length, getD, take, drop}
@@ -57,13 +57,6 @@ pub record Sifted (test : Record → Bool) (l : List Record) (from to at : ℕ) 
 -- the test that every record passes
 unfoldable pub always : Record → Bool
 always x = true
-
--- r is the first place from `from` to `to` at which the test is not what it should be, or `to`
-pub record RunsTo (test : Record → Bool) (should : Bool) (l : List Record) (from to r : ℕ) : Type 0 where
-  pub from-there : from ≤ r
-  pub up-to : r ≤ to
-  pub all-so : keep test (slice from r l) ≡ cond should (slice from r l) []
-  pub met : r < to → test (getD l r emptyRecord) ≡ not should
 
 -- the record of stop s has slot s-1
 unfoldable pub inSlot : List Record → ℕ → Record

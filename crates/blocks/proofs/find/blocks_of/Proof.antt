@@ -4,7 +4,8 @@ use native.Mathlib.Omega.{arith}
 use borrow.Author.Needs.{needs}
 use lib.Pow.{pow-pos, shr-le}
 use Rattle.lanes.specs.Sizes.{blocks}
-use Rattle.blocks.proofs.FindLaws.{few-shifts, block-up-to, block-below}
+use Rattle.blocks.proofs.BlockLaws.{shift-small}
+use Rattle.blocks.proofs.FindLaws.{block-up-to, block-below}
 use Rattle.blocks.proofs.find.blocks_of.Statement.{statement}
 use Rattle.blocks.proofs.find.blocks_of.Tie as tie
 
@@ -24,4 +25,4 @@ returns c =
 
 pub blocks-of-spec : {M : Type 1} → statement M
 blocks-of-spec =
-    tie.close (tie.spec (λ c. search needs) (λ c. omega (arith, few-shifts (c .args .shift) (c .pre .1))) add-result returns)
+    tie.close (tie.spec (λ c. search needs) (λ c. omega (arith, shift-small blocks (c .args .shift) (omega arith) (c .pre .1))) add-result returns)

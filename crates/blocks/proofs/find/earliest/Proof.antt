@@ -2,7 +2,9 @@
 use mathlib.Core.Path.{_≡_}
 use Prim.Native.Nat.{_*_, _^_, _%_}
 use native.Mathlib.Omega.{arith}
-use Rattle.blocks.proofs.FindLaws.{few-shifts, block-starts, some-block, in-block, first-in-first}
+use Rattle.lanes.specs.Sizes.{blocks}
+use Rattle.blocks.proofs.BlockLaws.{shift-small, shifted}
+use Rattle.blocks.proofs.FindLaws.{some-block, in-block, first-in-first}
 use Rattle.blocks.proofs.find.earliest.Statement.{statement}
 use Rattle.blocks.proofs.find.earliest.Tie as tie
 
@@ -16,7 +18,7 @@ start : (c : tie.After-first-block) →
     let s = c .before .before .before .args .shift in c .first-block .result * 2 ^ s % 2 ^ 64 ≡ c .first-block .result * 2 ^ s
 start c =
     let a = c .before .before .before in
-    block-starts (c .first-block .result) (a .args .shift) (a .pre .1 .0) (omega (arith, c .first-block .ensures .0))
+    shifted (c .first-block .result) (a .args .shift) (omega (arith, c .first-block .ensures .0)) (a .pre .1 .0)
 
 first-from-requires : tie.Need-first-from-requires
 first-from-requires c κs =
@@ -39,6 +41,6 @@ earliest-spec =
     tie.close
     (tie.spec
     first-block-requires
-    (λ c. omega (arith, few-shifts (c .before .before .before .args .shift) (c .before .before .before .pre .1 .0)))
+    (λ c. omega (arith, shift-small blocks (c .before .before .before .args .shift) (omega arith) (c .before .before .before .pre .1 .0)))
     first-from-requires
     returns)

@@ -4,7 +4,8 @@ use Prim.Native.Nat.{_+_, _*_, _/_, _^_, _%_, _≤_}
 use native.Mathlib.Omega.{arith}
 use borrow.Author.Needs.{needs}
 use Rattle.lanes.specs.Sizes.{blocks}
-use Rattle.blocks.proofs.FindLaws.{few-shifts, block-starts, block-of, in-block, last-in-last, below-lesser}
+use Rattle.blocks.proofs.BlockLaws.{shift-small, shifted}
+use Rattle.blocks.proofs.FindLaws.{block-of, in-block, last-in-last, below-lesser}
 use Rattle.blocks.proofs.find.latest.Statement.{statement}
 use Rattle.blocks.proofs.find.latest.Tie as tie
 
@@ -28,7 +29,7 @@ next : (c : tie.After-last-block) →
     let s = entry (c .before) .args .shift in (c .last-block .result + 1) * 2 ^ s % 2 ^ 64 ≡ (c .last-block .result + 1) * 2 ^ s
 next c =
     let a = entry (c .before) in
-    block-starts (c .last-block .result + 1) (a .args .shift) (a .pre .1 .0) (omega (arith, few (c .before), c .last-block .ensures .0))
+    shifted (c .last-block .result + 1) (a .args .shift) (omega (arith, few (c .before), c .last-block .ensures .0)) (a .pre .1 .0)
 
 last-before-requires : tie.Need-last-before-requires
 last-before-requires c κs =
@@ -71,7 +72,7 @@ latest-spec =
     (λ c κs. search needs)
     last-block-requires
     (λ c. search needs)
-    (λ c. omega (arith, few-shifts (entry (c .before) .args .shift) (entry (c .before) .pre .1 .0)))
+    (λ c. omega (arith, shift-small blocks (entry (c .before) .args .shift) (omega arith) (entry (c .before) .pre .1 .0)))
     (λ c κs. search needs)
     last-before-requires
     returns)

@@ -4,7 +4,8 @@ use native.Mathlib.Omega.{arith}
 use borrow.Author.Needs.{needs}
 use Rattle.records.specs.Code.{records}
 use Rattle.lanes.specs.Sizes.{blocks}
-use Rattle.blocks.proofs.KeepLaws.{shift-small, blocked-but, blocked-spared, block-of, same-none}
+use Rattle.blocks.proofs.BlockLaws.{shift-small, block-of}
+use Rattle.blocks.proofs.KeepLaws.{blocked-but, blocked-spared, same-none}
 use Rattle.blocks.proofs.keep.kill.Statement.{statement}
 use Rattle.blocks.proofs.keep.kill.Tie as tie
 

@@ -5,7 +5,7 @@ use native.Mathlib.Omega.{arith}
 use borrow.Author.Needs.{needs}
 use Rattle.records.specs.Code.{records}
 use Rattle.blocks.specs.Code.{Least, boundAt}
-use Rattle.blocks.proofs.KeepLaws.{least-none, least-from}
+use Rattle.blocks.proofs.BlockLaws.{least-none, least-from}
 use Rattle.blocks.proofs.keep.least_in.Statement.{statement}
 use Rattle.blocks.proofs.keep.least_in.Tie as tie
 

@@ -7,7 +7,8 @@ use lib.ListN.{length}
 use Rattle.records.specs.Code.{records}
 use Rattle.lanes.specs.Sizes.{blocks}
 use Rattle.blocks.specs.Code.{Blocked, Same}
-use Rattle.blocks.proofs.KeepLaws.{shift-small, same-none, same-set, same-on, blocked-joins, block-of}
+use Rattle.blocks.proofs.BlockLaws.{shift-small, block-of}
+use Rattle.blocks.proofs.KeepLaws.{same-none, same-set, same-on, blocked-joins}
 use Rattle.blocks.proofs.keep.note.Statement.{statement}
 use Rattle.blocks.proofs.keep.note.Tie as tie
 

@@ -5,7 +5,8 @@ use borrow.Author.Needs.{needs}
 use Rattle.records.specs.Code.{records}
 use Rattle.lanes.specs.Sizes.{blocks}
 use Rattle.blocks.specs.Code.{boundAt}
-use Rattle.blocks.proofs.KeepLaws.{Lesser, shift-small, shifted, least-block, block-runs, blocked-set, same-set}
+use Rattle.blocks.proofs.BlockLaws.{Lesser, shift-small, shifted, least-block, block-runs}
+use Rattle.blocks.proofs.KeepLaws.{blocked-set, same-set}
 use Rattle.blocks.proofs.keep.refresh.Statement.{statement}
 use Rattle.blocks.proofs.keep.refresh.Tie as tie
 

@@ -2,7 +2,7 @@
 use Prim.Native.Nat.{_*_, _-_, _^_, _<_}
 use native.Mathlib.Omega.{arith}
 use Rattle.lanes.specs.Sizes.{blocks}
-use Rattle.blocks.proofs.KeepLaws.{shift-small, shift-more}
+use Rattle.blocks.proofs.BlockLaws.{shift-small, shift-more}
 use Rattle.blocks.proofs.keep.wide_enough.Statement.{statement}
 use Rattle.blocks.proofs.keep.wide_enough.Tie as tie
 
