@@ -1,6 +1,5 @@
 -- Laws of a lane from whose end records that are gone are taken off.
 --   taking-slots     the children that take part in rule 8 stand in their slots
---   trimmed          a layout with fewer records in use, and another number of nodes
 --   laid-trimmed     the pool and the index still belong together
 --   left-few         how many nodes are left once one has left and others are struck out
 --   kept-cleared     what the pool is then
@@ -32,6 +31,7 @@ use Rattle.pool.specs.Code.{Laid}
 use Rattle.replacement.specs.declared.change.Change.{Change}
 use Rattle.replacement.specs.Code.{Strikes, Changing, Kept}
 use Rattle.replacement.proofs.StrikeLaws.{strikes-live}
+use Rattle.replacement.proofs.TidyLaws.{numbered}
 
 -- the children that take part in rule 8 stand in their slots
 pub taking-slots :
@@ -43,18 +43,6 @@ taking-slots {c = c} {kids} change = go (change .takes)
     go (inl e) = rw e (change .slotted, change .sizes)
     go (inr e) =
         rw e (record { small = omega arith; room = change .slotted .room }, λ s m. absurd (List·Memᴰ·not-nil (rw stopsIn-zero at m)))
-
-abbrev pub trimmed : Layout → ℕ → ℕ → Layout
-trimmed p used active = record {
-  capacity = p .capacity;
-  used = used;
-  active = active;
-  far = p .far;
-  shift = p .shift;
-  ranked = p .ranked;
-  linked = p .linked;
-  «far_linked» = p .«far_linked»;
-}
 
 gone-bound : (x : Record) → isLive x ≡ false → gone ≤ x .bound
 unfolding isLive
@@ -85,7 +73,7 @@ module _
     (walkable : Walkable recs (counting (activeLane p) e) index′) (only : Only activeHeads index index′)
     (none : (j : ℕ) → e ≤ j → j < p .used → isLive (getD recs j emptyRecord) ≡ false)
   where
-    pub laid-trimmed : Laid recs (trimmed p e active) index′
+    pub laid-trimmed : Laid recs (numbered p e active) index′
     laid-trimmed = record {
       whole = laid .whole;
       some = laid .some;
@@ -134,7 +122,7 @@ module _
         → (e ≤ p .used)
         × (Walkable recs″ (counting (activeLane p) e) index′
         × (Only activeHeads index index′ × ((j : ℕ) → e ≤ j → j < p .used → isLive (getD recs″ j emptyRecord) ≡ false)))
-        → Kept recs p (keep (λ x. not (test x)) (othersOf (p .used) i recs)) recs″ (trimmed p e (p .active - 1 - lost)) index′
+        → Kept recs p (keep (λ x. not (test x)) (othersOf (p .used) i recs)) recs″ (numbered p e (p .active - 1 - lost)) index′
     kept-cleared index index′ e counted laid (low, (walkable, (only, none))) = record {
       laid = laid-trimmed recs″ p index index′ e (p .active - 1 - lost) laid low walkable only none;
       alike = record { capacity = refl; ranked = refl; linked = refl; far-linked = refl };
