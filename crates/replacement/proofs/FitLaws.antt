@@ -4,7 +4,7 @@
 --   staying-none, staying-more                those that stay of some records: of none, and of one more
 --   staying-parts                             those of the nodes before the branched one, and of those behind it
 --   staying-few, staying-all                  they are among the others, and are these where no child takes part and U did not fall
---   taking-slotted, far-more, active-few      what else holds of a change
+--   far-more, active-few                      what else holds of a change
 use mathlib.Core.Path.{_≡_, refl, sym, ap, subst, _∙_}
 use mathlib.Core.Bool.{Bool, true, false, not, cond, _&&_, and-true}
 use mathlib.Core.List.{List, [], _∷_}
@@ -131,14 +131,7 @@ module _ (recs : List Record) (p : Layout) (i : ℕ) (c : Change) (kids : List R
         (λ x m. rw (none, beaten-none kids x, and-true) (le→leb (x .bound) (c .limit) (h .right kept x m))))
         ∙ others-count
 
-    -- what else the change is: the children that take part have slots, the far end grows by at most one, and the numbers are those of the pool
-    pub taking-slotted : Slotted (c .taking) kids
-    taking-slotted = record { small = small (h .takes); room = h .slotted .room }
-      where
-        small : (c .taking ≡ c .alive) ⊎ (c .taking ≡ 0) → c .taking < 2 ^ mostStops
-        small (inl e) = rw e (h .slotted .small)
-        small (inr e) = rw e (omega arith)
-
+    -- what else the change is: the far end grows by at most one, and the numbers are those of the pool
     pub far-more : c .far ≤ p .far + 1
     far-more = go (h .back)
       where

@@ -12,7 +12,8 @@ use Rattle.records.specs.Code.{records, slots}
 use Rattle.records.proofs.SlotLaws.{slots-length}
 use Rattle.records.proofs.ViewLaws.{length-records}
 use Rattle.replacement.specs.Code.{stayingOf}
-use Rattle.replacement.proofs.FitLaws.{staying-parts, staying-few, staying-all, taking-slotted, far-more, active-few}
+use Rattle.replacement.proofs.ClearLaws.{taking-slots}
+use Rattle.replacement.proofs.FitLaws.{staying-parts, staying-few, staying-all, far-more, active-few}
 use Rattle.replacement.proofs.fits.fits.Statement.{statement}
 use Rattle.replacement.proofs.fits.fits.Tie as tie
 
@@ -84,7 +85,7 @@ staying-requires c κs =
     let a = start .args in
     let h = start .pre in (
       (omega arith, omega (arith, h .inside, h .front, h .whole)),
-      (taking-slotted (records (a .w .now)) (a .p) (a .i) (a .change) (records (a .kids .now)) h, h .limited),
+      (taking-slots h .0, h .limited),
     )
 
 staying-requires-2 : tie.Need-staying-requires-2
@@ -93,7 +94,7 @@ staying-requires-2 c κs =
     let a = start .args in
     let h = start .pre in (
       (omega (arith, h .inside), omega (arith, h .front, h .whole)),
-      (taking-slotted (records (a .w .now)) (a .p) (a .i) (a .change) (records (a .kids .now)) h, h .limited),
+      (taking-slots h .0, h .limited),
     )
 
 -- those before the branched node and those behind it
