@@ -1,5 +1,6 @@
 -- What the loops of this crate need that fill an array of a number for each place.
---   Filled, filled-starts, filled-again, filled-ends    the invariant of a loop that goes through the places from 1 on
+--   Entering, entering-starts, entering-again, entering-ends    the invariant of a loop that enters a number at each of some places
+--   row-ends, row-on          what a row makes of the places of the stops of a set, some cells after the others
 --   fromAnother               the leg into a stop from another one, above every cost from the stop itself
 --   Joined, joined-starts, joined-again, joined-ends    the invariant of a loop that goes through the rows of the stops of a set: at last the least
 --                             leg into each stop from another one stands at its place
@@ -7,57 +8,87 @@ use mathlib.Core.Path.{_≡_, refl, ap, _∙_}
 use mathlib.Core.Bool.{Bool, true, false, not, cond}
 use mathlib.Core.List.{List, [], _∷_, List·Memᴰ·not-nil}
 use mathlib.Core.Logic.{_⊎_, inl, inr, _≢_}
-use Prim.Native.Nat.{ℕ, _+_, _-_, _^_, _≤_, _<_, min}
+use Prim.Native.Nat.{ℕ, suc, _+_, _-_, _^_, _≤_, _<_, min}
 use native.Mathlib.Omega.{arith}
 use lib.Dec.{eqb}
+use lib.Pow.{pow-mono}
 use lib.ListN.{length, getD, set, length-set}
 use lib.Seq.{getD-set-same, getD-set-other}
 use Rattle.sizes.specs.Sizes.{mostStops, places, aboveEveryCost}
 use Rattle.lists.specs.Lists.{In, put, least, without}
-use Rattle.lists.proofs.Tests.{compared}
+use Rattle.lists.proofs.Tests.{compared, ordered}
 use Rattle.lists.proofs.Numbers.{least-small}
 use Rattle.stops.specs.Legs.{rowLeg, legs}
 use Rattle.stops.specs.Code.{stopsIn, First, Cheap}
-use Rattle.stops.proofs.SetBits.{stopsIn-range}
+use Rattle.stops.proofs.SetBits.{stopsIn-range, stopsIn-without}
 use Rattle.stops.proofs.SetLoops.{lower, Lowered, lowered-again, lowered-ends}
 use Rattle.carried.specs.Carried.{among}
-use Rattle.carried.specs.Code.{Table, Several}
+use Rattle.carried.specs.Code.{Table, Several, lessened, Entered}
 use Rattle.carried.proofs.SetLaws.{others-some}
 
--- The invariant of a loop that enters a number at each place from 1 on: those before s are entered, and the others are as they were.
-pub record Filled (new : ℕ → ℕ) (xs₀ xs : List ℕ) (s : ℕ) : Type 0 where
-  pub some : 1 ≤ s
-  pub few : s ≤ places
-  pub done : (j : ℕ) → 1 ≤ j → j < s → getD xs j 0 ≡ new j
-  pub kept : (j : ℕ) → s ≤ j → getD xs j 0 ≡ getD xs₀ j 0
-  pub room : length xs ≡ places
+-- The invariant of a loop that enters a number at each place from a to before b: those before s are entered.
+pub record Entering (new : ℕ → ℕ) (xs₀ xs : List ℕ) (a b s : ℕ) : Type 0 where
+  pub some : a ≤ s
+  pub few : s ≤ b
+  pub entered : Entered new xs₀ xs a s
 
-pub filled-starts : (new : ℕ → ℕ) (xs : List ℕ) → length xs ≡ places → Filled new xs xs 1
-filled-starts new xs h = record {
+pub entering-starts : (new : ℕ → ℕ) (xs : List ℕ) (a b : ℕ) → a ≤ b → length xs ≡ places → Entering new xs xs a b a
+entering-starts new xs a b g h = record {
   some = omega arith;
-  few = omega arith;
-  done = λ j a b. absurd (omega arith);
-  kept = λ j a. refl;
-  room = h;
+  few = g;
+  entered = record { done = λ j p q. absurd (omega arith); early = λ j p. refl; late = λ j p. refl; room = h };
 }
 
-pub filled-again :
-    {new : ℕ → ℕ} {xs₀ xs : List ℕ} {s v : ℕ} → Filled new xs₀ xs s → s < places → v ≡ new s → Filled new xs₀ (set xs s v) (s + 1)
-filled-again {new} {xs₀} {xs} {s} {v} l h e = record {
-  some = omega arith;
+pub entering-again :
+    {new : ℕ → ℕ} {xs₀ xs : List ℕ} {a b s v : ℕ} → Entering new xs₀ xs a b s → s < b → b ≤ places → v ≡ new s
+    → Entering new xs₀ (set xs s v) a b (s + 1)
+entering-again {new} {xs₀} {xs} {a} {b} {s} {v} l g h e = record {
+  some = omega (arith, l .some);
   few = omega arith;
-  done = λ j a b. go j a b (compared j s);
-  kept = λ j a. getD-set-other xs s j v 0 (λ q. let z : j ≡ s = q in omega arith) ∙ l .kept j (omega arith);
-  room = length-set xs s v ∙ l .room;
+  entered = record {
+    done = λ j p q. go j p q (compared j s);
+    early = λ j p. other j (λ q. let z : j ≡ s = q in omega (arith, l .some)) ∙ x .early j p;
+    late = λ j p. other j (λ q. let z : j ≡ s = q in omega arith) ∙ x .late j (omega arith);
+    room = length-set xs s v ∙ x .room;
+  };
 }
   where
-    go : (j : ℕ) → 1 ≤ j → j < s + 1 → (j ≡ s) ⊎ (j ≢ s) → getD (set xs s v) j 0 ≡ new j
-    go j a b (inl q) = rw q (getD-set-same xs s v 0 (omega (arith, l .room)) ∙ e)
-    go j a b (inr n) = getD-set-other xs s j v 0 n ∙ l .done j a (omega arith)
+    x : Entered new xs₀ xs a s
+    x = l .entered
 
-pub filled-ends :
-    {new : ℕ → ℕ} {xs₀ xs : List ℕ} {s : ℕ} → Filled new xs₀ xs s → places ≤ s → (j : ℕ) → 1 ≤ j → j < places → getD xs j 0 ≡ new j
-filled-ends l h j a b = l .done j a (omega arith)
+    other : (j : ℕ) → j ≢ s → getD (set xs s v) j 0 ≡ getD xs j 0
+    other j d = getD-set-other xs s j v 0 d
+
+    go : (j : ℕ) → a ≤ j → j < s + 1 → (j ≡ s) ⊎ (j ≢ s) → getD (set xs s v) j 0 ≡ new j
+    go j p q (inl z) = rw z (getD-set-same xs s v 0 (omega (arith, x .room)) ∙ e)
+    go j p q (inr n) = other j n ∙ x .done j p (omega arith)
+
+pub entering-ends : {new : ℕ → ℕ} {xs₀ xs : List ℕ} {a b s : ℕ} → Entering new xs₀ xs a b s → b ≤ s → Entered new xs₀ xs a b
+entering-ends {new} {xs₀} {xs} {a} {b} {s} l h = let e : s ≡ b = omega (arith, l .few) in rw (← e) (l .entered)
+
+-- What the cells of a row up to stop k make of the places of the stops of a set that reaches no further: all that the row makes of them. And cells joined
+-- behind others do as if all had joined at once.
+module _ (row : List ℕ) (r : ℕ) {xs ys : List ℕ} (k : ℕ) (x : Entered (lessened row r xs) xs ys 1 (suc k)) where
+  pub row-ends : {rest : ℕ} → rest < 2 ^ mostStops → rest < 2 ^ k → (s : ℕ) → In s (stopsIn rest) → getD ys s 0 ≡ lessened row r xs s
+  row-ends {rest} h f s i = go (ordered s k)
+    where
+      go : (s ≤ k) ⊎ (k < s) → getD ys s 0 ≡ lessened row r xs s
+      go (inl q) = x .done s (stopsIn-range rest h s i .0) (omega arith)
+      go (inr q) = absurd (omega (arith, stopsIn-without rest h s i .0, pow-mono {i = k} {j = s - 1} (omega arith)))
+
+  pub row-on : {zs : List ℕ} (m : ℕ) → k ≤ m → Entered (lessened row r ys) ys zs (suc k) (suc m) → Entered (lessened row r xs) xs zs 1 (suc m)
+  unfolding lessened
+  row-on {zs} m less y = record {
+    done = λ s a b. go s a b (ordered s k);
+    early = λ s a. y .early s (omega arith) ∙ x .early s a;
+    late = λ s a. y .late s a ∙ x .late s (omega arith);
+    room = y .room;
+  }
+    where
+      go : (s : ℕ) → 1 ≤ s → s < suc m → (s ≤ k) ⊎ (k < s) → getD zs s 0 ≡ lessened row r xs s
+      go s a b (inl q) = y .early s (omega arith) ∙ x .done s a (omega arith)
+      go s a b (inr q) =
+          y .done s (omega arith) b ∙ ap (λ (v : ℕ). min v (cond (eqb s r) aboveEveryCost (getD row s 0))) (x .late s (omega arith))
 
 -- the leg into s from r, above every cost from s itself
 abbrev pub fromAnother : Table → ℕ → ℕ → ℕ
@@ -89,7 +120,7 @@ lower-among f m h r (x ∷ xs) i = lower-least f m x xs ∙ omega (arith, least-
 pub record Joined (t : Table) (rest : ℕ) (into : List ℕ) (left : ℕ) : Type 0 where
   pub small : left < 2 ^ mostStops
   pub each :
-      (s : ℕ) → 1 ≤ s → s < places
+      (s : ℕ) → In s (stopsIn rest)
       → Lowered (fromAnother t s) (lower (fromAnother t s) aboveEveryCost (stopsIn rest)) (getD into s 0) left
   pub room : length into ≡ places
 
@@ -98,18 +129,19 @@ pub joined-starts :
     → length into ≡ places → Joined t rest into rest
 joined-starts t rest into h e room = record {
   small = h;
-  each = λ s a b. record { small = h; same = ap (λ (v : ℕ). lower (fromAnother t s) v (stopsIn rest)) (e s a b) };
+  each = λ s i.
+      let (a, b) = stopsIn-range rest h s i in
+      record { small = h; same = ap (λ (v : ℕ). lower (fromAnother t s) v (stopsIn rest)) (e s a (omega arith)) };
   room = room;
 }
 
 pub joined-again :
     {t : Table} {rest left left′ : ℕ} {into into′ : List ℕ} (r : ℕ) → Joined t rest into left → First left r → left′ ≡ left - 2 ^ (r - 1)
-    → ((s : ℕ) → 1 ≤ s → s < places → getD into′ s 0 ≡ min (getD into s 0) (cond (eqb s r) aboveEveryCost (getD (getD t r []) s 0)))
-    → length into′ ≡ places → Joined t rest into′ left′
-unfolding rowLeg
+    → ((s : ℕ) → In s (stopsIn rest) → getD into′ s 0 ≡ lessened (getD t r []) r into s) → length into′ ≡ places → Joined t rest into′ left′
+unfolding rowLeg lessened
 joined-again r l o e h room = record {
   small = omega (arith, l .small, o .less);
-  each = λ s a b. lowered-again r (l .each s a b) o e (h s a b);
+  each = λ s i. lowered-again r (l .each s i) o e (h s i);
   room = room;
 }
 
@@ -119,8 +151,7 @@ pub joined-ends :
     → getD into s 0 ≡ among (legs t) (stopsIn rest) s
 unfolding legs among
 joined-ends t {rest} v cheap l e s i =
-    let (a, b) = stopsIn-range rest (v .small) s i in
     let (r, j) = others-some t v s i in
-    lowered-ends (l .each s a (omega arith)) e
+    lowered-ends (l .each s i) e
     ∙ lower-without (λ r. rowLeg t r s) aboveEveryCost s aboveEveryCost (stopsIn rest) (omega arith)
     ∙ lower-among (λ r. rowLeg t r s) aboveEveryCost (λ r. omega (arith, cheap .leg r s)) r (without s (stopsIn rest)) j

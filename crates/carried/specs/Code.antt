@@ -1,6 +1,8 @@
 -- What the functions of this crate compute. `proofs/` shows that it is document 01's bound. These definitions are the code's own: a reader of the
 -- promise needs none of them.
 --   Several rest             a set of two stops or more: each has others beside it
+--   lessened row r into s    what stands at the place of stop s once the row of stop r has joined: the lesser of the two, but for the cell of r itself
+--   Entered new before after a b    numbers are entered at the places from a to before b, and nowhere else
 --   noted x s home           the legs home x with that of a further stop s
 --   homeOf x s               the cheapest leg home for the child by s
 --   aheadOf x own s          what the bound adds to the path cost of the child by s, which has own of what the family x shares
@@ -14,7 +16,7 @@ use mathlib.Core.List.{List, []}
 use Prim.Native.Nat.{ℕ, _+_, _-_, _^_, _≤_, _<_, min}
 use lib.Dec.{ltb, eqb}
 use lib.ListN.{length, getD}
-use Rattle.sizes.specs.Sizes.{mostStops, places}
+use Rattle.sizes.specs.Sizes.{mostStops, places, aboveEveryCost}
 use Rattle.lists.specs.Lists.{In, sum}
 use Rattle.stops.specs.Legs.{legs}
 use Rattle.stops.specs.Bounds.{isClose, cheapestInto}
@@ -30,6 +32,15 @@ Table = List (List ℕ)
 pub record Several (rest : ℕ) : Type 0 where
   pub small : rest < 2 ^ mostStops
   pub beside : (s : ℕ) → In s (stopsIn rest) → 0 < rest - 2 ^ (s - 1)
+
+unfoldable pub lessened : List ℕ → ℕ → List ℕ → ℕ → ℕ
+lessened row r into s = min (getD into s 0) (cond (eqb s r) aboveEveryCost (getD row s 0))
+
+pub record Entered (new : ℕ → ℕ) (before after : List ℕ) (a b : ℕ) : Type 0 where
+  pub done : (s : ℕ) → a ≤ s → s < b → getD after s 0 ≡ new s
+  pub early : (s : ℕ) → s < a → getD after s 0 ≡ getD before s 0
+  pub late : (s : ℕ) → b ≤ s → getD after s 0 ≡ getD before s 0
+  pub room : length after ≡ places
 
 unfoldable pub noted : Homes → ℕ → ℕ → Homes
 noted x s home =

@@ -4,7 +4,7 @@
 // 01's close bound. The functions are public for the crates above and not for hosts; what they require, those crates meet.
 ghost use mathlib.Core.Path.{_≡_};
 ghost use mathlib.Core.Bool.{cond};
-ghost use Prim.Native.Nat.{ℕ, _-_, _^_, _≤_, _<_, min};
+ghost use Prim.Native.Nat.{ℕ, _-_, _^_, _≤_, _<_};
 ghost use lib.Dec.{eqb};
 ghost use lib.ListN.{length, getD, replicate};
 ghost use Rattle.sizes.specs.Sizes.{mostStops, places, aboveEveryCost};
@@ -12,7 +12,7 @@ ghost use Rattle.lists.specs.Lists.{In};
 ghost use Rattle.stops.specs.Legs.{legs};
 ghost use Rattle.stops.specs.Code.{stopsIn, lastStop, Cheap};
 ghost use Rattle.carried.specs.Carried.{among};
-ghost use Rattle.carried.specs.Code.{noted, aheadOf, familyOf, Several, Shares, Gives, Adds};
+ghost use Rattle.carried.specs.Code.{lessened, Entered, noted, aheadOf, familyOf, Several, Shares, Gives, Adds};
 use sizes::ABOVE_EVERY_COST;
 use sizes::PLACES;
 use stops::bound::is_close;
@@ -22,6 +22,19 @@ use stops::node_record::Record;
 use stops::sets::later;
 use stops::sets::next;
 use stops::table::Rows;
+
+// A row's cells join four at a time: where the second, the third and the fourth four begin, and the least sets that have a stop there.
+const SECOND_FOUR: usize = 5;
+
+const THIRD_FOUR: usize = 9;
+
+const FOURTH_FOUR: usize = 13;
+
+const REACHES_SECOND: u32 = 16;
+
+const REACHES_THIRD: u32 = 256;
+
+const REACHES_FOURTH: u32 = 4_096;
 
 // Of the legs home from some stops the cheapest, the stop that gives it, and the cheapest of the others.
 pub struct Homes {
@@ -68,23 +81,43 @@ fn from_another(leg: u32, r: usize, s: usize) -> u32
     if s == r { ABOVE_EVERY_COST } else { leg }
 }
 
-// The row of stop r joins: into has the cheapest leg into each stop so far. A whole row is gone through, whatever stops are left, so that several
-// are done at a time.
-fn row_joins(row: [u32; PLACES], r: usize, into: &mut [u32])
-    requires { ⌜ length (now into) ≡ places ⌝ }
-    ensures { λ u. ⌜ ((s : ℕ) → 1 ≤ s → s < places → getD (now (into .exit)) s 0 ≡ min (getD (now (into .entry)) s 0) (cond (eqb s r) aboveEveryCost (getD row s 0))) × (length (now (into .exit)) ≡ places) ⌝ }
+// The cells of the row of stop r from one place to before another join: into has the cheapest leg into each stop so far. All of them are gone through,
+// whatever stops are left, so that several are done at a time.
+fn cells_join(row: [u32; PLACES], r: usize, from: usize, to: usize, into: &mut [u32])
+    requires { ⌜ (from ≤ to) × ((to ≤ places) × (length (now into) ≡ places)) ⌝ }
+    ensures { λ u. ⌜ Entered (lessened row r (now (into .entry))) (now (into .entry)) (now (into .exit)) from to ⌝ }
 {
-    let mut s = 1;
-    while s < PLACES {
+    let mut s = from;
+    while s < to {
         into[s] = lesser(into[s], from_another(row[s], r, s));
         s += 1;
     }
 }
 
+// The row of stop r joins, for the stops of rest: up to the last four that has one of them, so that a day of few stops goes without the others.
+fn row_joins(row: [u32; PLACES], r: usize, rest: u32, into: &mut [u32])
+    requires { ⌜ (rest < 2 ^ mostStops) × (length (now into) ≡ places) ⌝ }
+    ensures { λ u. ⌜ ((s : ℕ) → In s (stopsIn rest) → getD (now (into .exit)) s 0 ≡ lessened row r (now (into .entry)) s) × (length (now (into .exit)) ≡ places) ⌝ }
+{
+    cells_join(row, r, 1, SECOND_FOUR, into);
+    if rest < REACHES_SECOND {
+        return;
+    }
+    cells_join(row, r, SECOND_FOUR, THIRD_FOUR, into);
+    if rest < REACHES_THIRD {
+        return;
+    }
+    cells_join(row, r, THIRD_FOUR, FOURTH_FOUR, into);
+    if rest < REACHES_FOURTH {
+        return;
+    }
+    cells_join(row, r, FOURTH_FOUR, PLACES, into);
+}
+
 // Puts above every cost wherever a leg is to stand.
 fn cleared(into: &mut [u32])
     requires { ⌜ length (now into) ≡ places ⌝ }
-    ensures { λ u. ⌜ ((s : ℕ) → 1 ≤ s → s < places → getD (now (into .exit)) s 0 ≡ aboveEveryCost) × (length (now (into .exit)) ≡ places) ⌝ }
+    ensures { λ u. ⌜ Entered (λ s. aboveEveryCost) (now (into .entry)) (now (into .exit)) 1 places ⌝ }
 {
     let mut s = 1;
     while s < PLACES {
@@ -103,7 +136,7 @@ fn least_into(t: &Rows, rest: u32, into: &mut [u32])
     while left != 0 {
         let r = next(left) as usize;
         left = later(left);
-        row_joins(t[r], r, into);
+        row_joins(t[r], r, rest, into);
     }
 }
 

@@ -3,7 +3,7 @@
 --   kid-made                the record extended, with what the bound adds, is the child
 --   root-made               e with the bound of the set of all stops is the root's record
 --   encoded-live, born-live, children-live, root-live    no node's record has the bound of gone ones
---   children-sized, root-sized    and each has the size of its set
+--   root-sized              and e's has the size of its set
 use mathlib.Core.Path.{_≡_, ap, ap₂, sym, subst, _∙_}
 use mathlib.Core.List.{List, []}
 use Prim.Native.Nat.{ℕ, _+_, _-_, _*_, _^_, _%_, _≤_, _<_}
@@ -76,9 +76,6 @@ module _ {d : Setting} {t : Table} (rows : Rows d t) where
   module _ {b : Record} (e : Encoded d t b) where
     pub children-live : (x : Record) → In x (childrenOf d t b) → x .bound < gone
     children-live x i = encoded-live (children-encoded rows e x i)
-
-    pub children-sized : (x : Record) → In x (childrenOf d t b) → x .size ≡ ones (x .set)
-    children-sized x i = encoded-sized rows (children-encoded rows e x i)
 
     pub born-live : {born : ℕ} {kids : List Record} → Born d t b born kids → (s : ℕ) → In s (stopsIn born) → inSlot kids s .bound < gone
     born-live k s i = encoded-live (born-encoded rows e k s i)

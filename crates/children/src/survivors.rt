@@ -21,7 +21,7 @@ use records::slot;
 use sizes::NO_LIMIT;
 use stops::sets::later;
 use stops::sets::next;
-use stops::sets::with;
+use stops::sets::with_if;
 
 // What rule 1 keeps: bounds up to U, or all. The limit is below the bound of gone records, whatever U is.
 pub fn limit_of(rules: u32, upper: u32) -> u32
@@ -46,9 +46,7 @@ fn within(kids: &[u32], alive: u32, limit: u32) -> u32
     while left != 0 {
         let s = next(left);
         left = later(left);
-        if bound_at(kids, slot(s)) <= limit {
-            kept = with(kept, s);
-        }
+        kept = with_if(bound_at(kids, slot(s)) <= limit, kept, s);
     }
     kept
 }

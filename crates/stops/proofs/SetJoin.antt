@@ -2,15 +2,14 @@
 --   stopsIn-ascends    the stops of a set ascend
 --   stopsIn-joined     a stop behind all of a set, added to it, is its last one
 --   stopsIn-one        the set of one stop
---   both-in, both-one  what two sets have in common (`_&_`) is of the second; of a stop and a set that has it, it is the stop
---   both-none, both-some    it is nothing if, and only if, no stop is of both
-use mathlib.Core.Path.{_≡_, refl, ap, subst, _∙_}
+--   both-none, both-some    what two sets have in common (`_&_`) is nothing if, and only if, no stop is of both
+use mathlib.Core.Path.{_≡_, ap, subst, _∙_}
 use mathlib.Core.List.{List, [], _∷_, _++_, List·Memᴰ·tail, List·Memᴰ·cases-cons, List·Memᴰ·not-nil}
 use mathlib.Core.Logic.{_⊎_, inl, inr, _≢_}
 use Prim.Native.Nat.{ℕ, zero, suc, _+_, _-_, _^_, _/_, _%_, _≤_, _<_}
 use native.Mathlib.Nat.{pow-suc}
 use native.Mathlib.Omega.{arith}
-use lib.Bits.{bitAnd, and-step, and-le-r, and-zero-l, and-zero-r}
+use lib.Bits.{bitAnd, and-step, and-zero-r}
 use lib.Dec.{eqb}
 use Rattle.sizes.specs.Sizes.{mostStops}
 use Rattle.lists.specs.Lists.{In}
@@ -18,7 +17,7 @@ use Rattle.lists.proofs.Tests.{compared, to-false, ne-neqb}
 use Rattle.lists.proofs.Members.{in-head}
 use Rattle.lists.proofs.Empty.{no-members}
 use Rattle.stops.specs.Code.{bits, stopsIn}
-use Rattle.stops.proofs.SetBits.{Digits, no-digit, is-clear, is-set, digits-bits, digits-range, digits-small, stops-digits, stopsIn-range, stopsIn-zero}
+use Rattle.stops.proofs.SetBits.{Digits, no-digit, is-clear, is-set, digits-bits, digits-range, digits-small, stops-digits, stopsIn-zero}
 
 digits-ascend : {k s m x : ℕ} {xs : List ℕ} → Digits k s m (x ∷ xs) → (r : ℕ) → In r xs → x < r
 digits-ascend (is-clear h e d) r i = digits-ascend d r i
@@ -39,47 +38,6 @@ digits-joined (is-set {s = s} h e d) zero t q f below = absurd (omega (arith, be
 digits-joined (is-set {m = m} h e d) (suc j) t q f below =
     is-set {m = m + 2 ^ suc j} (h + 2 ^ j) (omega (arith, pow-suc 2 j))
     (digits-joined d j t (omega arith) (omega arith) (λ r i. below r (List·Memᴰ·tail i)))
-
--- what two numbers have in common, halved, is what their halves have
-half-both : (a m b h g : ℕ) → m / 2 ≡ h → b / 2 ≡ g → b ≡ bitAnd a m → g ≡ bitAnd (a / 2) h
-half-both a m b h g e z q = rw (← e) (omega (arith, and-step a m))
-
--- the digits that a number has in common with another one are set in it
-digits-both :
-    {k s m b : ℕ} {xs ys : List ℕ} (a : ℕ) → Digits k s m xs → Digits k s b ys → b ≡ bitAnd a m → (r : ℕ) → In r ys → In r xs
-digits-both a (no-digit e) (no-digit z) q r i = i
-digits-both a (is-clear {m = m} h e d) (is-clear {m = b} g z c) q r i =
-    digits-both (a / 2) d c (half-both a m b h g (omega arith) (omega arith) q) r i
-digits-both a (is-set {m = m} h e d) (is-clear {m = b} g z c) q r i =
-    List·Memᴰ·tail (digits-both (a / 2) d c (half-both a m b h g (omega arith) (omega arith) q) r i)
-digits-both a (is-clear {m = m} h e d) (is-set {m = b} g z c) q r i = absurd (omega (arith, and-step a m))
-digits-both a (is-set {s = s} {m = m} {xs = xs} h e d) (is-set {m = b} {xs = ys} g z c) q r i =
-    go (List·Memᴰ·cases-cons i) (digits-both (a / 2) d c (half-both a m b h g (omega arith) (omega arith) q) r)
-  where
-    go : (r ≡ s) ⊎ In r ys → (In r ys → In r xs) → In r (s ∷ xs)
-    go (inl p) again = rw p in-head
-    go (inr j) again = List·Memᴰ·tail (again j)
-
-one-above : (m h j : ℕ) → m / 2 ≡ h → bitAnd (2 ^ j) h ≡ 2 ^ j → bitAnd (2 ^ suc j) m ≡ 2 ^ suc j
-one-above m h j e again =
-    let half : 2 ^ suc j / 2 ≡ 2 ^ j = omega (arith, pow-suc 2 j) in
-    let even : 2 ^ suc j % 2 ≡ 0 = omega (arith, pow-suc 2 j) in
-    and-step (2 ^ suc j) m ∙ rw (half, e, even, again) (omega (arith, pow-suc 2 j))
-
--- of one digit and a number in which it is set, it is that digit
-digits-one : {k s m : ℕ} {xs : List ℕ} → Digits k s m xs → (j t : ℕ) → t ≡ s + j → In t xs → bitAnd (2 ^ j) m ≡ 2 ^ j
-digits-one (no-digit e) j t q i = absurd (List·Memᴰ·not-nil i)
-digits-one (is-clear h e d) zero t q i = absurd (omega (arith, digits-range d t i))
-digits-one (is-clear {m = m} h e d) (suc j) t q i = one-above m h j (omega arith) (digits-one d j t (omega arith) i)
-digits-one (is-set {m = m} h e d) zero t q i =
-    let none : bitAnd (1 / 2) (m / 2) ≡ 0 = and-zero-l (m / 2) in
-    omega (arith, and-step 1 m)
-digits-one (is-set {s = s} {m} {xs} h e d) (suc j) t q i =
-    one-above m h j (omega arith) (digits-one d j t (omega arith) (go (List·Memᴰ·cases-cons i)))
-  where
-    go : (t ≡ s) ⊎ In t xs → In t xs
-    go (inl p) = absurd (omega arith)
-    go (inr p) = p
 
 -- the lowest digit of a number, and those above it
 bits-lowest : (k s a : ℕ) → a % 2 ≡ 1 → bits (suc k) s a ≡ s ∷ bits k (suc s) (a / 2)
@@ -172,12 +130,6 @@ stopsIn-one s some few =
 module _ (m : ℕ) (small : m < 2 ^ mostStops) where
   pub stopsIn-ascends : (x : ℕ) (xs : List ℕ) → stopsIn m ≡ x ∷ xs → (r : ℕ) → In r xs → x < r
   stopsIn-ascends x xs e r i = digits-ascend (subst (λ (ys : List ℕ). Digits mostStops 1 m ys) e (stops-digits m small)) r i
-
-  pub both-in : (a s : ℕ) → In s (stopsIn (bitAnd a m)) → In s (stopsIn m)
-  both-in a s i = digits-both a (stops-digits m small) (stops-digits (bitAnd a m) (omega (arith, and-le-r a m))) refl s i
-
-  pub both-one : (s : ℕ) → In s (stopsIn m) → bitAnd (2 ^ (s - 1)) m ≡ 2 ^ (s - 1)
-  both-one s i = digits-one (stops-digits m small) (s - 1) s (omega (arith, stopsIn-range m small s i)) i
 
   pub both-none : (a : ℕ) → ((s : ℕ) → In s (stopsIn a) → In s (stopsIn m) → ⊥) → bitAnd a m ≡ 0
   unfolding stopsIn

@@ -1,5 +1,6 @@
 // Sets of stops, each a word: bit s-1 is stop s's.
 ghost use mathlib.Core.Path.{_≡_};
+ghost use mathlib.Core.Bool.{cond};
 ghost use Prim.Native.Nat.{ℕ, _+_, _-_, _^_, _≤_, _<_};
 ghost use lib.ListN.{length};
 ghost use Rattle.sizes.specs.Sizes.{mostStops};
@@ -36,6 +37,14 @@ pub fn with(set: u32, stop: u32) -> u32
     ensures { λ r. ⌜ r ≡ set + 2 ^ (stop - 1) ⌝ }
 {
     set + (1u32 << (stop - 1))
+}
+
+// The set with a stop that it lacked where a test holds. Nothing is branched on, since what the tests of a family say is hard to foretell.
+pub fn with_if(test: bool, set: u32, stop: u32) -> u32
+    requires { ⌜ (set < 2 ^ mostStops) × (((1 ≤ stop) × (stop ≤ mostStops)) × (In stop (stopsIn set) → ⊥)) ⌝ }
+    ensures { λ r. ⌜ r ≡ cond test (set + 2 ^ (stop - 1)) set ⌝ }
+{
+    set + ((test as u32) << (stop - 1))
 }
 
 // How many stops a set has.

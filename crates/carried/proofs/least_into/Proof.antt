@@ -13,10 +13,14 @@ Inv-loop t rest into₀ left₀ into left = Joined t rest into left
 abbrev μ-loop : tie.MeasureT-loop
 μ-loop t rest into₀ left₀ into left = left
 
+-- the entry, seen from the loop's head
+abbrev entry : tie.At-loop Inv-loop μ-loop → tie.Start Inv-loop μ-loop
+entry c = c .before .before .before .before .before .before
+
 loop-holds : tie.Need-loop-holds Inv-loop μ-loop
 loop-holds c =
     let k = c .before .before in
-    joined-starts _ _ _ (k .before .before .before .pre .0 .small) (k .cleared .ensures .0) (k .cleared .ensures .1)
+    joined-starts _ _ _ (k .before .before .before .pre .0 .small) (k .cleared .ensures .done) (k .cleared .ensures .room)
 
 loop-less : tie.Need-loop-less Inv-loop μ-loop
 loop-less c =
@@ -34,7 +38,7 @@ loop-again c =
 returns : tie.Need-returns Inv-loop μ-loop
 returns c =
     let l = c .before .loop .inv in
-    let b = c .before .before .before .before .before .before .before in
+    let b = entry (c .before) in
     (joined-ends (b .args .t .now) (b .pre .0) (b .pre .1 .0) l (c .loop-test .left), l .room)
 
 pub least-into-spec : {M : Type 1} → statement M
@@ -50,8 +54,8 @@ least-into-spec =
     (λ c κs. search needs)
     (λ c. omega (arith, c .before .next .ensures .few))
     (λ c. omega (arith, c .before .next .ensures .few))
-    (λ c κs. c .before .before .before .before .before .loop .inv .room)
+    (λ c κs. let l = c .before .before .before .before .before in (entry l .pre .0 .small, l .loop .inv .room))
     loop-less
     loop-again
-    (λ c. c .before .loop .inv .room ∙ sym (c .before .before .before .before .before .before .before .pre .1 .1))
+    (λ c. c .before .loop .inv .room ∙ sym (entry (c .before) .pre .1 .1))
     returns)

@@ -3,10 +3,9 @@
 use mathlib.Core.Path.{_≡_}
 use mathlib.Core.List.{List}
 use native.Mathlib.Omega.{arith}
-use borrow.Author.Tests.{le-leb, lt-leb}
 use Rattle.stops.specs.declared.node_record.Record.{Record}
 use Rattle.records.specs.Code.{records, inSlot}
-use Rattle.records.proofs.SlotLaws.{Thinning, thinning-starts, thinning-adds, thinning-keeps, thinning-drops, thinning-ends}
+use Rattle.records.proofs.SlotLaws.{Thinning, thinning-starts, thinning-adds, thinning-tests, thinning-ends}
 use Rattle.lanes.specs.Code.{isWithin}
 use Rattle.children.proofs.survivors.within.Statement.{statement}
 use Rattle.children.proofs.survivors.within.Tie as tie
@@ -41,20 +40,10 @@ bound-read c = cc
 loop-again : tie.Need-loop-again Inv-loop μ-loop
 unfolding isWithin
 loop-again c =
-    let read = c .before .before in
-    let n = stepped read in
-    let passes = le-leb (read .bound-at .result) (entry (head n) .args .limit) (omega arith) in
-    let later = read .before .before .later .ensures _ (n .next .ensures) in
-    thinning-keeps (head n .loop .inv) (n .next .ensures) later (c .with .ensures) (rw (← bound-read read) passes)
-
-loop-again-2 : tie.Need-loop-again-2 Inv-loop μ-loop
-unfolding isWithin
-loop-again-2 c =
     let read = c .before in
     let n = stepped read in
-    let fails = lt-leb (read .bound-at .result) (entry (head n) .args .limit) (omega arith) in
     let later = read .before .before .later .ensures _ (n .next .ensures) in
-    thinning-drops (head n .loop .inv) (n .next .ensures) later (rw (← bound-read read) fails)
+    thinning-tests (head n .loop .inv) (n .next .ensures) later (rw (← bound-read read) (c .with-if .ensures))
 
 pub within-spec : {M : Type 1} → statement M
 within-spec =
@@ -67,9 +56,7 @@ within-spec =
     (λ c κs. let h = head c .loop .inv .small in omega arith)
     (λ c κs. omega arith)
     (λ c κs. let n = c .before .before in omega (arith, n .next .ensures, entry (head n) .pre .room))
-    (λ c κs. let n = stepped (c .before) in thinning-adds (head n .loop .inv) (n .next .ensures))
-    (λ c. let read = c .before .before in omega (arith, read .before .before .later .ensures _ (stepped read .next .ensures)))
-    loop-again
+    (λ c κs. let n = stepped c in thinning-adds (head n .loop .inv) (n .next .ensures))
     (λ c. let read = c .before in omega (arith, read .before .before .later .ensures _ (stepped read .next .ensures)))
-    loop-again-2
+    loop-again
     (λ c. thinning-ends (c .before .loop .inv) (c .loop-test .left)))
