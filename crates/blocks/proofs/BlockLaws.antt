@@ -1,5 +1,5 @@
 -- Least numbers, shifts, and blocks of places.
---   Lesser                                what `lesser` and `lesser_place` ensure
+--   Lesser, min-lesser                    the lesser of two numbers, by what it is to either
 --   last-or                               a number below another and 1
 --   least-none, least-joins, least-like   the least of no number, of one number more, and of as good as the same numbers
 --   least-from                            .. of the numbers from one to another, and the next
@@ -9,7 +9,7 @@
 use mathlib.Core.Path.{_≡_, refl, sym, _∙_}
 use mathlib.Core.Bool.{not}
 use mathlib.Core.Logic.{_⊎_, inl, inr, ⊎-elim}
-use Prim.Native.Nat.{ℕ, _+_, _*_, _^_, _/_, _%_, _≤_, _<_}
+use Prim.Native.Nat.{ℕ, _+_, _*_, _^_, _/_, _%_, _≤_, _<_, min}
 use native.Mathlib.Nat.{mul-le-mul-right, pow-le-pow-right, pow-suc, div-eq-of-lt-le, div-mul-le-self, div-lt-iff-lt-mul}
 use native.Mathlib.Numerals.{add-one}
 use native.Mathlib.Omega.{arith}
@@ -20,6 +20,9 @@ use Rattle.blocks.specs.Code.{Least, inBlock}
 
 abbrev pub Lesser : ℕ → ℕ → ℕ → Type 0
 Lesser a b r = (r ≤ a) × ((r ≤ b) × ((r < a → r ≡ b) × (r < b → r ≡ a)))
+
+pub min-lesser : (a b r : ℕ) → r ≡ min a b → Lesser a b r
+min-lesser a b r e = (omega arith, (omega arith, (λ h. omega arith, λ h. omega arith)))
 
 -- a number below i + 1 is one below i, or i
 pub last-or : (i j : ℕ) → j < i + 1 → (j < i) ⊎ (j ≡ i)

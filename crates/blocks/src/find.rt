@@ -7,10 +7,10 @@ ghost use Rattle.stops.specs.declared.node_record.Record.{Record};
 ghost use Rattle.records.specs.Code.{records};
 ghost use Rattle.lanes.specs.Sizes.{blocks, gone};
 ghost use Rattle.blocks.specs.Code.{Least, Blocked, Earliest, Latest, boundAt};
-use crate::lesser::lesser;
 use crate::lesser::lesser_place;
 use lanes::constants::GONE;
 use records::bound_at;
+use stops::bound::lesser;
 
 // A number of blocks that holds the first `used` places, and no more than there are.
 fn blocks_of(used: usize, shift: u32) -> usize

@@ -7,12 +7,12 @@ ghost use Rattle.records.specs.Code.{records};
 ghost use Rattle.lanes.specs.Sizes.{blocks, gone};
 ghost use Rattle.lanes.specs.Code.{marked};
 ghost use Rattle.blocks.specs.Code.{Least, BlockedBut, Blocked, Same, boundAt};
-use crate::lesser::lesser;
 use crate::lesser::lesser_place;
 use lanes::constants::BLOCKS;
 use lanes::constants::GONE;
 use lanes::mark;
 use records::bound_at;
+use stops::bound::lesser;
 
 // The least bound of the records from `from` to `to`; that of gone records if there is none.
 pub fn least_in(w: &[u32], from: usize, to: usize) -> u32

@@ -1,13 +1,13 @@
 -- `note` meets its contract. The loop's invariant: the minima are right for the first i records, and all else in the index is as it was.
-use mathlib.Core.Path.{_≡_}
-use Prim.Native.Nat.{_-_, _/_, _^_, _≤_, _<_}
+use mathlib.Core.Path.{_≡_, ap, _∙_}
+use Prim.Native.Nat.{_-_, _/_, _^_, _≤_, _<_, min}
 use native.Mathlib.Omega.{arith}
 use borrow.Author.Needs.{needs}
 use lib.ListN.{length}
 use Rattle.records.specs.Code.{records}
 use Rattle.lanes.specs.Sizes.{blocks}
 use Rattle.blocks.specs.Code.{Blocked, Same}
-use Rattle.blocks.proofs.BlockLaws.{shift-small, block-of}
+use Rattle.blocks.proofs.BlockLaws.{min-lesser, shift-small, block-of}
 use Rattle.blocks.proofs.KeepLaws.{same-none, same-set, same-on, blocked-joins}
 use Rattle.blocks.proofs.keep.note.Statement.{statement}
 use Rattle.blocks.proofs.keep.note.Tie as tie
@@ -43,7 +43,7 @@ loop-again c =
       omega arith,
       (
         blocked-joins (records (a .w .now)) (s .i) _ (s .index) _ (s .inv .1 .0) (omega (arith, pre .1 .1 .0)) (omega (arith, pre .1 .1 .1 .0))
-            (rw (← c .before .bound-at .ensures) (c .lesser .ensures)),
+            (min-lesser _ _ _ (c .lesser .ensures ∙ ap (min _) (c .before .bound-at .ensures))),
         same-on _ (s .index) _ (s .inv .1 .1) (same-set (s .index) _ _ (here run)),
       ),
     )

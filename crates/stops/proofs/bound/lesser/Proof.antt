@@ -1,7 +1,7 @@
--- `lesser` meets its contract.
+-- `stops::bound::lesser` meets its contract.
 use borrow.Author.Needs.{needs}
-use Rattle.blocks.proofs.lesser.lesser.Statement.{statement}
-use Rattle.blocks.proofs.lesser.lesser.Tie as tie
+use Rattle.stops.proofs.bound.lesser.Statement.{statement}
+use Rattle.stops.proofs.bound.lesser.Tie as tie
 
 returns : tie.Need-returns
 returns c = search needs
