@@ -24,9 +24,19 @@ use Rattle.lanes.specs.Sizes.{heads}
 use Rattle.lanes.specs.Code.{sized, placeOf, recAt, laneOf}
 use Rattle.lanes.specs.declared.Lane.{Lane}
 
+-- a stop stands above every set; the golden ratio of a word; how far the product with it is shifted
+abbrev stopAboveSets : ℕ
+stopAboveSets = 65_536
+
+abbrev golden : ℕ
+golden = 2_654_435_769
+
+abbrev spread : ℕ
+spread = 524_288
+
 -- set and last stop as one number, spread over the heads
 unfoldable pub bucketOf : Record → ℕ
-bucketOf x = (x .set + 65536 * lastStop x) % 2 ^ 32 * 2654435769 / 2 ^ 19 % heads
+bucketOf x = (x .set + stopAboveSets * lastStop x) % 2 ^ 32 * golden / spread % heads
 
 unfoldable pub lastWith : (ℕ → ℕ) → ℕ → ℕ → ℕ
 lastWith f h zero = 0

@@ -4,7 +4,7 @@
 --   lane-cut, live-split                 the lane cut at a place, and at a node
 --   live-trim, live-joined               the lane cut off behind its last node, and with records joined to it
 --   live-marked, others-few              the lane with one node marked as gone, which is one node less
---   live-squeezed, squeezed-few          the lane squeezed; squeezed-live: all its records are nodes then; every-live: nothing but gone ones left out
+--   live-squeezed, squeezed-few          the lane squeezed; every-live: nothing but gone ones left out
 --   live-like, far-like                  the lanes of two pools whose places have the same nodes
 --   live-in, in-live, live-few           a node of the lane has a place, and back; and there are at most as many as places
 use mathlib.Core.Path.{_≡_, refl, sym, ap, subst, _∙_}
@@ -198,16 +198,6 @@ module _ (limit : ℕ) (small : limit < gone) where
     squeezed-few =
         let kept : liveOf e recs′ ≡ map sized (keep (isWithin limit) (take used recs)) = ap liveIn (sifted .front) ∙ kept-live (take used recs) in
         omega (arith, sifted .count, ap length kept, length-map (keep (isWithin limit) (take used recs)) sized)
-
-    -- all of them are nodes
-    pub squeezed-live : (i : ℕ) → i < e → isLive (getD recs′ i emptyRecord) ≡ true
-    squeezed-live i h =
-        let x : Record = getD recs′ i emptyRecord in
-        let kept : List Record = keep (isWithin limit) (take used recs) in
-        let same : getD kept i emptyRecord ≡ x =
-        ap (λ (l : List Record). getD l i emptyRecord) (sym (sifted .front)) ∙ getD-take e recs′ i emptyRecord h in
-        let there : In x kept = subst (λ (y : Record). In y kept) same (in-getD kept i emptyRecord (omega (arith, sifted .count))) in
-        within-live x (to-true (isWithin limit x) (in-keep (isWithin limit) (take used recs) x there .1))
 
 -- with the limit that all nodes keep, all nodes are kept
 pub every-live : (xs : List Record) → map sized (keep (isWithin everyBound) xs) ≡ liveIn xs

@@ -1,13 +1,12 @@
--- Laws of the parts of a list: its first elements, those behind them, the list without one of them, and one of them.
---   in-take, in-drop, in-dropAt, in-getD    what stands in a part stands in the list; in-place: what stands in it, at some place
---   dropped-length                          the list without one element is shorter by one
-use mathlib.Core.Path.{_≡_, sym, subst, _∙_}
-use mathlib.Core.List.{List, [], _∷_, List·Memᴰ·append-cases, List·Memᴰ·tail, List·Memᴰ·cases-cons, List·Memᴰ·not-nil, Memᴰ·append-left, Memᴰ·append-right}
+-- Laws of the parts of a list: its first elements, those behind them, and one of them.
+--   in-take, in-drop, in-getD    what stands in a part stands in the list; in-place: what stands in it, at some place
+use mathlib.Core.Path.{_≡_, sym, subst}
+use mathlib.Core.List.{List, [], _∷_, List·Memᴰ·tail, List·Memᴰ·cases-cons, List·Memᴰ·not-nil, Memᴰ·append-left, Memᴰ·append-right}
 use mathlib.Core.Logic.{_⊎_, inl, inr}
-use Prim.Native.Nat.{ℕ, zero, suc, _-_, _<_, min}
+use Prim.Native.Nat.{ℕ, zero, suc, _-_, _<_}
 use native.Mathlib.Omega.{arith}
-use lib.ListN.{length, getD, take, drop, length-append, length-take, length-drop, take-append-drop}
-use Rattle.lists.specs.Lists.{In, dropAt}
+use lib.ListN.{length, getD, take, drop, take-append-drop}
+use Rattle.lists.specs.Lists.{In}
 use Rattle.lists.proofs.Members.{in-head}
 
 module _ {A : Type 0} where
@@ -16,14 +15,6 @@ module _ {A : Type 0} where
 
   pub in-drop : (j : ℕ) (xs : List A) (x : A) → In x (drop j xs) → In x xs
   in-drop j xs x m = subst (λ (l : List A). In x l) (take-append-drop j xs) (Memᴰ·append-right (take j xs) m)
-
-  pub in-dropAt : (i : ℕ) (xs : List A) (x : A) → In x (dropAt i xs) → In x xs
-  unfolding dropAt
-  in-dropAt i xs x m = go (List·Memᴰ·append-cases (take i xs) m)
-    where
-      go : In x (take i xs) ⊎ In x (drop (suc i) xs) → In x xs
-      go (inl h) = in-take i xs x h
-      go (inr h) = in-drop (suc i) xs x h
 
   -- and what stands in a list stands at some place
   pub in-place : (xs : List A) (a d : A) → In a xs → (i : ℕ) × (i < length xs) × (getD xs i d ≡ a)
@@ -40,9 +31,3 @@ module _ {A : Type 0} where
   in-getD [] i d h = absurd (omega arith)
   in-getD (x ∷ xs) zero d h = in-head
   in-getD (x ∷ xs) (suc i) d h = List·Memᴰ·tail (in-getD xs i d (omega arith))
-
-  pub dropped-length : (i : ℕ) (xs : List A) → i < length xs → length (dropAt i xs) ≡ length xs - 1
-  unfolding dropAt
-  dropped-length i xs h =
-      length-append (take i xs) (drop (suc i) xs)
-      ∙ (let p : length (take i xs) ≡ min i (length xs) = length-take i xs in omega (arith, length-drop (suc i) xs))

@@ -7,7 +7,6 @@
 --   from a k         the k numbers a, a + 1, ..
 --   each k xs        one list after another, each made of an element of xs by k
 --   without s xs     the numbers of xs but for s
---   dropAt i xs      the elements of xs but for that at place i
 --   same xs ys       two lists of numbers are the same, as a test
 --   padded len xs    the numbers of xs, and zeros behind, up to a length
 --   Distinct xs      no element stands twice
@@ -16,7 +15,7 @@ use mathlib.Core.Bool.{Bool, true, false, not, _&&_, _||_}
 use mathlib.Core.List.{List, [], _∷_, _++_, List·Memᴰ}
 use Prim.Native.Nat.{ℕ, zero, suc, _+_, _-_, min}
 use lib.Dec.{eqb}
-use lib.ListN.{length, take, drop, replicate}
+use lib.ListN.{length, replicate}
 
 abbrev pub In : {A : Type 0} → A → List A → Type 0
 In a xs = List·Memᴰ a xs
@@ -57,9 +56,6 @@ each k (x ∷ xs) = k x ++ each k xs
 
 abbrev pub without : ℕ → List ℕ → List ℕ
 without s xs = keep (λ r. not (eqb s r)) xs
-
-unfoldable pub dropAt : {A : Type 0} → ℕ → List A → List A
-dropAt i xs = take i xs ++ drop (suc i) xs
 
 abbrev pub same : List ℕ → List ℕ → Bool
 same [] [] = true

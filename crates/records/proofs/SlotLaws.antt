@@ -1,9 +1,9 @@
 -- Laws of records that stand one for each stop (`inSlot`, `slots`), and of the passes over them.
 --   slots-none, slots-first, slots-length, slot-in, in-slots    the records of a set, and of its first stop
---   thinned-all, thinned-none, thinned-twice, thinned-same     passes that keep all, over no record, one after the other, and by an equal test
---   Thinning, thinning-starts, thinning-adds, thinning-keeps, thinning-drops, thinning-ends    the invariant of a pass
-use mathlib.Core.Path.{_≡_, ap, sym, _∙_}
-use mathlib.Core.Bool.{Bool, true, false, _&&_}
+--   thinned-all, thinned-twice, thinned-same     passes that keep all, one after the other, and by an equal test
+--   Thinning, thinning-starts, thinning-adds, thinning-keeps, thinning-drops, thinning-tests, thinning-ends    the invariant of a pass
+use mathlib.Core.Path.{_≡_, refl, ap, sym, _∙_}
+use mathlib.Core.Bool.{Bool, true, false, cond, _&&_}
 use mathlib.Core.List.{List, [], _∷_, _++_, map, map-append, append-assoc, append-nil, List·Memᴰ·tail, List·Memᴰ·not-nil, List·Memᴰ·append-cases, List·Memᴰ·eq-of-singleton}
 use mathlib.Core.Logic.{_⊎_, inl, inr}
 use Prim.Native.Nat.{ℕ, _+_, _-_, _^_, _≤_, _<_}
@@ -50,13 +50,6 @@ slots-more l m n s e = ap (map (inSlot l)) e ∙ map-append (inSlot l) (stopsIn 
 module _ (test : Record → Bool) (l : List Record) where
   pub thinned-all : (m : ℕ) → m < 2 ^ mostStops → ((x : Record) → In x (slots m l) → T (test x)) → Thinned test l m m
   thinned-all m small all = record { small = small; among = λ s i. i; same = sym (keep-all test (slots m l) all) }
-
-  pub thinned-none : {m : ℕ} → m ≡ 0 → Thinned test l m 0
-  thinned-none e = record {
-    small = omega arith;
-    among = λ s i. rw e i;
-    same = rw (e, slots-none);
-  }
 
 module _ {f g : Record → Bool} {l : List Record} {a b : ℕ} (first : Thinned f l a b) where
   pub thinned-twice : {c : ℕ} → Thinned g l b c → Thinned (λ x. f x && g x) l a c
@@ -150,3 +143,12 @@ module _ {test : Record → Bool} {l : List Record} {set kept left : ℕ} (w : T
         behind : (q r : ℕ) → In q (stopsIn kept) ⊎ In q (s ∷ []) → In r (stopsIn left′) → q < r
         behind q r (inl i) j = w .behind q r i (later-in r j)
         behind q r (inr i) j = rw (List·Memᴰ·eq-of-singleton i) (o .behind r (rw later at j))
+
+    -- the first stop left is kept or dropped as its record's test says
+    pub thinning-tests :
+        {kept′ : ℕ} → kept′ ≡ cond (test (inSlot l s)) (kept + 2 ^ (s - 1)) kept → Thinning test l set kept′ left′
+    thinning-tests {kept′} e = go (test (inSlot l s)) refl e
+      where
+        go : (b : Bool) → test (inSlot l s) ≡ b → kept′ ≡ cond b (kept + 2 ^ (s - 1)) kept → Thinning test l set kept′ left′
+        go true passes more = thinning-keeps more passes
+        go false fails same = rw same (thinning-drops fails)

@@ -24,7 +24,7 @@ use Rattle.lanes.specs.Sizes.{gone}
 use Rattle.lanes.specs.Code.{sized, isWithin, liveOf, othersOf, farOf}
 use Rattle.lanes.specs.declared.layout.Layout.{Layout}
 use Rattle.chains.specs.Code.{Sized}
-use Rattle.pool.specs.Code.{Laid, Alike}
+use Rattle.pool.specs.Code.{Laid, OnePool}
 use Rattle.replacement.specs.Code.{isBeaten, isStaying, stayingOf, farWith, Changing, Kept, Committed}
 use Rattle.replacement.specs.declared.change.Change.{Change}
 use Rattle.replacement.proofs.FrameLaws.{alike-on}
@@ -97,7 +97,7 @@ module _
         module _
             (b : Record) (recs₃ : List Record) (q₃ : Layout) (index₃ : List ℕ)
             (held :
-            (Laid recs₃ q₃ index₃ × Alike q₂ q₃)
+            (Laid recs₃ q₃ index₃ × OnePool q₂ q₃)
             × (((q₃ .used ≡ q₂ .used) × (q₃ .active ≡ q₂ .active))
             × ((liveOf (q₂ .used) recs₃ ≡ liveOf (q₂ .used) recs₂)
             × ((q₃ .far ≡ c .far) × (farOf (c .far) recs₃ ≡ farWith (c .far) b (farOf (q₂ .far) recs₂))))))

@@ -26,7 +26,7 @@ use Rattle.chains.specs.Code.{Inside, Walkable}
 use Rattle.chains.proofs.ChainLaws.{alike-same, place-front, chained-like}
 use Rattle.blocks.specs.Code.{Blocked}
 use Rattle.blocks.proofs.KeepLaws.{blocked-like}
-use Rattle.pool.specs.Code.{Alike}
+use Rattle.pool.specs.Code.{OnePool}
 
 pub inside-like : (recs recs′ : List Record) (p : Lane) → length recs′ ≡ length recs → Inside recs p → Inside recs′ p
 inside-like recs recs′ p long lies = record { inside = λ j h. rw long (lies .inside j h); apart = lies .apart }
@@ -110,7 +110,7 @@ module _ (recs xs : List Record) (k : ℕ) (fits : k + length xs ≤ length recs
       ∙ getD-drop (k + length xs) recs n emptyRecord
       ∙ ap (λ (m : ℕ). getD recs m emptyRecord) last
 
-pub alike-on : (p q r : Layout) → Alike p q → Alike q r → Alike p r
+pub alike-on : (p q r : Layout) → OnePool p q → OnePool q r → OnePool p r
 alike-on p q r a b = record {
   capacity = b .capacity ∙ a .capacity;
   ranked = b .ranked ∙ a .ranked;

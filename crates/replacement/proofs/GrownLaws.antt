@@ -26,8 +26,8 @@ use Rattle.chains.specs.Code.{Chained, Sized, joinedAll, indexAll, Only}
 use Rattle.chains.proofs.ChainLaws.{place-front, chained-all}
 use Rattle.chains.proofs.JoinLaws.{length-joined, nodes-joined, only-all}
 use Rattle.blocks.specs.Code.{Same}
-use Rattle.pool.specs.Code.{Laid, Ranked, Alike}
-use Rattle.replacement.specs.Code.{Kept, Grown}
+use Rattle.pool.specs.Code.{Laid, LaidTo, Ranked, OnePool}
+use Rattle.replacement.specs.Code.{Kept}
 use Rattle.replacement.proofs.FrameLaws.{far-walkable, far-same, active-walkable, active-minima, spliced-long, spliced-before, spliced-behind, alike-on}
 use Rattle.replacement.proofs.TidyLaws.{numbered}
 
@@ -43,7 +43,7 @@ widened p shift = record {
   «far_linked» = p .«far_linked»;
 }
 
-module _ (recs : List Record) (p : Layout) (from : ℕ) (index index′ : List ℕ) (shift : ℕ) (grown : Grown recs p from index) where
+module _ (recs : List Record) (p : Layout) (from : ℕ) (index index′ : List ℕ) (shift : ℕ) (grown : LaidTo recs p from index) where
   pub grown-laid : Same index index′ → (T (p .ranked) → Ranked recs (widened p shift) index′) → Laid recs (widened p shift) index′
   grown-laid same ranks = record {
     whole = grown .whole;
@@ -135,9 +135,8 @@ module _
             rw (stored, noted, count)
             (chained-all (activeLane p) recs index xs t refl (omega (arith, number, laid .whole)) whole (laid .lane .chains t))
 
-        pub joined-grown : Grown recs′ (numbered p (p .used + new) (p .active + new)) (p .used) index′
+        pub joined-grown : LaidTo recs′ (numbered p (p .used + new) (p .active + new)) (p .used) index′
         joined-grown = record {
-          more = omega arith;
           whole = laid .whole ∙ sym long;
           some = laid .some;
           fits = full;
@@ -152,10 +151,12 @@ module _
               (λ h l. only .behind (farHeads + h) (omega arith)) (laid .far-lane);
           few = laid .few;
           far-few = laid .far-few;
-          minima = λ t.
-              active-minima recs recs′ index index′ p long (only .same-length) (laid .whole) (laid .fits) before (2 ^ p .shift)
-              (λ k h. only .before k (omega arith)) (laid .ranks t .minima);
-          reach = λ t. laid .ranks t .reach;
+          ranks = λ t. record {
+            minima =
+                active-minima recs recs′ index index′ p long (only .same-length) (laid .whole) (laid .fits) before (2 ^ p .shift)
+                (λ k h. only .before k (omega arith)) (laid .ranks t .minima);
+            reach = laid .ranks t .reach;
+          };
         }
 
         nodes : liveOf (p .used + new) recs′ ≡ liveOf (p .used) recs ++ xs
@@ -167,7 +168,7 @@ module _
 
         pub joined-kept :
             (r : Layout) (index″ : List ℕ) → p .active ≡ length (liveOf (p .used) recs)
-            → (Laid recs′ r index″ × Alike (numbered p (p .used + new) (p .active + new)) r)
+            → (Laid recs′ r index″ × OnePool (numbered p (p .used + new) (p .active + new)) r)
             × ((r .used ≡ p .used + new) × ((r .active ≡ p .active + new) × (r .far ≡ p .far)))
             → Kept recs p (liveOf (p .used) recs ++ slots alive kids) recs′ r index″
         joined-kept r index″ counted ((done, alike), (used, (active, far))) = record {

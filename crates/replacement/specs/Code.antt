@@ -4,26 +4,23 @@
 --   Strikes                the records that pass a test are gone
 --   Changing               what the functions ask of the change that they go by
 --   Kept                   the pool and the index after a part of the work, with some nodes active and the far end as it was
---   Grown                  as laid, but for the minima of records that have just joined
 --   farWith, Committed     the branched node at the far end; what the pool is afterwards
 use mathlib.Core.Path.{_≡_}
 use mathlib.Core.Bool.{Bool, true, false, not, _&&_, cond}
 use mathlib.Core.List.{List, [], _∷_, _++_}
 use mathlib.Core.Logic.{_⊎_}
-use Prim.Native.Nat.{ℕ, _+_, _*_, _^_, _≤_, _<_}
-use lib.Dec.{T, eqb, leb}
+use Prim.Native.Nat.{ℕ, _+_, _≤_, _<_}
+use lib.Dec.{eqb, leb}
 use lib.ListN.{length, getD}
 use Rattle.lists.specs.Lists.{In, keep, any}
 use Rattle.stops.specs.Code.{emptyRecord, recDominates, stopsIn}
 use Rattle.stops.specs.declared.node_record.Record.{Record}
 use Rattle.records.specs.Code.{inSlot, slots, Slotted}
-use Rattle.lanes.specs.Sizes.{gone, blocks}
+use Rattle.lanes.specs.Sizes.{gone}
 use Rattle.lanes.specs.Code.{sized, isLive, marked, liveOf, othersOf, farOf}
 use Rattle.lanes.specs.declared.layout.Layout.{Layout}
-use Rattle.lanes.specs.Layouts.{activeLane, farLane}
-use Rattle.chains.specs.Code.{Sized, Walkable}
-use Rattle.blocks.specs.Code.{Blocked}
-use Rattle.pool.specs.Code.{Laid, Alike}
+use Rattle.chains.specs.Code.{Sized}
+use Rattle.pool.specs.Code.{Laid, OnePool}
 use Rattle.replacement.specs.declared.change.Change.{Change}
 
 -- a child dominates x
@@ -66,24 +63,11 @@ pub record Changing (recs : List Record) (p : Layout) (i : ℕ) (c : Change) (ki
 -- recs′, q and index′ belong together and show the nodes xs; q is of the pool that p was of, and its far end is as it was
 pub record Kept (recs : List Record) (p : Layout) (xs : List Record) (recs′ : List Record) (q : Layout) (index′ : List ℕ) : Type 0 where
   pub laid : Laid recs′ q index′
-  pub alike : Alike p q
+  pub alike : OnePool p q
   pub nodes : liveOf (q .used) recs′ ≡ xs
   pub counted : q .active ≡ length xs
   pub far-count : q .far ≡ p .far
   pub far-end : farOf (p .far) recs′ ≡ farOf (p .far) recs
-
--- as `Laid`, but the minima are those of the first `from` records of the lane
-pub record Grown (recs : List Record) (p : Layout) (from : ℕ) (index : List ℕ) : Type 0 where
-  pub more : from ≤ p .used
-  pub whole : p .capacity ≡ length recs
-  pub some : 1 ≤ p .capacity
-  pub fits : p .used + p .far ≤ p .capacity
-  pub lane : Walkable recs (activeLane p) index
-  pub far-lane : Walkable recs (farLane p) index
-  pub few : T (p .linked) → p .capacity < 2 ^ 32
-  pub far-few : T (p .«far_linked») → p .capacity < 2 ^ 32
-  pub minima : T (p .ranked) → Blocked recs from (2 ^ p .shift) index
-  pub reach : T (p .ranked) → blocks * 2 ^ p .shift < 2 ^ 62
 
 -- b in front of those at the far end, if these are held
 abbrev pub farWith : ℕ → Record → List Record → List Record
@@ -92,7 +76,7 @@ farWith far b xs = cond (eqb far 0) [] (b ∷ xs)
 -- those that stay, then the children that survive; at the far end b too, if branched nodes are held
 pub record Committed (recs : List Record) (p : Layout) (i : ℕ) (b : Record) (c : Change) (kids recs′ : List Record) (q : Layout) (index′ : List ℕ) : Type 0 where
   pub laid : Laid recs′ q index′
-  pub alike : Alike p q
+  pub alike : OnePool p q
   pub nodes : liveOf (q .used) recs′ ≡ stayingOf recs p i c kids ++ slots (c .alive) kids
   pub counted : q .active ≡ length (stayingOf recs p i c kids) + length (slots (c .alive) kids)
   pub far-count : q .far ≡ c .far

@@ -15,8 +15,8 @@ ghost use Rattle.records.specs.Code.{records, inSlot, slots, Slotted};
 ghost use Rattle.lanes.specs.Sizes.{gone};
 ghost use Rattle.lanes.specs.Code.{sized, isWithin, liveOf, othersOf, farOf};
 ghost use Rattle.chains.specs.Code.{Sized};
-ghost use Rattle.pool.specs.Code.{Laid, Alike};
-ghost use Rattle.replacement.specs.Code.{isBeaten, stayingOf, farWith, Changing, Kept, Grown, Committed};
+ghost use Rattle.pool.specs.Code.{Laid, LaidTo, OnePool};
+ghost use Rattle.replacement.specs.Code.{isBeaten, stayingOf, farWith, Changing, Kept, Committed};
 use crate::change::Change;
 use crate::strike::leave;
 use crate::strike::strike_all;
@@ -98,7 +98,7 @@ fn tidied(w: &mut [u32], p: Layout, change: Change, index: &mut [u32]) -> Layout
 // The branched node b joins the far end, if the pool holds branched nodes; far is how many there are then.
 fn held(w: &mut [u32], p: Layout, b: Record, far: usize, index: &mut [u32]) -> Layout
     requires { ⌜ (Laid (records (now w)) p (now index) × (b ≡ sized b)) × ((p .used + far ≤ p .capacity) × (((far ≡ 0) × (p .far ≡ 0)) ⊎ (far ≡ p .far + 1))) ⌝ }
-    ensures { λ q. ⌜ (Laid (records (now (w .exit))) q (now (index .exit)) × Alike p q) × (((q .used ≡ p .used) × (q .active ≡ p .active)) × ((liveOf (p .used) (records (now (w .exit))) ≡ liveOf (p .used) (records (now (w .entry)))) × ((q .far ≡ far) × (farOf far (records (now (w .exit))) ≡ farWith far b (farOf (p .far) (records (now (w .entry)))))))) ⌝ }
+    ensures { λ q. ⌜ (Laid (records (now (w .exit))) q (now (index .exit)) × OnePool p q) × (((q .used ≡ p .used) × (q .active ≡ p .active)) × ((liveOf (p .used) (records (now (w .exit))) ≡ liveOf (p .used) (records (now (w .entry)))) × ((q .far ≡ far) × (farOf far (records (now (w .exit))) ≡ farWith far b (farOf (p .far) (records (now (w .entry)))))))) ⌝ }
 {
     if far == 0 {
         return p;
@@ -111,8 +111,8 @@ fn held(w: &mut [u32], p: Layout, b: Record, far: usize, index: &mut [u32]) -> L
 
 // The minima of a lane that has grown from `from` records, in wider blocks where they would not reach.
 fn ranked(w: &[u32], p: Layout, from: usize, index: &mut [u32]) -> Layout
-    requires { ⌜ Grown (records (now w)) p from (now index) ⌝ }
-    ensures { λ q. ⌜ (Laid (records (now (w .entry))) q (now (index .exit)) × Alike p q) × ((q .used ≡ p .used) × ((q .active ≡ p .active) × (q .far ≡ p .far))) ⌝ }
+    requires { ⌜ LaidTo (records (now w)) p from (now index) × (from ≤ p .used) ⌝ }
+    ensures { λ q. ⌜ (Laid (records (now (w .entry))) q (now (index .exit)) × OnePool p q) × ((q .used ≡ p .used) × ((q .active ≡ p .active) × (q .far ≡ p .far))) ⌝ }
 {
     if !p.ranked {
         return p;

@@ -80,10 +80,12 @@ ranked-requires c κs =
     let done = written (c .before .before .before) in
     let start = entry (laned done) in
     let a = start .args in
-    let h = start .pre in
-    joined-grown (records (a .w .now)) (records (a .kids .now)) (a .p) (a .alive) (a .index .now) (h .0 .0) (h .1 .0 .0) (h .1 .1 .1) (h .1 .0 .1)
-    (h .1 .1 .0) (records (done .write-at .last .0)) (done .write-at .last .1 .1 .1 .1 .0) (done .write-at .result) (done .write-at .ensures .0)
-    (stored done .0) (stored done .1)
+    let h = start .pre in (
+      joined-grown (records (a .w .now)) (records (a .kids .now)) (a .p) (a .alive) (a .index .now) (h .0 .0) (h .1 .0 .0) (h .1 .1 .1) (h .1 .0 .1)
+          (h .1 .1 .0) (records (done .write-at .last .0)) (done .write-at .last .1 .1 .1 .1 .0) (done .write-at .result) (done .write-at .ensures .0)
+          (stored done .0) (stored done .1),
+      omega arith,
+    )
 
 returns : tie.Need-returns
 returns c =

@@ -21,7 +21,7 @@ returns c =
     let a = start .args in
     let off = not-true (a .p .ranked) (c .if1 .taken) in (
       (
-        grown-laid (records (a .w .now)) (a .p) (a .from) (a .index .now) (a .index .now) (a .p .shift) (start .pre) (same-none (a .index .now))
+        grown-laid (records (a .w .now)) (a .p) (a .from) (a .index .now) (a .index .now) (a .p .shift) (start .pre .0) (same-none (a .index .now))
             (λ t. absurd (subst T off t)),
         record { capacity = refl; ranked = refl; linked = refl; far-linked = refl },
       ),
@@ -38,12 +38,12 @@ on c = subst T (sym (not-false (entry c .args .p .ranked) (c .if1 .left))) tt
 wide-enough-requires : tie.Need-wide-enough-requires
 wide-enough-requires c κs =
     let start = entry c in
-    let g = start .pre in
-    (omega (arith, g .fits, g .whole, length-records (start .args .w .now)), g .reach (on c))
+    let g = start .pre .0 in
+    (omega (arith, g .fits, g .whole, length-records (start .args .w .now)), g .ranks (on c) .reach)
 
 -- the records in use, and the index
 inside : (c : tie.Else1) → let a = entry c .args in (a .p .used ≤ length (records (a .w .now))) × (blocks ≤ length (a .index .now))
-inside c = let g = entry c .pre in (omega (arith, g .fits, g .whole), g .minima (on c) .whole)
+inside c = let g = entry c .pre .0 in (omega (arith, g .fits, g .whole), g .ranks (on c) .minima .whole)
 
 note-requires : tie.Need-note-requires
 note-requires c κs =
@@ -51,10 +51,10 @@ note-requires c κs =
     let test = wide .before in
     let start = entry test in
     let a = start .args in
-    let g = start .pre in
+    let g = start .pre .0 in
     let e = c .before .if2 .taken in (
-      subst (λ (s : ℕ). Blocked (records (a .w .now)) (a .from) (2 ^ s) (a .index .now)) (sym e) (g .minima (on test)),
-      (g .more, (inside test .0, wide .wide-enough .ensures)),
+      subst (λ (s : ℕ). Blocked (records (a .w .now)) (a .from) (2 ^ s) (a .index .now)) (sym e) (g .ranks (on test) .minima),
+      (start .pre .1, (inside test .0, wide .wide-enough .ensures)),
     )
 
 returns-2 : tie.Need-returns-2
@@ -67,8 +67,8 @@ returns-2 c =
     let minima =
     subst (λ (s : ℕ). Blocked (records (a .w .now)) (a .p .used) (2 ^ s) (done .note .last .1 .1 .1 .1 .0)) (same .if2 .taken) (done .note .ensures .0) in (
       (
-        grown-laid (records (a .w .now)) (a .p) (a .from) (a .index .now) _ (a .p .shift) (start .pre) (done .note .ensures .1)
-            (λ t. record { minima = minima; reach = start .pre .reach t }),
+        grown-laid (records (a .w .now)) (a .p) (a .from) (a .index .now) _ (a .p .shift) (start .pre .0) (done .note .ensures .1)
+            (λ t. record { minima = minima; reach = start .pre .0 .ranks t .reach }),
         record { capacity = refl; ranked = refl; linked = refl; far-linked = refl },
       ),
       (refl, (refl, refl)),
@@ -87,7 +87,7 @@ returns-3 c =
     let start = entry (wide .before) in
     let a = start .args in (
       (
-        grown-laid (records (a .w .now)) (a .p) (a .from) (a .index .now) _ (wide .wide-enough .result) (start .pre) (done .rebuild .ensures .1)
+        grown-laid (records (a .w .now)) (a .p) (a .from) (a .index .now) _ (wide .wide-enough .result) (start .pre .0) (done .rebuild .ensures .1)
             (λ t. record { minima = done .rebuild .ensures .0; reach = wide .wide-enough .ensures .1 }),
         record { capacity = refl; ranked = refl; linked = refl; far-linked = refl },
       ),
