@@ -1,28 +1,21 @@
 -- Least numbers, shifts, and blocks of places.
---   Lesser, min-lesser                    the lesser of two numbers, by what it is to either
 --   last-or                               a number below another and 1
---   least-none, least-joins, least-like   the least of no number, of one number more, and of as good as the same numbers
+--   least-none, least-both, least-joins, least-like   the least of no number, of some and others, of one more, and of as good as the same numbers
 --   least-from                            .. of the numbers from one to another, and the next
 --   shift-small, shifted, shift-more      shifts by which blocks stay small: an amount, a product, one more
---   in-block, block-low, block-high, block-of   the block of a place, and the places of a block
+--   block-at, block-low, block-high, block-below, block-from, block-up-to   the block of a place, and the places of a block
 --   least-block, block-runs               those in use are the ones from a place to another that is not before it
-use mathlib.Core.Path.{_≡_, refl, sym, _∙_}
+use mathlib.Core.Path.{_≡_, refl, ap, _∙_}
 use mathlib.Core.Bool.{not}
 use mathlib.Core.Logic.{_⊎_, inl, inr, ⊎-elim}
 use Prim.Native.Nat.{ℕ, _+_, _*_, _^_, _/_, _%_, _≤_, _<_, min}
-use native.Mathlib.Nat.{mul-le-mul-right, pow-le-pow-right, pow-suc, div-eq-of-lt-le, div-mul-le-self, div-lt-iff-lt-mul}
+use native.Mathlib.Nat.{mul-le-mul-right, pow-le-pow-right, pow-suc, div-eq-of-lt-le, div-mul-le-self, div-lt-iff-lt-mul, le-div-iff-mul-le}
 use native.Mathlib.Numerals.{add-one}
 use native.Mathlib.Omega.{arith}
 use lib.Dec.{T, ltb}
-use Rattle.lists.proofs.Tests.{tests, either, compared}
+use Rattle.lists.proofs.Tests.{tests, either, compared, ordered}
 use Rattle.lanes.specs.Sizes.{gone, blocks}
 use Rattle.blocks.specs.Code.{Least, inBlock}
-
-abbrev pub Lesser : ℕ → ℕ → ℕ → Type 0
-Lesser a b r = (r ≤ a) × ((r ≤ b) × ((r < a → r ≡ b) × (r < b → r ≡ a)))
-
-pub min-lesser : (a b r : ℕ) → r ≡ min a b → Lesser a b r
-min-lesser a b r e = (omega arith, (omega arith, (λ h. omega arith, λ h. omega arith)))
 
 -- a number below i + 1 is one below i, or i
 pub last-or : (i j : ℕ) → j < i + 1 → (j < i) ⊎ (j ≡ i)
@@ -31,26 +24,31 @@ last-or i j h = ⊎-elim (λ e. inr e) (λ n. inl (omega (arith, n))) (compared 
 pub least-none : (P : ℕ → Type 0) (f : ℕ → ℕ) → ((i : ℕ) → P i → ⊥) → Least P f gone
 least-none P f none = record { most = omega arith; low = λ i p. absurd (none i p); met = λ h. absurd (omega arith) }
 
--- r is the lesser of the least of P and of f i, and Q is P and i
-pub least-joins :
-    (P Q : ℕ → Type 0) (f : ℕ → ℕ) (m i r : ℕ)
-    → ((j : ℕ) → Q j → P j ⊎ (j ≡ i)) → ((j : ℕ) → P j → Q j) → Q i → Lesser m (f i) r → Least P f m → Least Q f r
-least-joins P Q f m i r apart wider new l was = record {
-  most = omega (arith, was .most, l .0);
-  low = λ j q. low j (apart j q);
-  met = λ h. met h (either (ltb r m));
+-- The least of what P holds of and of what Q holds of, b being the least of Q's.
+pub least-both :
+    {P Q : ℕ → Type 0} (R : ℕ → Type 0) {f : ℕ → ℕ} {a b r : ℕ} → Least P f a → ((i : ℕ) → Q i → b ≤ f i)
+    → (b < gone → (i : ℕ) × (Q i × (f i ≡ b))) → ((i : ℕ) → R i → P i ⊎ Q i) → ((i : ℕ) → P i → R i) → ((i : ℕ) → Q i → R i) → r ≡ min a b
+    → Least R f r
+least-both {P} {Q} R {f} {a} {b} {r} was above met split left right e = record {
+  most = omega (arith, was .most);
+  low = λ i h. low i (split i h);
+  met = λ h. found h (ordered a b);
 }
   where
-    low : (j : ℕ) → P j ⊎ (j ≡ i) → r ≤ f j
-    low j (inl p) = omega (arith, was .low j p, l .0)
-    low j (inr e) = rw e (l .1 .0)
+    low : (i : ℕ) → P i ⊎ Q i → r ≤ f i
+    low i (inl p) = omega (arith, was .low i p)
+    low i (inr q) = omega (arith, above i q)
 
-    met : r < gone → T (ltb r m) ⊎ T (not (ltb r m)) → (j : ℕ) × (Q j × (f j ≡ r))
-    met h (inl less) = (i, (new, sym (l .1 .1 .0 (omega (arith, tests)))))
-    met h (inr same) =
-        let e : r ≡ m = omega (arith, tests, l .0) in
-        let found = was .met (omega arith) in
-        (found .0, (wider (found .0) (found .1 .0), found .1 .1 ∙ sym e))
+    found : r < gone → (a ≤ b) ⊎ (b < a) → (i : ℕ) × (R i × (f i ≡ r))
+    found h (inl o) = let (i, (p, same)) = was .met (omega arith) in (i, (left i p, omega arith))
+    found h (inr o) = let (i, (q, same)) = met (omega arith) in (i, (right i q, omega arith))
+
+-- Q is P and i
+pub least-joins :
+    (P Q : ℕ → Type 0) (f : ℕ → ℕ) (m i r : ℕ)
+    → ((j : ℕ) → Q j → P j ⊎ (j ≡ i)) → ((j : ℕ) → P j → Q j) → Q i → r ≡ min m (f i) → Least P f m → Least Q f r
+least-joins P Q f m i r apart wider new e was =
+    least-both Q was (λ j same. let h : f j ≡ f i = ap f same in omega arith) (λ h. (i, (refl, refl))) apart wider (λ j same. rw same new) e
 
 -- Q is P but for numbers whose f is that of gone records
 pub least-like :
@@ -69,7 +67,7 @@ least-like P Q f g m narrow wide like was = record {
 -- the numbers from a to i, and i
 pub least-from :
     (f : ℕ → ℕ) (a i m r : ℕ)
-    → a ≤ i → Lesser m (f i) r → Least (λ (j : ℕ). (a ≤ j) × (j < i)) f m → Least (λ (j : ℕ). (a ≤ j) × (j < i + 1)) f r
+    → a ≤ i → r ≡ min m (f i) → Least (λ (j : ℕ). (a ≤ j) × (j < i)) f m → Least (λ (j : ℕ). (a ≤ j) × (j < i + 1)) f r
 least-from f a i m r h l was =
     least-joins (λ (j : ℕ). (a ≤ j) × (j < i)) (λ (j : ℕ). (a ≤ j) × (j < i + 1)) f m i r
     (λ j p. ⊎-elim (λ low. inl (p .0, low)) inr (last-or i j (p .1))) (λ j p. (p .0, omega (arith, p .1))) (h, omega arith) l was
@@ -94,47 +92,40 @@ pub shift-more : (s : ℕ) → blocks * 2 ^ s < 2 ^ 60 → blocks * 2 ^ (s + 1) 
 shift-more s few = rw add-one (omega (arith, pow-suc 2 s))
 
 -- the block of a place: which places block k has
-pub in-block : (width k i : ℕ) → k * width ≤ i → i < (k + 1) * width → i / width ≡ k
-in-block width k i low high = div-eq-of-lt-le width low high
+pub block-at : (width k i : ℕ) → k * width ≤ i → i < (k + 1) * width → i / width ≡ k
+block-at width k i low high = div-eq-of-lt-le width low high
 
 pub block-low : (width k i : ℕ) → i / width ≡ k → k * width ≤ i
 block-low width k i e = rw e at (div-mul-le-self i width)
 
-pub block-high : (width k i : ℕ) → 1 ≤ width → i / width ≡ k → i < (k + 1) * width
-block-high width k i wide e = div-lt-iff-lt-mul {k = width} {x = i} {y = k + 1} wide .0 (omega arith)
+-- which places have a block before k, and from k on; and the blocks of places in sequence
+module _ (width : ℕ) (wide : 1 ≤ width) where
+  pub block-high : (k i : ℕ) → i / width ≡ k → i < (k + 1) * width
+  block-high k i e = div-lt-iff-lt-mul {k = width} {x = i} {y = k + 1} wide .0 (omega arith)
 
--- .. that the blocks reach
-pub block-of : (i width : ℕ) → 1 ≤ width → i < blocks * width → i / width < blocks
-block-of i width wide reach = div-lt-iff-lt-mul {k = width} {x = i} {y = blocks} wide .1 reach
+  pub block-below : (i k : ℕ) → i < k * width → i / width < k
+  block-below i k h = div-lt-iff-lt-mul wide .1 h
+
+  pub block-from : (i k : ℕ) → k * width ≤ i → k ≤ i / width
+  block-from i k h = le-div-iff-mul-le wide .1 h
+
+  pub block-up-to : (i j : ℕ) → i ≤ j → i / width ≤ j / width
+  block-up-to i j h = block-from j (i / width) (let e : i / width * width ≤ i = div-mul-le-self i width in omega arith)
 
 -- those in use are the ones from a place to another
 pub least-block :
     (used width k : ℕ) (f : ℕ → ℕ) (from to m : ℕ)
-    → 1 ≤ width → Lesser (k * width) used from → Lesser ((k + 1) * width) used to → Least (λ (i : ℕ). (from ≤ i) × (i < to)) f m
+    → 1 ≤ width → from ≡ min (k * width) used → to ≡ min ((k + 1) * width) used → Least (λ (i : ℕ). (from ≤ i) × (i < to)) f m
     → Least (inBlock used width k) f m
 least-block used width k f from to m wide l h =
     least-like (λ (i : ℕ). (from ≤ i) × (i < to)) (inBlock used width k) f f m there (λ i p u. back i p) (λ i p. refl)
   where
     there : (i : ℕ) → inBlock used width k i → (from ≤ i) × (i < to)
-    there i b = (omega (arith, l .0, block-low width k i (b .1)), go (either (ltb to ((k + 1) * width))))
-      where
-        go : T (ltb to ((k + 1) * width)) ⊎ T (not (ltb to ((k + 1) * width))) → i < to
-        go (inl less) = rw (h .1 .1 .0 (omega (arith, tests))) (b .0)
-        go (inr same) = omega (arith, tests, block-high width k i wide (b .1))
+    there i b = (omega (arith, block-low width k i (b .1)), omega (arith, b .0, block-high width wide k i (b .1)))
 
     back : (i : ℕ) → (from ≤ i) × (i < to) → inBlock used width k i
-    back i p = (omega (arith, p .1, h .1 .0), in-block width k i (go (either (ltb from (k * width)))) (omega (arith, p .1, h .0)))
-      where
-        go : T (ltb from (k * width)) ⊎ T (not (ltb from (k * width))) → k * width ≤ i
-        go (inl less) = let e = l .1 .1 .0 (omega (arith, tests)) in absurd (omega (arith, p .1, h .1 .0))
-        go (inr same) = omega (arith, tests)
+    back i p = (omega (arith, p .1), block-at width k i (omega (arith, p)) (omega (arith, p .1)))
 
 -- the place that it starts from is not behind the one that it ends at
-pub block-runs : (used width k from to : ℕ) → Lesser (k * width) used from → Lesser ((k + 1) * width) used to → from ≤ to
-block-runs used width k from to l h = go (either (ltb to ((k + 1) * width)))
-  where
-    go : T (ltb to ((k + 1) * width)) ⊎ T (not (ltb to ((k + 1) * width))) → from ≤ to
-    go (inl less) = rw (h .1 .1 .0 (omega (arith, tests))) (l .1 .0)
-    go (inr same) =
-        let more : k * width ≤ (k + 1) * width = mul-le-mul-right width (omega arith) in
-        omega (arith, tests, l .0)
+pub block-runs : (used width k from to : ℕ) → from ≡ min (k * width) used → to ≡ min ((k + 1) * width) used → from ≤ to
+block-runs used width k from to l h = let more : k * width ≤ (k + 1) * width = mul-le-mul-right width (omega arith) in omega arith

@@ -1,18 +1,17 @@
 -- Laws of blocks of places. A block's minimum tells of its places (`some-block`, `in-block`); so the first place with a
 -- bound up to a limit is the first in the first block whose minimum is up to it (`first-in-first`), and the last is the last in the last
--- (`last-in-last`). The least of some numbers and of others is the lesser of the two (`least-both`).
+-- (`last-in-last`).
 use mathlib.Core.Path.{_≡_, refl, ap}
 use mathlib.Core.List.{List}
 use mathlib.Core.Logic.{_⊎_, inl, inr, _≢_}
-use Prim.Native.Nat.{ℕ, _+_, _*_, _/_, _≤_, _<_}
-use native.Mathlib.Nat.{div-lt-iff-lt-mul, le-div-iff-mul-le, div-mul-le-self}
+use Prim.Native.Nat.{ℕ, _+_, _*_, _/_, _≤_, _<_, min}
 use native.Mathlib.Omega.{arith}
 use lib.ListN.{getD}
 use Rattle.lists.proofs.Tests.{compared, ordered}
 use Rattle.stops.specs.declared.node_record.Record.{Record}
 use Rattle.lanes.specs.Sizes.{blocks, gone}
 use Rattle.blocks.specs.Code.{boundAt, Least, inBlock, Blocked, Earliest, Latest}
-use Rattle.blocks.proofs.BlockLaws.{block-low, block-high, least-none}
+use Rattle.blocks.proofs.BlockLaws.{least-none, least-both, least-like, block-low, block-high, block-below, block-from}
 
 -- Walks that look for a place i where f is up to a limit: a walk has not passed it, and what is above the limit is not it.
 pub not-passed : (a limit k i : ℕ) → a ≤ limit → (i < k → limit < a) → k ≤ i
@@ -33,65 +32,19 @@ but-one P k j at others = go (compared j k)
     go (inl e) = rw e at
     go (inr n) = others n
 
--- what is below both is below the lesser
-pub below-lesser : (a b r i : ℕ) → (r < a → r ≡ b) → i < a → i < b → i < r
-below-lesser a b r i other ia ib = go (ordered r i)
-  where
-    go : (r ≤ i) ⊎ (i < r) → i < r
-    go (inl o) = absurd (let e : r ≡ b = other (omega arith) in omega arith)
-    go (inr o) = o
-
--- Blocks of w places.
-module _ (w : ℕ) (wide : 1 ≤ w) where
-  pub block-below : (i k : ℕ) → i < k * w → i / w < k
-  block-below i k h = div-lt-iff-lt-mul wide .1 h
-
-  pub block-from : (i k : ℕ) → k * w ≤ i → k ≤ i / w
-  block-from i k h = le-div-iff-mul-le wide .1 h
-
-  pub block-up-to : (i j : ℕ) → i ≤ j → i / w ≤ j / w
-  block-up-to i j h = block-from j (i / w) (let e : i / w * w ≤ i = div-mul-le-self i w in omega arith)
-
--- The least of what P holds of and of what Q holds of.
-pub least-both :
-    {P Q : ℕ → Type 0} (R : ℕ → Type 0) {f : ℕ → ℕ} {a b r : ℕ} → Least P f a → Least Q f b → ((i : ℕ) → R i → P i ⊎ Q i)
-    → ((i : ℕ) → P i → R i) → ((i : ℕ) → Q i → R i) → (r ≤ a) × ((r ≤ b) × ((r < a → r ≡ b) × (r < b → r ≡ a))) → Least R f r
-least-both {P} {Q} R {f} {a} {b} {r} la lb split left right (ra, (rb, (isb, isa))) = record {
-  most = omega (arith, la .most);
-  low = λ i h. low i (split i h);
-  met = λ h. met h (ordered a r);
-}
-  where
-    low : (i : ℕ) → P i ⊎ Q i → r ≤ f i
-    low i (inl p) = omega (arith, la .low i p)
-    low i (inr q) = omega (arith, lb .low i q)
-
-    met : r < gone → (a ≤ r) ⊎ (r < a) → (i : ℕ) × (R i × (f i ≡ r))
-    met h (inl o) = let (i, (p, e)) = la .met (omega arith) in (i, (left i p, omega arith))
-    met h (inr o) = let same : r ≡ b = isb o in let (i, (q, e)) = lb .met (omega arith) in (i, (right i q, omega arith))
-
--- the least of what the same is said of
-pub least-same :
-    {P : ℕ → Type 0} (R : ℕ → Type 0) {f : ℕ → ℕ} {r : ℕ} → Least P f r → ((i : ℕ) → R i → P i) → ((i : ℕ) → P i → R i) → Least R f r
-least-same R l to back = record {
-  most = l .most;
-  low = λ i h. l .low i (to i h);
-  met = λ h. let (i, (p, e)) = l .met h in (i, (back i p, e));
-}
-
 module _ {recs : List Record} {used w : ℕ} {index : List ℕ} (b : Blocked recs used w index) where
   -- the minimum of a block
   pub block-least : (k : ℕ) → k < blocks → Least (inBlock used w k) (boundAt recs) (getD index k 0)
   block-least k h = b .each k h (λ e. omega arith)
 
   -- the block of a place in use, whose minimum is no more than the place's bound
-  pub block-of : (i : ℕ) → i < used → (i / w < blocks) × (getD index (i / w) 0 ≤ boundAt recs i)
-  block-of i h =
+  pub block-tells : (i : ℕ) → i < used → (i / w < blocks) × (getD index (i / w) 0 ≤ boundAt recs i)
+  block-tells i h =
       let k : i / w < blocks = block-below w (b .wide) i blocks (omega (arith, b .reach)) in
       (k, block-least (i / w) k .low i (h, refl))
 
   pub some-block : (limit : ℕ) → (i : ℕ) × ((i < used) × (boundAt recs i ≤ limit)) → (k : ℕ) × ((k < blocks) × (getD index k 0 ≤ limit))
-  some-block limit (i, (h, up)) = let (k, low) = block-of i h in (i / w, (k, omega arith))
+  some-block limit (i, (h, up)) = let (k, low) = block-tells i h in (i / w, (k, omega arith))
 
   -- a block whose minimum is up to a limit has a place with a bound up to it
   pub in-block :
@@ -100,7 +53,7 @@ module _ {recs : List Record} {used w : ℕ} {index : List ℕ} (b : Blocked rec
   in-block limit k live h up =
       let (i, ((inside, e), same)) = block-least k h .met (omega arith) in
       let start = block-low w k i e in
-      let end = block-high w k i (b .wide) e in
+      let end = block-high w (b .wide) k i e in
       (i, (start, (end, (inside, omega arith))))
 
   pub first-in-first :
@@ -122,14 +75,14 @@ module _ {recs : List Record} {used w : ℕ} {index : List ℕ} (b : Blocked rec
       go j m (inl o) = passed j o m
       go j m (inr o) =
           let (i, (start, (end, (inside, low)))) = in-block limit k live h up in
-          let least = block-of j (omega arith) in
+          let least = block-tells j (omega arith) in
           omega (arith, before (j / w) (block-below w (b .wide) j k o))
 
   pub last-in-last :
       (limit end k to r : ℕ) → ((i : ℕ) → i < used → i / w < end) → ((j : ℕ) → k < j → j < end → limit < getD index j 0)
-      → to ≤ used → (to < (k + 1) * w → to ≡ used) → r < to → boundAt recs r ≤ limit
+      → to ≡ min ((k + 1) * w) used → r < to → boundAt recs r ≤ limit
       → ((j : ℕ) → r < j → j < to → limit < boundAt recs j) → Latest recs used limit r
-  last-in-last limit end k to r ends behind short whole inside at passed = record {
+  last-in-last limit end k to r ends behind e inside at passed = record {
     inside = omega arith;
     within = at;
     behind = λ j h m. go j h m (ordered to j);
@@ -137,13 +90,9 @@ module _ {recs : List Record} {used w : ℕ} {index : List ℕ} (b : Blocked rec
     where
       go : (j : ℕ) → r < j → j < used → (to ≤ j) ⊎ (j < to) → limit < boundAt recs j
       go j h m (inr o) = passed j h o
-      go j h m (inl o) = far (ordered ((k + 1) * w) to)
-        where
-          far : ((k + 1) * w ≤ to) ⊎ (to < (k + 1) * w) → limit < boundAt recs j
-          far (inl p) =
-              let later : k + 1 ≤ j / w = block-from w (b .wide) j (k + 1) (omega arith) in
-              omega (arith, block-of j m .1, behind (j / w) (omega arith) (ends j m))
-          far (inr p) = absurd (let e : to ≡ used = whole p in omega arith)
+      go j h m (inl o) =
+          let later : k + 1 ≤ j / w = block-from w (b .wide) j (k + 1) (omega arith) in
+          omega (arith, block-tells j m .1, behind (j / w) (omega arith) (ends j m))
 
 -- The least bound of the places in use in the first k blocks: block by block, up to all that places in use are in.
 abbrev pub LeastTo : List Record → ℕ → ℕ → ℕ → ℕ → Type 0
@@ -154,11 +103,11 @@ least-to-none recs used w = least-none _ _ (λ i p. omega (arith, p .1))
 
 pub least-to-more :
     {recs : List Record} {used w : ℕ} {index : List ℕ} (b : Blocked recs used w index) (k low r : ℕ) → k < blocks → LeastTo recs used w k low
-    → (r ≤ low) × ((r ≤ getD index k 0) × ((r < low → r ≡ getD index k 0) × (r < getD index k 0 → r ≡ low))) → LeastTo recs used w (k + 1) r
-least-to-more {recs} {used} {w} b k low r h l lesser =
-    least-both (λ (i : ℕ). (i < used) × (i / w < k + 1)) l (block-least b k h) (λ i p. go i p (ordered k (i / w))) (λ i p. (p .0, omega (arith, p .1)))
-    (λ i p. (p .0, omega (arith, p .1)))
-    lesser
+    → r ≡ min low (getD index k 0) → LeastTo recs used w (k + 1) r
+least-to-more {recs} {used} {w} b k low r h l e =
+    let here = block-least b k h in
+    least-both (λ (i : ℕ). (i < used) × (i / w < k + 1)) l (here .low) (here .met) (λ i p. go i p (ordered k (i / w)))
+    (λ i p. (p .0, omega (arith, p .1))) (λ i p. (p .0, omega (arith, p .1))) e
   where
     go : (i : ℕ) → (i < used) × (i / w < k + 1) → (k ≤ i / w) ⊎ (i / w < k) → ((i < used) × (i / w < k)) ⊎ inBlock used w k i
     go i p (inl o) = inr (p .0, omega (arith, p .1))
@@ -167,4 +116,4 @@ least-to-more {recs} {used} {w} b k low r h l lesser =
 pub least-to-all :
     (recs : List Record) (used w k low : ℕ) → ((i : ℕ) → i < used → i / w < k) → LeastTo recs used w k low
     → Least (λ (i : ℕ). i < used) (boundAt recs) low
-least-to-all recs used w k low ends l = least-same (λ (i : ℕ). i < used) l (λ i h. (h, ends i h)) (λ i p. p .0)
+least-to-all recs used w k low ends l = least-like _ (λ (i : ℕ). i < used) _ _ low (λ i h. (h, ends i h)) (λ i p h. p .0) (λ i p. refl) l

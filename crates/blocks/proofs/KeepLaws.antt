@@ -7,7 +7,7 @@
 use mathlib.Core.Path.{_≡_, refl, sym, ap, _∙_}
 use mathlib.Core.List.{List}
 use mathlib.Core.Logic.{_⊎_, inl, inr, ⊎-elim, _≢_}
-use Prim.Native.Nat.{ℕ, suc, _+_, _*_, _/_, _≤_, _<_}
+use Prim.Native.Nat.{ℕ, suc, _+_, _*_, _/_, _≤_, _<_, min}
 use native.Mathlib.Omega.{arith}
 use lib.ListN.{length, getD, set, length-set}
 use lib.Seq.{getD-set-same, getD-set-other}
@@ -17,7 +17,7 @@ use Rattle.stops.specs.declared.node_record.Record.{Record}
 use Rattle.lanes.specs.Sizes.{gone, blocks}
 use Rattle.lanes.specs.Code.{marked}
 use Rattle.blocks.specs.Code.{boundAt, Least, inBlock, BlockedBut, Blocked, Same}
-use Rattle.blocks.proofs.BlockLaws.{Lesser, last-or, least-none, least-joins, least-like, block-of}
+use Rattle.blocks.proofs.BlockLaws.{last-or, least-none, least-joins, least-like, block-below}
 
 pub same-none : (index : List ℕ) → Same index index
 same-none index = record { same-length = refl; behind = λ j h. refl }
@@ -120,7 +120,7 @@ blocked-spared recs recs′ used width index i b below e above = record {
 -- the record at u joins its block
 pub blocked-joins :
     (recs : List Record) (u width : ℕ) (index : List ℕ) (v : ℕ)
-    → Blocked recs u width index → u < length recs → u < blocks * width → Lesser (getD index (u / width) 0) (boundAt recs u) v
+    → Blocked recs u width index → u < length recs → u < blocks * width → v ≡ min (getD index (u / width) 0) (boundAt recs u)
     → Blocked recs (u + 1) width (set index (u / width) v)
 blocked-joins recs u width index v b inside reach l = record {
   whole = rw (length-set index (u / width) v) (b .whole);
@@ -131,7 +131,7 @@ blocked-joins recs u width index v b inside reach l = record {
 }
   where
     here : u / width < blocks
-    here = block-of u width (b .wide) reach
+    here = block-below width (b .wide) u blocks reach
 
     go :
         (k : ℕ) → (k ≡ u / width) ⊎ (k ≢ u / width) → Least (inBlock u width k) (boundAt recs) (getD index k 0)

@@ -1,5 +1,4 @@
 // The least bound, and the first and the last record with a bound up to a limit.
-ghost use mathlib.Core.Path.{_≡_};
 ghost use mathlib.Core.List.{List};
 ghost use Prim.Native.Nat.{ℕ, _*_, _+_, _/_, _^_, _≤_, _<_};
 ghost use lib.ListN.{length, getD};

@@ -19,7 +19,7 @@ use Rattle.lanes.specs.Sizes.{gone, everyBound}
 use Rattle.lanes.specs.Code.{sized, isLive, liveOf}
 use Rattle.lanes.proofs.LiveLaws.{live-in, in-live}
 use Rattle.blocks.specs.Code.{boundAt, Least, Earliest, Latest}
-use Rattle.blocks.proofs.FindLaws.{least-same}
+use Rattle.blocks.proofs.BlockLaws.{least-like}
 use Rattle.blocks.proofs.SelectLaws.{
   live-below,
   below-live,
@@ -52,7 +52,8 @@ module _ (recs : List Record) (used : ℕ) (fits : used ≤ length recs) where
       → r ≡ least (λ x. x .bound) (liveOf used recs)
   unfolding sized
   floor-least r l some =
-      let (live, there) = least-met recs used fits r (least-same (λ (i : ℕ). i < used) l (λ i h. (omega arith, h)) (λ i p. p .1)) some in
+      let (live, there) =
+      least-met recs used fits r (least-like _ (λ (i : ℕ). i < used) _ _ r (λ i h. (omega arith, h)) (λ i p low. p .1) (λ i p. refl) l) some in
       let (i, (among, e)) = l .met live in
       let x : Record = getD recs i emptyRecord in
       least-is (λ y. y .bound) (liveOf used recs) r (sized x)

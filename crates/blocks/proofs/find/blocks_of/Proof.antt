@@ -4,8 +4,7 @@ use native.Mathlib.Omega.{arith}
 use borrow.Author.Needs.{needs}
 use lib.Pow.{pow-pos, shr-le}
 use Rattle.lanes.specs.Sizes.{blocks}
-use Rattle.blocks.proofs.BlockLaws.{shift-small}
-use Rattle.blocks.proofs.FindLaws.{block-up-to, block-below}
+use Rattle.blocks.proofs.BlockLaws.{shift-small, block-up-to, block-below}
 use Rattle.blocks.proofs.find.blocks_of.Statement.{statement}
 use Rattle.blocks.proofs.find.blocks_of.Tie as tie
 

@@ -1,11 +1,11 @@
 -- `latest` meets its contract: the last block with such a record, and the last one in it.
-use mathlib.Core.Path.{_≡_}
-use Prim.Native.Nat.{_+_, _*_, _/_, _^_, _%_, _≤_}
+use mathlib.Core.Path.{_≡_, ap, _∙_}
+use Prim.Native.Nat.{ℕ, _+_, _*_, _/_, _^_, _≤_, min}
 use native.Mathlib.Omega.{arith}
 use borrow.Author.Needs.{needs}
 use Rattle.lanes.specs.Sizes.{blocks}
 use Rattle.blocks.proofs.BlockLaws.{shift-small, shifted}
-use Rattle.blocks.proofs.FindLaws.{block-of, in-block, last-in-last, below-lesser}
+use Rattle.blocks.proofs.FindLaws.{block-tells, in-block, last-in-last}
 use Rattle.blocks.proofs.find.latest.Statement.{statement}
 use Rattle.blocks.proofs.find.latest.Tie as tie
 
@@ -21,46 +21,39 @@ last-block-requires c κs =
     let b = entry c .pre .0 in
     let (i, (inside, low)) = entry c .pre .1 .1 .1 in (
       omega (arith, few c, b .whole),
-      (i / 2 ^ entry c .args .shift, (c .blocks-of .ensures .0 i inside, omega (arith, block-of b i inside .1))),
+      (i / 2 ^ entry c .args .shift, (c .blocks-of .ensures .0 i inside, omega (arith, block-tells b i inside .1))),
     )
 
--- where the next block starts
-next : (c : tie.After-last-block) →
-    let s = entry (c .before) .args .shift in (c .last-block .result + 1) * 2 ^ s % 2 ^ 64 ≡ (c .last-block .result + 1) * 2 ^ s
-next c =
-    let a = entry (c .before) in
-    shifted (c .last-block .result + 1) (a .args .shift) (omega (arith, few (c .before), c .last-block .ensures .0)) (a .pre .1 .0)
+-- where the records of the block end
+ends : (c : tie.After-lesser-place) →
+    let a = entry (c .before .before) .args in c .lesser-place .result ≡ min ((c .before .last-block .result + 1) * 2 ^ a .shift) (a .used)
+ends c =
+    let a = entry (c .before .before) in
+    let block = c .before .last-block in
+    c .lesser-place .ensures
+    ∙ ap (λ (v : ℕ). min v (a .args .used))
+    (shifted (block .result + 1) (a .args .shift) (omega (arith, few (c .before .before), block .ensures .0)) (a .pre .1 .0))
 
 last-before-requires : tie.Need-last-before-requires
 last-before-requires c κs =
     let start = entry (c .before .before) in
-    let s = start .args .shift in
-    let used = start .args .used in
     let block = c .before .last-block in
     let (i, (from, (end, (inside, low)))) =
     in-block (start .pre .0) (start .args .limit) (block .result) (start .pre .1 .1 .0) (omega (arith, few (c .before .before), block .ensures .0))
     (block .ensures .1 .0) in (
-      omega (arith, start .pre .0 .inside, c .lesser-place .ensures .1 .0),
-      (
-        i,
-        (
-          below-lesser ((block .result + 1) * 2 ^ s) used (c .lesser-place .result) i (rw (next (c .before)) at (c .lesser-place .ensures .1 .1 .0)) end inside,
-          low,
-        ),
-      ),
+      omega (arith, start .pre .0 .inside, ends c),
+      (i, (omega (arith, ends c), low)),
     )
 
 returns : tie.Need-returns
 returns c =
     let before = c .before .before in
     let start = entry (before .before) in
-    let to = c .before .lesser-place in
-    last-in-last (start .pre .0) (start .args .limit) (before .before .blocks-of .result) (before .last-block .result) (to .result)
+    last-in-last (start .pre .0) (start .args .limit) (before .before .blocks-of .result) (before .last-block .result) (c .before .lesser-place .result)
     (c .last-before .result)
     (before .before .blocks-of .ensures .0)
     (before .last-block .ensures .1 .1)
-    (to .ensures .1 .0)
-    (rw (next before) at (to .ensures .1 .1 .0))
+    (ends (c .before))
     (c .last-before .ensures .0)
     (c .last-before .ensures .1 .0)
     (c .last-before .ensures .1 .1)

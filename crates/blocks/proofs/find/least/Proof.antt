@@ -7,7 +7,6 @@ use borrow.Author.Needs.{needs}
 use Rattle.stops.specs.declared.node_record.Record.{Record}
 use Rattle.lanes.specs.Sizes.{blocks}
 use Rattle.blocks.specs.Code.{Blocked}
-use Rattle.blocks.proofs.BlockLaws.{min-lesser}
 use Rattle.blocks.proofs.FindLaws.{LeastTo, least-to-none, least-to-more, least-to-all}
 use Rattle.blocks.proofs.find.least.Statement.{statement}
 use Rattle.blocks.proofs.find.least.Tie as tie
@@ -33,7 +32,7 @@ loop-again : tie.Need-loop-again Inv-loop μ-loop
 loop-again c =
     let inside = c .before .before in
     let loop = inside .before .loop in
-    (omega arith, λ recs b. least-to-more b (loop .k) (loop .low) (c .lesser .result) (within inside) (loop .inv .1 recs b) (min-lesser _ _ _ (c .lesser .ensures)))
+    (omega arith, λ recs b. least-to-more b (loop .k) (loop .low) (c .lesser .result) (within inside) (loop .inv .1 recs b) (c .lesser .ensures))
 
 returns : tie.Need-returns Inv-loop μ-loop
 returns c =

@@ -4,7 +4,7 @@ use native.Mathlib.Omega.{arith}
 use borrow.Author.Needs.{needs}
 use Rattle.records.specs.Code.{records}
 use Rattle.lanes.specs.Sizes.{blocks}
-use Rattle.blocks.proofs.BlockLaws.{shift-small, block-of}
+use Rattle.blocks.proofs.BlockLaws.{shift-small, block-below}
 use Rattle.blocks.proofs.KeepLaws.{blocked-but, blocked-spared, same-none}
 use Rattle.blocks.proofs.keep.kill.Statement.{statement}
 use Rattle.blocks.proofs.keep.kill.Tie as tie
@@ -18,7 +18,7 @@ start c = c .before .before .before .before .before .before
 
 -- the record's block is one of the index
 block : (c : tie.Start) → c .args .i / 2 ^ c .args .shift < blocks
-block c = block-of (c .args .i) _ (c .pre .0 .wide) (omega (arith, c .pre .0 .reach))
+block c = block-below _ (c .pre .0 .wide) (c .args .i) _ (omega (arith, c .pre .0 .reach))
 
 shr-k : tie.Need-shr-k
 shr-k c = let s = c .before .before in omega (arith, shift-small blocks (s .args .shift) (omega arith) (s .pre .1 .1))

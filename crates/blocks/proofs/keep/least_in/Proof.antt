@@ -5,7 +5,7 @@ use native.Mathlib.Omega.{arith}
 use borrow.Author.Needs.{needs}
 use Rattle.records.specs.Code.{records}
 use Rattle.blocks.specs.Code.{Least, boundAt}
-use Rattle.blocks.proofs.BlockLaws.{min-lesser, least-none, least-from}
+use Rattle.blocks.proofs.BlockLaws.{least-none, least-from}
 use Rattle.blocks.proofs.keep.least_in.Statement.{statement}
 use Rattle.blocks.proofs.keep.least_in.Tie as tie
 
@@ -26,7 +26,7 @@ loop-again c =
     let s = head .loop in
     let a = head .before .before .args in
     let f = boundAt (records (a .w .now)) in
-    (omega arith, least-from f (a .from) (s .i) (s .least) _ (omega arith) (min-lesser _ _ _ (c .lesser .ensures ∙ ap (min _) (c .before .bound-at .ensures))) (s .inv .1))
+    (omega arith, least-from f (a .from) (s .i) (s .least) _ (omega arith) (c .lesser .ensures ∙ ap (min _) (c .before .bound-at .ensures)) (s .inv .1))
 
 returns : tie.Need-returns Inv-loop μ-loop
 returns c =

@@ -7,7 +7,7 @@ use lib.ListN.{length}
 use Rattle.records.specs.Code.{records}
 use Rattle.lanes.specs.Sizes.{blocks}
 use Rattle.blocks.specs.Code.{Blocked, Same}
-use Rattle.blocks.proofs.BlockLaws.{min-lesser, shift-small, block-of}
+use Rattle.blocks.proofs.BlockLaws.{shift-small, block-below}
 use Rattle.blocks.proofs.KeepLaws.{same-none, same-set, same-on, blocked-joins}
 use Rattle.blocks.proofs.keep.note.Statement.{statement}
 use Rattle.blocks.proofs.keep.note.Tie as tie
@@ -26,7 +26,7 @@ entry c = c .before .before .before
 here : (c : tie.In-loop Inv-loop μ-loop) → c .before .loop .i / 2 ^ entry (c .before) .args .shift < blocks
 here c =
     let pre = entry (c .before) .pre in
-    block-of (c .before .loop .i) _ (pre .0 .wide) (omega (arith, pre .1 .1 .1 .0))
+    block-below _ (pre .0 .wide) (c .before .loop .i) _ (omega (arith, pre .1 .1 .1 .0))
 
 whole : (c : tie.In-loop Inv-loop μ-loop) → blocks ≤ length (c .before .loop .index)
 whole c = c .before .loop .inv .1 .0 .whole
@@ -43,7 +43,7 @@ loop-again c =
       omega arith,
       (
         blocked-joins (records (a .w .now)) (s .i) _ (s .index) _ (s .inv .1 .0) (omega (arith, pre .1 .1 .0)) (omega (arith, pre .1 .1 .1 .0))
-            (min-lesser _ _ _ (c .lesser .ensures ∙ ap (min _) (c .before .bound-at .ensures))),
+            (c .lesser .ensures ∙ ap (min _) (c .before .bound-at .ensures)),
         same-on _ (s .index) _ (s .inv .1 .1) (same-set (s .index) _ _ (here run)),
       ),
     )
