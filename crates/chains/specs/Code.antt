@@ -9,9 +9,8 @@
 --   Relinked             what linking a lane from nothing leaves of the pool's records
 --   Only                 an index is the same but for a lane's heads
 use mathlib.Core.Path.{_≡_}
-use mathlib.Core.Bool.{Bool, true, false, cond, not, _&&_}
+use mathlib.Core.Bool.{Bool, cond, not, _&&_}
 use mathlib.Core.List.{List, [], _∷_}
-use mathlib.Core.Logic.{_⊎_}
 use Prim.Native.Nat.{ℕ, zero, suc, _+_, _*_, _^_, _/_, _%_, _≤_, _<_}
 use lib.Count.{ones}
 use lib.Dec.{T, eqb, leb}
@@ -19,12 +18,12 @@ use lib.ListN.{length, getD, set}
 use Rattle.lists.specs.Lists.{In, any}
 use Rattle.stops.specs.Code.{emptyRecord, lastStop, recDominates, stopsIn}
 use Rattle.stops.specs.declared.node_record.Record.{Record}
-use Rattle.records.specs.Code.{inSlot, Slotted}
+use Rattle.records.specs.Code.{inSlot}
 use Rattle.lanes.specs.Sizes.{heads}
-use Rattle.lanes.specs.Code.{sized, placeOf, recAt, laneOf}
+use Rattle.lanes.specs.Code.{sized, placeOf, recAt}
 use Rattle.lanes.specs.declared.Lane.{Lane}
 
--- a stop stands above every set; the golden ratio of a word; how far the product with it is shifted
+-- a stop stands above every set; the golden ratio of a word; what the product with it is divided by, so that its upper digits tell
 abbrev stopAboveSets : ℕ
 stopAboveSets = 65_536
 

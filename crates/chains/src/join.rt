@@ -1,14 +1,13 @@
 // Records that join a lane: each gets its link and becomes the head of its chain.
 ghost use mathlib.Core.Path.{_≡_};
-ghost use mathlib.Core.List.{_++_, map};
+ghost use mathlib.Core.List.{_++_};
 ghost use Prim.Native.Nat.{ℕ, _+_, _-_, _^_, _≤_, _<_};
 ghost use lib.Dec.{T};
 ghost use lib.ListN.{length, getD, set, take, drop};
 ghost use Rattle.lanes.specs.Sizes.{heads};
-ghost use Rattle.lanes.specs.Code.{sized, placeOf};
-ghost use Rattle.stops.specs.Code.{emptyRecord};
+ghost use Rattle.lanes.specs.Code.{placeOf};
 ghost use Rattle.records.specs.Code.{records, slots, Slotted};
-ghost use Rattle.chains.specs.Code.{Inside, Chained, Walkable, joinedOf, indexWith, joinedAll, indexAll, Relinked, Only};
+ghost use Rattle.chains.specs.Code.{Inside, Chained, joinedOf, indexWith, joinedAll, indexAll, Relinked, Only};
 use crate::walk::bucket;
 use lanes::Lane;
 use lanes::constants::HEADS;

@@ -23,8 +23,8 @@ use stops::sets::later;
 use stops::sets::next;
 use stops::sets::with;
 
-// What spreads sets and last stops over the heads: a stop above every set, the golden ratio of a word, and how far the product is
-// shifted.
+// What spreads sets and last stops over the heads: a stop above every set, the golden ratio of a word, and what the product is divided by, so that
+// its upper digits tell.
 const STOP_ABOVE_SETS: u64 = 65_536;
 
 const ABOVE_WORD: u64 = 4_294_967_296;

@@ -4,7 +4,7 @@
 // while a call works; crate `chains` keeps a link there. specs/Code has how lanes show lists of nodes. The functions are public for the
 // crates above and not for hosts; what they require, those crates meet.
 ghost use mathlib.Core.Path.{_≡_};
-ghost use Prim.Native.Nat.{_+_, _-_, _≤_, _<_};
+ghost use Prim.Native.Nat.{_-_, _≤_, _<_};
 ghost use lib.ListN.{length, getD, set};
 ghost use Rattle.stops.specs.Code.{emptyRecord};
 ghost use Rattle.records.specs.Code.{records};

@@ -125,7 +125,7 @@ module _
         → Kept recs p (keep (λ x. not (test x)) (othersOf (p .used) i recs)) recs″ (numbered p e (p .active - 1 - lost)) index′
     kept-cleared index index′ e counted laid (low, (walkable, (only, none))) = record {
       laid = laid-trimmed recs″ p index index′ e (p .active - 1 - lost) laid low walkable only none;
-      alike = record { capacity = refl; ranked = refl; linked = refl; far-linked = refl };
+      one-pool = record { capacity = refl; ranked = refl; linked = refl; far-linked = refl };
       nodes = live-trim recs″ (p .used) (omega (arith, laid .whole, laid .fits)) e low none ∙ left-nodes;
       counted = omega (arith, counted, left-few, ap length left-nodes);
       far-count = refl;

@@ -27,7 +27,7 @@ use Rattle.chains.specs.Code.{Sized}
 use Rattle.pool.specs.Code.{Laid, OnePool}
 use Rattle.replacement.specs.Code.{isBeaten, isStaying, stayingOf, farWith, Changing, Kept, Committed}
 use Rattle.replacement.specs.declared.change.Change.{Change}
-use Rattle.replacement.proofs.FrameLaws.{alike-on}
+use Rattle.replacement.proofs.FrameLaws.{one-pool-on}
 
 and-swap : (a b : Bool) → (a && b) ≡ (b && a)
 and-swap true b = sym (and-true b)
@@ -75,7 +75,7 @@ module _
         h .limited,
         (
           h .slotted .small,
-          (low, omega (arith, ap length stays, slots-length kids (c .alive), cleared .alike .capacity)),
+          (low, omega (arith, ap length stays, slots-length kids (c .alive), cleared .one-pool .capacity)),
         ),
       ),
     )
@@ -124,7 +124,8 @@ module _
                 → Committed recs p i b c kids recs₄ q₄ index₄
             committed recs₄ q₄ index₄ joined = record {
               laid = joined .laid;
-              alike = alike-on p q₁ q₄ (cleared .alike) (alike-on q₁ q₂ q₄ (tidied .alike) (alike-on q₂ q₃ q₄ (held .0 .1) (joined .alike)));
+              one-pool =
+                  one-pool-on p q₁ q₄ (cleared .one-pool) (one-pool-on q₁ q₂ q₄ (tidied .one-pool) (one-pool-on q₂ q₃ q₄ (held .0 .1) (joined .one-pool)));
               nodes = joined .nodes ∙ ap (λ (l : List Record). l ++ slots (c .alive) kids) nodes;
               counted =
                   omega

@@ -16,14 +16,13 @@ use lib.Dec.{T, leb, le→leb}
 use lib.ListN.{length, getD, take, length-append}
 use lib.Seq.{slice, slice-empty, slice-cons}
 use borrow.Author.Tests.{lt-ltb, leb-true, lt-leb, le-leb}
-use Rattle.sizes.specs.Sizes.{mostStops}
 use Rattle.lists.specs.Lists.{keep}
 use Rattle.lists.proofs.Keep.{keep-append, keep-all}
 use Rattle.lists.proofs.Numbers.{keep-parts}
 use Rattle.lists.proofs.Slices.{slice-join}
 use Rattle.stops.specs.Code.{emptyRecord, recDominates, First}
 use Rattle.stops.specs.declared.node_record.Record.{Record}
-use Rattle.records.specs.Code.{inSlot, slots, Slotted}
+use Rattle.records.specs.Code.{inSlot, slots}
 use Rattle.records.proofs.SlotLaws.{slots-first, slots-none}
 use Rattle.lanes.specs.Sizes.{gone}
 use Rattle.lanes.specs.Code.{sized, isLive, liveIn, othersOf}

@@ -6,7 +6,7 @@
 --   active-walkable, active-same                the active lane and its nodes, where its records are as they were
 --   active-minima                               and the minima
 --   spliced-long, spliced-before, spliced-behind    records written over those behind the first k
---   alike-on                                    three layouts of one pool
+--   one-pool-on                                 three layouts of one pool
 use mathlib.Core.Path.{_≡_, refl, sym, ap, _∙_}
 use mathlib.Core.List.{List, _++_}
 use Prim.Native.Nat.{ℕ, suc, _+_, _-_, _≤_, _<_}
@@ -110,8 +110,8 @@ module _ (recs xs : List Record) (k : ℕ) (fits : k + length xs ≤ length recs
       ∙ getD-drop (k + length xs) recs n emptyRecord
       ∙ ap (λ (m : ℕ). getD recs m emptyRecord) last
 
-pub alike-on : (p q r : Layout) → OnePool p q → OnePool q r → OnePool p r
-alike-on p q r a b = record {
+pub one-pool-on : (p q r : Layout) → OnePool p q → OnePool q r → OnePool p r
+one-pool-on p q r a b = record {
   capacity = b .capacity ∙ a .capacity;
   ranked = b .ranked ∙ a .ranked;
   linked = b .linked ∙ a .linked;

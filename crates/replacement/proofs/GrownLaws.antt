@@ -28,7 +28,7 @@ use Rattle.chains.proofs.JoinLaws.{length-joined, nodes-joined, only-all}
 use Rattle.blocks.specs.Code.{Same}
 use Rattle.pool.specs.Code.{Laid, LaidTo, Ranked, OnePool}
 use Rattle.replacement.specs.Code.{Kept}
-use Rattle.replacement.proofs.FrameLaws.{far-walkable, far-same, active-walkable, active-minima, spliced-long, spliced-before, spliced-behind, alike-on}
+use Rattle.replacement.proofs.FrameLaws.{far-walkable, far-same, active-walkable, active-minima, spliced-long, spliced-before, spliced-behind, one-pool-on}
 use Rattle.replacement.proofs.TidyLaws.{numbered}
 
 abbrev pub widened : Layout → ℕ → Layout
@@ -171,9 +171,9 @@ module _
             → (Laid recs′ r index″ × OnePool (numbered p (p .used + new) (p .active + new)) r)
             × ((r .used ≡ p .used + new) × ((r .active ≡ p .active + new) × (r .far ≡ p .far)))
             → Kept recs p (liveOf (p .used) recs ++ slots alive kids) recs′ r index″
-        joined-kept r index″ counted ((done, alike), (used, (active, far))) = record {
+        joined-kept r index″ counted ((done, same-pool), (used, (active, far))) = record {
           laid = done;
-          alike = alike-on p q r record { capacity = refl; ranked = refl; linked = refl; far-linked = refl } alike;
+          one-pool = one-pool-on p q r record { capacity = refl; ranked = refl; linked = refl; far-linked = refl } same-pool;
           nodes = ap (λ (n : ℕ). liveOf n recs′) used ∙ nodes;
           counted = omega (arith, active, counted, count, length-append (liveOf (p .used) recs) xs);
           far-count = far;

@@ -51,7 +51,7 @@ tidy-kept recs p index limit laid counted low =
     keep-all (isWithin limit) (liveOf (p .used) recs) (λ x m. le→leb (x .bound) limit (low x m)) in
     record {
       laid = laid;
-      alike = record { capacity = refl; ranked = refl; linked = refl; far-linked = refl };
+      one-pool = record { capacity = refl; ranked = refl; linked = refl; far-linked = refl };
       nodes = sym all;
       counted = counted ∙ ap length (sym all);
       far-count = refl;
@@ -130,7 +130,7 @@ module _
             far-few = laid .far-few;
             ranks = ranks;
           };
-          alike = record { capacity = refl; ranked = refl; linked = refl; far-linked = refl };
+          one-pool = record { capacity = refl; ranked = refl; linked = refl; far-linked = refl };
           nodes = nodes small;
           counted = squeezed-few limit small recs recs₁ (p .used) e sifted ∙ ap length (live-squeezed limit small recs recs₁ (p .used) e sifted);
           far-count = refl;

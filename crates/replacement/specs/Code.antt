@@ -63,7 +63,7 @@ pub record Changing (recs : List Record) (p : Layout) (i : ℕ) (c : Change) (ki
 -- recs′, q and index′ belong together and show the nodes xs; q is of the pool that p was of, and its far end is as it was
 pub record Kept (recs : List Record) (p : Layout) (xs : List Record) (recs′ : List Record) (q : Layout) (index′ : List ℕ) : Type 0 where
   pub laid : Laid recs′ q index′
-  pub alike : OnePool p q
+  pub one-pool : OnePool p q
   pub nodes : liveOf (q .used) recs′ ≡ xs
   pub counted : q .active ≡ length xs
   pub far-count : q .far ≡ p .far
@@ -76,7 +76,7 @@ farWith far b xs = cond (eqb far 0) [] (b ∷ xs)
 -- those that stay, then the children that survive; at the far end b too, if branched nodes are held
 pub record Committed (recs : List Record) (p : Layout) (i : ℕ) (b : Record) (c : Change) (kids recs′ : List Record) (q : Layout) (index′ : List ℕ) : Type 0 where
   pub laid : Laid recs′ q index′
-  pub alike : OnePool p q
+  pub one-pool : OnePool p q
   pub nodes : liveOf (q .used) recs′ ≡ stayingOf recs p i c kids ++ slots (c .alive) kids
   pub counted : q .active ≡ length (stayingOf recs p i c kids) + length (slots (c .alive) kids)
   pub far-count : q .far ≡ c .far

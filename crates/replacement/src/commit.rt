@@ -1,15 +1,14 @@
 // The pool after parts 6 and 7: the branched node and those that rule 8 strikes out leave, the lane is squeezed where that is due, which is
 // rule 1 on the active nodes too, b joins the far end under rule 4, and the children that survive are written behind the nodes that stay.
 ghost use mathlib.Core.Path.{_≡_};
-ghost use mathlib.Core.Bool.{not, false, _||_};
-ghost use mathlib.Core.List.{List, _++_};
+ghost use mathlib.Core.Bool.{not, false};
+ghost use mathlib.Core.List.{_++_};
 ghost use mathlib.Core.Logic.{_⊎_};
-ghost use Prim.Native.Nat.{ℕ, _+_, _*_, _^_, _≤_, _<_};
-ghost use lib.Dec.{T};
-ghost use lib.ListN.{length, getD};
+ghost use Prim.Native.Nat.{ℕ, _+_, _^_, _≤_, _<_};
+ghost use lib.ListN.{length};
 ghost use Rattle.sizes.specs.Sizes.{mostStops};
 ghost use Rattle.lists.specs.Lists.{In, keep};
-ghost use Rattle.stops.specs.Code.{emptyRecord, stopsIn};
+ghost use Rattle.stops.specs.Code.{stopsIn};
 ghost use Rattle.stops.specs.declared.node_record.Record.{Record};
 ghost use Rattle.records.specs.Code.{records, inSlot, slots, Slotted};
 ghost use Rattle.lanes.specs.Sizes.{gone};

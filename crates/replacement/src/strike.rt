@@ -1,7 +1,7 @@
 // Rule 8: active records that a child dominates are marked as gone, found along the child's chain.
 ghost use mathlib.Core.Path.{_≡_};
 ghost use mathlib.Core.Bool.{cond, _&&_};
-ghost use Prim.Native.Nat.{ℕ, _≤_, _<_};
+ghost use Prim.Native.Nat.{_<_};
 ghost use lib.Count.{ones};
 ghost use lib.ListN.{length, getD, set};
 ghost use Rattle.stops.specs.Code.{emptyRecord, recDominates};

@@ -69,7 +69,7 @@ module _
     unfolding runAfter stepOf step best₂ children₁ recProblem active₇
     stage-shown = record {
       laid = put .laid;
-      ranks = λ below. subst T (sym (put .alike .ranked)) (shown .ranks below);
+      ranks = λ below. subst T (sym (put .one-pool .ranked)) (shown .ranks below);
       active = put .nodes ∙ sym (stage-active made small ready s shown);
       active-count = count-active;
       far = shown-far;

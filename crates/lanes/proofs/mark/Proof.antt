@@ -1,5 +1,4 @@
 -- `mark` meets its contract: the record is loaded, and stored with another bound.
-use mathlib.Core.Path.{_∙_, ap}
 use borrow.Author.Needs.{needs}
 use Rattle.lanes.specs.Code.{marked}
 use Rattle.lanes.proofs.mark.Statement.{statement}

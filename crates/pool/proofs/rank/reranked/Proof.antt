@@ -1,6 +1,5 @@
 -- `reranked` meets its contract: `rebuild` makes the minima, if the layout is ranked.
 use mathlib.Core.Path.{subst, sym}
-use mathlib.Core.Bool.{Bool}
 use lib.Dec.{T}
 use borrow.Author.Needs.{needs}
 use Rattle.blocks.proofs.KeepLaws.{same-none}
