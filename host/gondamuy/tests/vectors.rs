@@ -1,4 +1,4 @@
-//! The worked calls of host/vectors, for document 01 with requests A.1 to A.6: every field of the answers and, by its
+//! The worked calls of host/vectors, for document 01 with requests A.1 to A.8: every field of the answers and, by its
 //! hash, every word of the pool. `.ci/jobs` holds the program `plan` to the files.
 
 use gondamuy::raw::{first_order, plan, read, FirstOrder, Job, Report};

@@ -34,7 +34,7 @@ fn printed(text: &str) -> Result<String, String> {
     }
 }
 
-/// The 60 files of A05-files.txt.
+/// The 60 files of A08-files.txt.
 pub fn files() -> Vec<JobFile> {
-    lines("A05-files.txt", include_str!("../A05-files.txt"), 60, JobFile::parse)
+    lines("A08-files.txt", include_str!("../A08-files.txt"), 60, JobFile::parse)
 }

@@ -1,4 +1,4 @@
-//! Runs (document 01 with requests A.1 to A.6).
+//! Runs (document 01 with requests A.1 to A.8).
 
 use crate::words::Words;
 use crate::{lines, ORDER_PLACES};
@@ -92,7 +92,7 @@ fn extra(words: &mut Words) -> Result<usize, String> {
     }
 }
 
-/// The 300 calls of A06-run.txt.
+/// The 300 calls of A08-run.txt.
 pub fn runs() -> Vec<Run> {
-    lines("A06-run.txt", include_str!("../A06-run.txt"), 300, Run::parse)
+    lines("A08-run.txt", include_str!("../A08-run.txt"), 300, Run::parse)
 }

@@ -1,4 +1,4 @@
-//! A05-files.txt is parsed as a whole, and nothing else passes for a line of it.
+//! A08-files.txt is parsed as a whole, and nothing else passes for a line of it.
 
 use vectors::{files, JobFile};
 
@@ -22,19 +22,19 @@ fn a_line_of_files() {
     assert_eq!(changed("cost 3/order 1 2/most 1/", "refused 8/"), Ok(refused));
 }
 
-/// The 32nd line: one stop, 1 out and nothing back, landings of 3 and 3. The 25th: 3 out and 2 back on a day that ends
-/// away.
+/// The 60th line: one stop, 15 out and 11 back, a landing of 2 at home, on a day that ends away. The 58th: two stops, all
+/// legs free, from order 21, whose place the equal and smaller 12 takes.
 #[test]
 fn lines_of_the_file() {
-    let job = &files()[31];
-    let table = [3, 0, 0, 0, 1, 0, 0, 0, 0, 0, 0, 0, 3, 0, 0, 0];
-    let trailer = [0, 0, 0, 0, 16, 0, 0, 0, 1, 0, 1, 3, 1];
+    let job = &files()[59];
+    let table = [2, 0, 0, 0, 15, 0, 0, 0, 11, 0, 0, 0, 0, 0, 0, 0];
+    let trailer = [0, 0, 0, 0, 16, 0, 0, 0, 1, 0, 0, 15, 2];
     assert_eq!(job.bytes, [&table[..], &trailer[..]].concat());
-    let lines = ["cost 7", "order 1", "branched 1", "generated 2", "eliminated 0", "active 1", "most 1"];
+    let lines = ["cost 15", "order 1", "branched 1", "generated 2", "eliminated 0", "active 1", "most 1"];
     assert_eq!(job.printed, lines.map(|line| format!("{line}\n")).concat());
-    let away = &files()[24];
-    assert_eq!((away.bytes[4], away.bytes[8], away.bytes.last()), (3, 2, Some(&3)));
-    assert!(away.printed.starts_with("cost 3\norder 1\nbranched 0\n"));
+    let tied = &files()[57];
+    assert_eq!(tied.bytes[36..], [2, 1, 0, 0, 0, 0, 36, 0, 0, 0, 2, 2, 1, 13, 0]);
+    assert!(tied.printed.starts_with("cost 173432\norder 1 2\nbranched 3\n"));
 }
 
 /// Orders with every bound that passes; a file's last byte is the bound.
@@ -58,7 +58,7 @@ fn the_lines_printed() {
     }
     refusals.sort();
     refusals.dedup();
-    assert_eq!(refusals, [1, 3, 4, 9]);
+    assert_eq!(refusals, [1, 3, 4, 7, 9]);
 }
 
 #[test]

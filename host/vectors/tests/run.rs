@@ -1,4 +1,4 @@
-//! A06-run.txt is parsed as a whole, and nothing else passes for a line of it.
+//! A08-run.txt is parsed as a whole, and nothing else passes for a line of it.
 
 mod common;
 
@@ -54,21 +54,22 @@ fn a_line_of_run() {
     assert_eq!(changed("fill 7", "fill 4294967295"), Ok(Run { fill: u32::MAX, ..one_stop() }));
 }
 
-/// The first line of the file, the second, which a budget stopped, and the ninth, which has a pair.
+/// The first line of the file, which a budget stopped, the second, whose pool is refused, and the sixth, which has a pair
+/// and a starting order that costs the same as the answer.
 #[test]
 fn lines_of_the_file() {
     let first = &runs()[0];
-    assert_eq!((first.n, first.budget, first.records, first.extra, first.fill), (2, 4, 52, 0, 0));
-    assert_eq!((first.selection, first.rules, first.bound), (0, 11, 2));
+    assert_eq!((first.n, first.budget, first.records, first.extra, first.fill), (4, 7, 23, 0, u32::MAX));
+    assert_eq!((first.selection, first.rules, first.bound), (1, 6, 1));
     assert_eq!((first.start.len(), first.pairs.len()), (0, 0));
-    assert_eq!((first.number, first.cost, &first.order[..3]), (0, 12, &[2, 1, 0][..]));
-    assert_eq!((first.counts, first.mark, first.floor), ([3, 5, 0, 2, 2], 0, 0));
-    assert_eq!(first.words, 0xce85_3c19_d513_2534);
-    let stopped = &runs()[1];
-    assert_eq!(stopped.start, [5, 6, 3, 4, 2, 1]);
-    assert_eq!((stopped.budget, stopped.counts[0], stopped.mark, stopped.floor), (84, 84, 1, 47));
-    let paired = &runs()[8];
-    assert_eq!((paired.bound, paired.budget, paired.cost, &paired.pairs[..]), (3, u64::MAX, 1_200_276, &[1, 4][..]));
+    assert_eq!((first.number, first.cost, &first.order[..5]), (0, 26, &[3, 1, 2, 4, 0][..]));
+    assert_eq!((first.counts, first.mark, first.floor), ([7, 17, 0, 10, 10], 1, 26));
+    assert_eq!(first.words, 0x82ad_fe39_84af_9db4);
+    let refused = &runs()[1];
+    assert_eq!((refused.number, refused.budget, refused.records, refused.extra), (6, u64::MAX, 87, 1));
+    let tied = &runs()[5];
+    assert_eq!((&tied.start[..], &tied.pairs[..]), (&[3, 1, 4, 2, 5][..], &[1, 2][..]));
+    assert_eq!((tied.cost, &tied.order[..5], tied.counts), (0, &[1, 2, 3, 4, 5][..], [49, 97, 44, 4, 22]));
 }
 
 /// Runs over tables with charges, however they end, and charges of one too many.
@@ -99,7 +100,7 @@ fn bounds_of_run() {
 }
 
 /// Runs with up to three pairs, however they end, and no order shown that goes against them; a starting order that does;
-/// and pairs that number 11 refuses: of odd length, and with a stop that isn't there, too low and too high.
+/// and pairs that number 11 refuses, of odd length.
 #[test]
 fn pairs_of_run() {
     let calls = runs();
@@ -114,10 +115,18 @@ fn pairs_of_run() {
         assert!(in_front(&call.pairs, &call.order), "{call:?}");
     }
     assert!(calls.iter().any(|call| call.number == 5 && !in_front(&call.pairs, &call.start)));
-    let refused: Vec<&Run> = calls.iter().filter(|call| call.number == 11).collect();
-    assert!(refused.iter().any(|call| call.pairs.len() % 2 == 1));
-    assert!(refused.iter().any(|call| call.pairs.contains(&0)));
-    assert!(refused.iter().any(|call| call.pairs.iter().any(|&stop| u32::from(stop) > call.n)));
+    let refused: Vec<&[u8]> = calls.iter().filter(|call| call.number == 11).map(|call| &call.pairs[..]).collect();
+    assert_eq!(refused, [[1, 4, 3, 2, 3]]);
+}
+
+/// Finished runs over free legs, where every order ties with the starting one, and the answer is smaller than that.
+#[test]
+fn ties_of_run() {
+    let free = |call: &Run| call.table.iter().all(|&leg| leg == 0) && (call.number, call.mark) == (0, 0);
+    let smaller = |call: &Run| call.order[..call.n as usize] < call.start[..];
+    assert!(runs().iter().any(|call| free(call) && smaller(call)));
+    let larger = |call: &Run| !call.start.is_empty() && call.order[..call.n as usize] > call.start[..];
+    assert!(!runs().iter().any(|call| free(call) && larger(call)));
 }
 
 /// Answers of every number, every selection, sum of rules and bound up to

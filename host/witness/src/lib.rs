@@ -1,4 +1,4 @@
-//! A second planner, written from document 01 and requests A.1 and A.3 to A.7
+//! A second planner, written from document 01 and requests A.1 and A.3 to A.8
 //! of document 02 alone, in plain lists and literal passes, and a second
 //! reader and writer of job files, which follow document 01's text. They serve
 //! as witnesses beside the proved ones. Request A.2 changes no answer, so there
@@ -8,15 +8,15 @@
 //! order, with the leg home or, by request A.5, without), `pairs` (request
 //! A.6's pick-ups and drops), `node` (partial orders, bounds, dominance),
 //! `carried` (request A.7's way to the close bounds of children), `checks`
-//! (refusals 1 to 6 and 11), `run` (the run, request A.3's budget and refusal
-//! 7), `words` (report and pool), `first_order` (request A.1's call),
-//! `enumerate` (all n! orders), `job_file` (reader and writer), `program` (what
-//! `plan` prints).
+//! (refusals 1 to 6 and 11), `run` (the run with request A.8's ties, request
+//! A.3's budget and refusal 7), `words` (report and pool), `first_order`
+//! (request A.1's call), `enumerate` (all n! orders), `job_file` (reader and
+//! writer), `program` (what `plan` prints).
 //!
 //! Where the texts leave a choice, this planner takes these, 1 to 12 from
 //! document 01, 13 to 16 from request A.1, 17 to 25 from request A.3, 26 to 32
-//! from request A.4, 33 to 41 from request A.5, 42 to 53 from request A.6 and
-//! the rest from request A.7:
+//! from request A.4, 33 to 41 from request A.5, 42 to 53 from request A.6, 54 to
+//! 62 from request A.7 and the rest from request A.8:
 //!
 //! 1. Selection, rules, bound and n come in as 64-bit numbers and stops of the
 //!    starting order as 32-bit ones, so that every refusal can be provoked.
@@ -28,7 +28,8 @@
 //! 4. Each pass sees what the passes before it left: rule 2 tests the children
 //!    that rule 1 left against the active nodes that rule 1 left, rule 4 tests
 //!    the children that rule 2 left, and a node is counted as eliminated once.
-//! 5. Nodes "differ" when their orders of stops differ.
+//! 5. Nodes "differ" when their orders of stops differ, as they always do where
+//!    one dominates the other (65).
 //! 6. Without rule 4 the branched nodes take no records.
 //! 7. Whether the pool is full is asked after a step only; e always fits, as a
 //!    pool without a whole record was refused before.
@@ -53,13 +54,13 @@
 //! 17. Every 64-bit number is a budget: none is refused, and the checks come
 //!     first whatever it is. The first order's call takes none.
 //! 18. The budget stops a run that is not finished and has made as many
-//!     branchings. A run that finishes on its last branching, or with budget 0
-//!     before any, has mark 0; a run whose next step has neither a branching
-//!     nor records left is stopped, not full.
+//!     branchings. A run that finishes on its last branching has mark 0; a run
+//!     whose next step has neither a branching nor records left is stopped, not
+//!     full.
 //! 19. A refused step is no branching, and a run that is full below its budget
 //!     is refused as before, with mark and floor 0.
 //! 20. The best known is U with its order, so a starting order too until a
-//!     cheaper one is found. "None" is a U above every cost. An order that
+//!     better one is found (63). "None" is a U above every cost. An order that
 //!     costs 0 is told from none by its stops.
 //! 21. The floor is over all active nodes, b and complete ones among them, by
 //!     the bound that the job chose, whether an order is known or not.
@@ -102,8 +103,8 @@
 //!     a stop are from the same places as before. At a complete node both are
 //!     the order's cost. A node's path cost never had a leg home.
 //! 36. U, a starting order's cost too, the costs of complete children, rule 1,
-//!     the finish test, the selections by bound and the floor go by the costs
-//!     and bounds of the day. Dominance goes by path costs and is the same.
+//!     the selections by bound and the floor go by the costs and bounds of the
+//!     day. Dominance goes by path costs and is the same.
 //! 37. Legs into home and home's charge have no say away, but they are there
 //!     and check 3 looks at them: a leg home of 1,000,001 is 3.
 //! 38. Jobs are held against each other, and costs are equal, among bounds 0
@@ -172,6 +173,30 @@
 //! 61. Away, there is no leg home to hold. The sum is the same.
 //! 62. Pairs say which children there are, and nothing else: stops that aren't
 //!     allowed yet have shares, and legs from them are held.
+//! 63. The known order may be a starting order: an equally cheap but smaller
+//!     complete child takes its place too. Against a U above every cost any
+//!     complete child does.
+//! 64. Of two orders of the same stops the smaller has the lower stop number at
+//!     the first position in which they differ. Only orders of one length are
+//!     held against each other.
+//! 65. Dominance asks for the same set and last stop as before; y's path cost is
+//!     then below z's, or the same, and y's order smaller. No node dominates
+//!     itself, and of two that differ one dominates the other. Rules 2, 4 and 8
+//!     all go by this.
+//! 66. "Among equals" is among the active nodes of least bound: under selections
+//!     0 and 1 the earliest or latest of those that aren't complete is chosen,
+//!     and the earliest or latest of all if there is none such. FIFO and LIFO
+//!     choose as before.
+//! 67. The finish test is only whether b is complete, under every selection. e
+//!     never is, so that no run finishes without a branching, and a starting
+//!     order that costs e's bound is no finish.
+//! 68. Rule 1 is as before: bounds above U go and equal ones stay, whatever
+//!     their orders.
+//! 69. The order of a stopped run is the best known, and need not be the
+//!     smallest of its cost. The first order's call ranks orders as before.
+//! 70. A starting order is "no dearer" than another by its cost alone. Of two
+//!     that cost the same either gives the same counts, pool and floor; only the
+//!     order that a stopped run shows may differ.
 
 pub mod carried;
 pub mod checks;

@@ -1,6 +1,6 @@
 //! Partial orders, their bounds, and dominance (document 01, "Nodes", with the
-//! landings of request A.4 of document 02, the days away of request A.5 and the
-//! pairs of request A.6).
+//! landings of request A.4 of document 02, the days away of request A.5, the
+//! pairs of request A.6 and the ties of request A.8).
 
 use crate::legs::{Ends, Legs, Place};
 use crate::pairs::Pairs;
@@ -113,8 +113,10 @@ impl Node {
         home.expect("a node that isn't complete has a stop to come")
     }
 
-    /// Another way through the same stops to the same last one, and no dearer.
+    /// Another way through the same stops to the same last one, and cheaper, or
+    /// as cheap and smaller in comparison stop by stop.
     pub fn dominates(&self, other: &Node) -> bool {
-        self.set == other.set && self.last() == other.last() && self.path <= other.path && self.stops != other.stops
+        let better = self.path < other.path || self.path == other.path && self.stops < other.stops;
+        self.set == other.set && self.last() == other.last() && better
     }
 }

@@ -1,5 +1,5 @@
-//! The run (document 01, "One run"), the budget (request A.3 of document 02)
-//! and the full pool ("The pool").
+//! The run (document 01, "One run", with request A.8 of document 02), the
+//! budget (request A.3) and the full pool ("The pool").
 
 use std::rc::Rc;
 
@@ -50,19 +50,15 @@ pub struct Upper {
 }
 
 impl Upper {
-    /// `cost` is below U.
-    fn undercut_by(&self, cost: u32) -> bool {
-        self.cost.is_none_or(|u| cost < u)
+    /// The complete node is cheaper than U, or as cheap and its order smaller
+    /// than U's.
+    fn yields_to(&self, node: &Node) -> bool {
+        self.cost.is_none_or(|u| node.bound < u || node.bound == u && node.stops < self.order)
     }
 
     /// `bound` is above U.
     fn exceeded_by(&self, bound: u32) -> bool {
         self.cost.is_some_and(|u| bound > u)
-    }
-
-    /// `bound` is at least U.
-    fn reached_by(&self, bound: u32) -> bool {
-        self.cost.is_some_and(|u| bound >= u)
     }
 }
 
@@ -95,7 +91,7 @@ pub fn run(job: &Job, records: usize, watch: &mut dyn FnMut(&State)) -> (State, 
     loop {
         watch(&state);
         let b = state.select(job);
-        if state.is_finished(job, b) {
+        if state.active[b].is_complete(&job.legs) {
             return (state, End::Finished);
         }
         if state.branchings() == job.budget {
@@ -143,14 +139,8 @@ impl State {
         assert!(!self.active.is_empty(), "the active set is empty");
         let latest = self.active.len() - 1;
         match job.selection {
-            Selection::LeastBoundEarliest => {
-                let least = self.least_bound();
-                self.active.iter().position(|y| y.bound == least).unwrap()
-            }
-            Selection::LeastBoundLatest => {
-                let least = self.least_bound();
-                self.active.iter().rposition(|y| y.bound == least).unwrap()
-            }
+            Selection::LeastBoundEarliest => self.preferred(job)[0],
+            Selection::LeastBoundLatest => *self.preferred(job).last().unwrap(),
             Selection::Fifo => 0,
             Selection::Lifo => {
                 let partial = |y: &Rc<Node>| !y.is_complete(&job.legs);
@@ -159,18 +149,22 @@ impl State {
         }
     }
 
+    /// Where the active nodes of least bound stand; if some of them aren't
+    /// complete, where those do.
+    fn preferred(&self, job: &Job) -> Vec<usize> {
+        let least = self.least_bound();
+        let (complete, partial): (Vec<usize>, Vec<usize>) = (0..self.active.len())
+            .filter(|&at| self.active[at].bound == least)
+            .partition(|&at| self.active[at].is_complete(&job.legs));
+        match partial.is_empty() {
+            true => complete,
+            false => partial,
+        }
+    }
+
     /// Among the active nodes.
     pub fn least_bound(&self) -> u32 {
         self.active.iter().map(|y| y.bound).min().unwrap()
-    }
-
-    fn is_finished(&self, job: &Job, b: usize) -> bool {
-        let node = &self.active[b];
-        let counts = match job.selection {
-            Selection::LeastBoundEarliest | Selection::LeastBoundLatest => true,
-            Selection::Fifo | Selection::Lifo => self.active.len() == 1,
-        };
-        (self.upper.reached_by(node.bound) && counts) || node.is_complete(&job.legs)
     }
 
     /// One step, in the sequence of its seven parts.
@@ -184,7 +178,7 @@ impl State {
         next.generated += children.len() as u64;
         // 2
         for child in &children {
-            if child.is_complete(&job.legs) && next.upper.undercut_by(child.bound) {
+            if child.is_complete(&job.legs) && next.upper.yields_to(child) {
                 next.upper = Upper { cost: Some(child.bound), order: child.stops.clone() };
             }
         }

@@ -2,7 +2,7 @@
 
 mod common;
 
-use common::by_hand::{expect, on_t};
+use common::by_hand::{expect, expect_stopped, on_t};
 use common::course::{course, course_away};
 use common::{away_choices, Job};
 use samples::{charged, level, T};
@@ -86,12 +86,12 @@ fn cases_a_to_d() {
     expect(&on_t([3, 1, 3], &[]), 16, 7, &[1, 2, 3], [8, 14, 5, 1, 4]);
 }
 
-/// From 123, which costs e's bound of 7, there is nothing to branch. From 231
-/// (13), 3 (16) goes at once, 21 (21) and 13 (14) when they come up, and 231
+/// From 123 (7), 2 (13) and 3 (16) go at once and 13 (14) when it comes up; e,
+/// 1 and 12 are branched. From 231 (13), 3 (16) goes at once, 21 (21) and 13 (14) when they come up, and 231
 /// when 123 is found; e, 2, 23, 1 and 12 are branched.
 #[test]
 fn cases_e_and_f() {
-    expect(&on_t([3, 1, 3], &[1, 2, 3]), 1, 7, &[1, 2, 3], [0, 1, 0, 1, 1]);
+    expect(&on_t([3, 1, 3], &[1, 2, 3]), 1, 7, &[1, 2, 3], [3, 7, 3, 1, 1]);
     expect(&on_t([3, 1, 3], &[2, 3, 1]), 2, 7, &[1, 2, 3], [5, 10, 4, 1, 2]);
     let (report, pool) = on_t([3, 1, 3], &[]).run(1);
     assert_eq!((report.number, report.cost, report.order), (7, 0, [0; 16]));
@@ -104,25 +104,23 @@ fn cases_e_and_f() {
 fn one_stop() {
     let table = [7, 3, 5, 11];
     for [selection, rules, bound] in away_choices() {
-        let close = bound - 2;
         let job = Job::new(1, &table, [selection, rules, bound], &[]);
         expect(&job, 2, 3 + 11, &[1], [1, 2, 0, 1, 1]);
         assert_eq!(job.run(2).1[..6], [1, 1, 14, 14, 0, 0]);
-        assert_eq!(job.within(0).run(1).0.floor, close as u32 * 14);
+        assert_eq!(job.within(0).run(1).0.floor, (bound as u32 - 2) * 14);
         let started = Job::new(1, &table, [selection, rules, bound], &[1]);
-        expect(&started, 2, 14, &[1], [1 - close, 2 - close, 0, 1, 1]);
+        expect(&started, 2, 14, &[1], [1, 2, 0, 1, 1]);
     }
     assert_eq!(course_away(1, &table), [(14, vec![1])]);
 }
 
-/// Two stops, all legs free, home's landing 1: nobody pays it, and 2 isn't
-/// branched under plain either.
+/// Two stops, all legs free, home's landing 1: nobody pays it, and all nodes
+/// tie.
 #[test]
 fn home_charges_alone() {
     let table = charged(&[0; 9], &[1, 0, 0]);
-    for bound in [2, 3] {
-        expect(&Job::new(2, &table, [0, 0, bound], &[]), 5, 0, &[1, 2], [2, 4, 0, 2, 2]);
-        expect(&Job::new(2, &table, [1, 0, bound], &[]), 5, 0, &[2, 1], [2, 4, 0, 2, 2]);
+    for [selection, _, bound] in away_choices() {
+        expect(&Job::new(2, &table, [selection, 0, bound], &[]), 5, 0, &[1, 2], [3, 5, 0, 2, 2]);
     }
 }
 
@@ -160,13 +158,15 @@ fn budgets_of_two_stops() {
     assert_eq!([shown(&plain, 0), shown(&plain, 1)], [(0, STOPPED, 38, 0), (0, STOPPED, 38, 11)]);
 }
 
-/// Every leg and every landing the dearest: sixteen flights.
+/// Every leg and every landing the dearest: sixteen flights, found by the first
+/// dive. All that are left tie with it, so a budget ends the run.
 #[test]
 fn dearest_legs_and_charges() {
     let table = charged(&level(16, 1_000_000), &[100_000; 17]);
     let order: Vec<u32> = (1..=16).rev().collect();
     let job = Job::new(16, &table, [1, 15, 3], &[]);
-    expect(&job, 137, 16 * 1_100_000, &order, [16, 137, 0, 121, 121]);
+    let all = 16 * 1_100_000;
+    expect_stopped(&job.within(16), 137, all, all, &order, [16, 137, 0, 121, 121]);
     assert_eq!(course_away(16, &table), [(17_600_000, (1..=16).collect())]);
 }
 

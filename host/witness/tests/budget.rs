@@ -54,7 +54,7 @@ fn case_b_after_five_branchings() {
 }
 
 /// With nine branchings the best order is known and costs the floor, yet the
-/// finish test fails: 32 isn't the only active node.
+/// run isn't finished: 32 isn't complete.
 #[test]
 fn case_b_from_start_to_finish() {
     let b = case_b();
@@ -95,7 +95,8 @@ fn starting_order_is_known() {
     let e = on_t([3, 1, 1], &[1, 2, 3]);
     assert_eq!(report(&e, 0, 1), stopped(10, 13, &[1, 2, 3], [0, 1, 0, 1, 1]));
     assert_eq!(report(&e, 1, 1), stopped(10, 13, &[1, 2, 3], [1, 4, 2, 1, 1]));
-    assert_eq!(report(&e, 2, 1), finished(13, &[1, 2, 3], [2, 6, 3, 1, 1]));
+    assert_eq!(report(&e, 2, 1), stopped(13, 13, &[1, 2, 3], [2, 6, 3, 1, 1]));
+    assert_eq!(report(&e, 3, 1), finished(13, &[1, 2, 3], [3, 7, 3, 1, 1]));
     let dearer = on_t([2, 0, 0], &[2, 1, 3]);
     assert_eq!(report(&dearer, 4, 6), stopped(6, 27, &[2, 1, 3], [4, 10, 0, 6, 6]));
     assert_eq!(report(&dearer, 5, 6), stopped(8, 13, &[1, 2, 3], [5, 11, 0, 6, 6]));
@@ -121,18 +122,18 @@ fn free_order_is_shown() {
     assert_eq!(report(&job, 3, 2), finished(0, &[1, 2], [3, 5, 0, 2, 2]));
 }
 
-/// A starting order that costs e's bound finishes without a branching: legs
-/// all the same under close, free ones under both bounds.
+/// A starting order that costs e's bound is known to be cheapest, but not to be
+/// the smallest of these, and no run finishes without a branching: legs all the
+/// same under close, free ones under both bounds.
 #[test]
-fn nothing_to_branch() {
+fn floor_reached_by_the_starting_order() {
     for n in [1, 2, 5, 16] {
         let start: Vec<u32> = (1..=n as u32).rev().collect();
         for [selection, rules, bound] in choices() {
             let leg = bound as u32 * 7;
             let job = Job::new(n, &level(n, leg), [selection, rules, bound], &start);
-            let told = finished(leg * (n as u32 + 1), &start, [0, 1, 0, 1, 1]);
-            assert_eq!(report(&job, 0, 1), told, "{job:?}");
-            assert_eq!(report(&job, LARGEST_BUDGET, 1), told, "{job:?}");
+            let cost = leg * (n as u32 + 1);
+            assert_eq!(report(&job, 0, 1), stopped(cost, cost, &start, [0, 1, 0, 1, 1]), "{job:?}");
         }
     }
 }

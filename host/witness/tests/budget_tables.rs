@@ -26,14 +26,17 @@ struct Course<'a> {
     states: Vec<State>,
     /// The nodes that each of them has the pool keep.
     keeps: Vec<usize>,
-    /// Of all orders that respect the pairs.
+    /// The least cost of all orders that respect the pairs.
     least: u32,
+    /// Of the orders that cost it.
+    smallest: Vec<u32>,
 }
 
 impl Course<'_> {
     fn of(job: &Job) -> Course<'_> {
         let (states, keeps) = (job.states(ample(job.n)), job.keeps());
-        Course { job, states, keeps, least: job.least_cost() }
+        let (least, smallest) = job.best();
+        Course { job, states, keeps, least, smallest }
     }
 
     /// The branchings that so many records leave room for, up to the finish.
@@ -107,7 +110,7 @@ fn check_unlimited(course: &Course, records: usize) -> Ended {
     let (report, pool, _) = &ended;
     assert_eq!((report.mark, report.floor), (0, 0), "{job:?}");
     if course.branchings_in(records) == course.branchings() {
-        check_finished(job, report, pool, course.least);
+        check_finished(job, report, pool, course.least, &course.smallest);
     } else {
         assert_eq!(report.number, 7, "{job:?}");
     }

@@ -1,14 +1,16 @@
-//! Cases a to k of document 01, and further cases worked out by hand.
+//! Cases a to k of document 01, with e, f and i as request A.8 of document 02
+//! has them, and further cases worked out by hand.
 
 mod common;
 
-use common::by_hand::{expect, on_t};
+use common::by_hand::{expect, expect_stopped, on_t};
 use common::Job;
 use samples::{level, T};
 use witness::enumerate::{all_orders, cheapest_orders, least_cost};
 use witness::legs::{Ends, Legs};
 use witness::node::{Bound, Node};
 use witness::pairs::Pairs;
+use witness::STOPPED;
 
 #[test]
 fn costs_of_the_orders_in_t() {
@@ -42,12 +44,12 @@ fn case_d() {
 
 #[test]
 fn case_e() {
-    expect(&on_t([3, 1, 1], &[1, 2, 3]), 16, 13, &[1, 2, 3], [2, 6, 3, 1, 1]);
+    expect(&on_t([3, 1, 1], &[1, 2, 3]), 16, 13, &[1, 2, 3], [3, 7, 3, 1, 1]);
 }
 
 #[test]
 fn case_f() {
-    expect(&on_t([3, 1, 1], &[1, 2, 3]), 1, 13, &[1, 2, 3], [2, 6, 3, 1, 1]);
+    expect(&on_t([3, 1, 1], &[1, 2, 3]), 1, 13, &[1, 2, 3], [3, 7, 3, 1, 1]);
     let (report, pool) = on_t([3, 1, 1], &[]).run(1);
     assert_eq!((report.number, report.cost, report.order), (7, 0, [0; 16]));
     assert_eq!(report.counts(), [0, 1, 0, 1, 1]);
@@ -66,26 +68,26 @@ fn case_h() {
 
 #[test]
 fn case_i() {
-    let earliest = Job::new(2, &[0; 9], [0, 0, 1], &[]);
-    let latest = Job::new(2, &[0; 9], [1, 0, 1], &[]);
-    expect(&earliest, 5, 0, &[1, 2], [2, 4, 0, 2, 2]);
-    expect(&latest, 5, 0, &[2, 1], [2, 4, 0, 2, 2]);
+    for selection in [0, 1] {
+        let job = Job::new(2, &[0; 9], [selection, 0, 1], &[]);
+        expect(&job, 5, 0, &[1, 2], [3, 5, 0, 2, 2]);
+    }
 }
 
 #[test]
 fn case_j() {
     let end = |job: &Job| {
-        let (report, _) = job.run(1);
+        let (report, _) = job.within(0).run(1);
         (report.number, report.mark)
     };
     let table = [0; 17 * 17];
     let job = Job::new(16, &table, [0, 0, 0], &(1..=16).collect::<Vec<u32>>());
-    assert_eq!(end(&job), (0, 0));
+    assert_eq!(end(&job), (0, STOPPED));
     let table = [0; 18 * 18];
     let job = Job::new(17, &table, [0, 0, 0], &[]);
     assert_eq!(end(&job), (1, 0));
     let dear = Job::new(1, &[0, 1_000_000, 0, 0], [0, 0, 0], &[]);
-    assert_eq!(end(&dear), (0, 0));
+    assert_eq!(end(&dear), (0, STOPPED));
     let dearer = Job::new(1, &[0, 1_000_001, 0, 0], [0, 0, 0], &[]);
     assert_eq!(end(&dearer), (3, 0));
 }
@@ -107,15 +109,18 @@ fn pool_of_case_a() {
     assert_eq!(pool[6..], [0; 18]);
 }
 
-/// Both orders cost the same: the first found, or given, stays the answer.
+/// Both orders cost the same: 12 is the answer, whichever is found first or
+/// given.
 #[test]
-fn equal_complete_child_does_not_replace() {
-    let job = Job::new(2, &[0; 9], [2, 0, 1], &[]);
-    expect(&job, 5, 0, &[1, 2], [3, 5, 0, 2, 2]);
-    let job = Job::new(2, &[0; 9], [2, 0, 1], &[2, 1]);
-    expect(&job, 5, 0, &[2, 1], [0, 1, 0, 1, 1]);
-    let job = Job::new(2, &[0, 1, 1, 1, 0, 1, 1, 1, 0], [2, 0, 0], &[2, 1]);
-    expect(&job, 5, 3, &[2, 1], [3, 5, 0, 2, 2]);
+fn equal_but_smaller_order_replaces() {
+    for selection in 0..4 {
+        for start in [&[][..], &[1, 2], &[2, 1]] {
+            let free = Job::new(2, &[0; 9], [selection, 0, 1], start);
+            expect(&free, 5, 0, &[1, 2], [3, 5, 0, 2, 2]);
+            let dear = Job::new(2, &level(2, 1), [selection, 0, 0], start);
+            expect(&dear, 5, 3, &[1, 2], [3, 5, 0, 2, 2]);
+        }
+    }
 }
 
 /// Active 12, 21, then branched e, 1, 2; with one record less, the state
@@ -135,27 +140,38 @@ fn pool_with_branched_nodes() {
     assert_eq!(pool, [n2, n12, e, n1].concat());
 }
 
-/// All legs 1: of two equal nodes rule 2 keeps the earlier, rule 8 the later.
-/// With both on, rule 2 is first, and what it eliminates eliminates nothing.
+/// All legs 1: of two equal nodes the smaller stays. FIFO makes it first, so
+/// that rule 2 eliminates the other and rule 8 neither; LIFO makes it last.
 #[test]
-fn rule_2_before_rule_8() {
-    let earlier = [0x210, 0x120, 0x021];
-    let later = [0x201, 0x102, 0x012];
-    for (rules, orders) in [(2, earlier), (8, later), (10, earlier)] {
-        let job = Job::new(3, &level(3, 1), [2, rules, 0], &[]);
-        expect(&job, 6, 4, &[1, 2, 3], [10, 16, 3, 3, 6]);
-        let told: Vec<u32> = orders.iter().flat_map(|&o| [3, 7, 3, 4, o, 0]).collect();
-        assert_eq!(job.run(6).1[..18], told);
+fn smaller_of_two_equal_nodes_stays() {
+    let kept = |selection, rules, counts| {
+        let job = Job::new(3, &level(3, 1), [selection, rules, 0], &[]);
+        expect(&job, 6, 4, &[1, 2, 3], counts);
+        let (report, pool) = job.run(6);
+        pool.chunks(6).take(report.active as usize).map(|record| record[4]).collect::<Vec<u32>>()
+    };
+    for rules in [2, 10] {
+        assert_eq!(kept(2, rules, [10, 16, 3, 3, 6]), [0x210, 0x120, 0x021]);
     }
+    for rules in [8, 10] {
+        assert_eq!(kept(3, rules, [10, 16, 3, 3, 5]), [0x021, 0x120, 0x210]);
+    }
+    assert_eq!(kept(2, 8, [10, 16, 0, 6, 6]), [0x210, 0x120, 0x201, 0x021, 0x102, 0x012]);
+    assert_eq!(kept(3, 2, [10, 16, 0, 6, 6]), [0x012, 0x102, 0x021, 0x201, 0x120, 0x210]);
 }
 
-/// All legs 1, LIFO: the 24 nodes of size 3 go in pairs of one set and last
-/// stop, and the later of each pair meets a branched node.
+/// Legs out of 4, 3, 2 and 1, all others 1, LIFO: the 24 nodes of size 3 go in
+/// pairs of one set and last stop, and the later of each pair, which is dearer,
+/// meets a branched node. With all legs 1 it is smaller, and none goes.
 #[test]
 fn rule_4_against_branched_nodes() {
-    let job = Job::new(4, &level(4, 1), [3, 4, 0], &[]);
-    expect(&job, 41, 5, &[4, 3, 2, 1], [29, 53, 12, 12, 15]);
+    let mut table = level(4, 1);
+    table[1..5].copy_from_slice(&[4, 3, 2, 1]);
+    let job = Job::new(4, &table, [3, 4, 0], &[]);
+    expect(&job, 41, 5, &[4, 1, 2, 3], [29, 53, 12, 12, 15]);
     assert_eq!(job.run(40).0.number, 7);
+    let tied = Job::new(4, &level(4, 1), [3, 4, 0], &[]);
+    expect(&tied, 65, 5, &[1, 2, 3, 4], [41, 65, 0, 24, 24]);
 }
 
 /// The free chain 1 to 16 is followed without a detour; both words of the
@@ -171,22 +187,26 @@ fn sixteen_stops_in_a_chain() {
     assert_eq!(pool[..6], [16, 0xFFFF, 0, 0, 0x7654_3210, 0xFEDC_BA98]);
 }
 
-/// Every leg the dearest: seventeen of them, found by the first dive.
+/// Every leg the dearest: seventeen of them, found by the first dive. All that
+/// are left tie with it, so a budget ends the run.
 #[test]
 fn dearest_legs() {
     let order: Vec<u32> = (1..=16).rev().collect();
     let job = Job::new(16, &level(16, 1_000_000), [1, 15, 1], &[]);
-    expect(&job, 137, 17_000_000, &order, [16, 137, 0, 121, 121]);
+    expect_stopped(&job.within(16), 137, 17_000_000, 17_000_000, &order, [16, 137, 0, 121, 121]);
 }
 
-/// Under selection 0 a closer bound may branch more, which is why demand 3
-/// lets the bounds differ under FIFO and LIFO only.
+/// Under selection 0 a closer bound may have more active nodes, which is why
+/// demand 3 lets the bounds differ under FIFO and LIFO only. Over the second
+/// table it counts no more.
 #[test]
-fn closer_bound_may_branch_more_under_least_bound() {
+fn closer_bound_may_count_more_under_least_bound() {
+    let table = [0, 2, 2, 2, 0, 1, 0, 1, 0, 0, 0, 0, 0, 2, 2, 1, 1, 0, 0, 0, 0, 2, 1, 2, 0];
+    let on = |bound| Job::new(4, &table, [0, 10, bound], &[]);
+    expect(&on(0), 17, 2, &[2, 1, 3, 4], [21, 41, 8, 12, 17]);
+    expect(&on(1), 18, 2, &[2, 1, 3, 4], [15, 33, 1, 17, 18]);
     let table = [0, 1, 1, 0, 1, 0, 1, 0, 0, 0, 0, 0, 0, 0, 0, 0];
-    let plain = Job::new(3, &table, [0, 0, 0], &[]).run(16).0;
-    let close = Job::new(3, &table, [0, 0, 1], &[]).run(16).0;
-    assert_eq!(plain.counts(), [4, 8, 0, 4, 4]);
-    assert_eq!(close.counts(), [5, 11, 0, 6, 6]);
-    assert_eq!((plain.cost, close.cost), (1, 1));
+    let on = |bound| Job::new(3, &table, [0, 0, bound], &[]);
+    expect(&on(0), 6, 1, &[1, 3, 2], [9, 15, 0, 6, 6]);
+    expect(&on(1), 6, 1, &[1, 3, 2], [8, 14, 0, 6, 6]);
 }

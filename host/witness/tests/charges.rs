@@ -2,7 +2,7 @@
 
 mod common;
 
-use common::by_hand::expect;
+use common::by_hand::{expect, expect_stopped};
 use common::course::course;
 use common::{choices, Job};
 use samples::{charged, level, T};
@@ -85,19 +85,22 @@ fn one_stop() {
         assert_eq!(job.run(2).1[..6], [1, 1, 3 + 11, 26, 0, 0]);
         assert_eq!(job.within(0).run(1).0.floor, bound as u32 * 26);
         let started = Job::new(1, &table, [selection, rules, bound], &[1]);
-        expect(&started, 2, 26, &[1], [1 - bound, 2 - bound, 0, 1, 1]);
+        expect(&started, 2, 26, &[1], [1, 2, 0, 1, 1]);
     }
     assert_eq!(course(1, &table), [(26, vec![1])]);
 }
 
 /// Two stops, all legs free, home's landing 1. Plain learns of it with order
-/// 12, so node 2 is still cheaper and is branched; close has it in all bounds.
+/// 12, so node 2 is still cheaper and is branched; close has it in all bounds,
+/// and node 2 goes before order 12, which ties with it.
 #[test]
 fn home_charges_alone() {
     let table = charged(&[0; 9], &[1, 0, 0]);
-    expect(&Job::new(2, &table, [0, 0, 0], &[]), 5, 1, &[1, 2], [3, 5, 0, 2, 2]);
-    expect(&Job::new(2, &table, [0, 0, 1], &[]), 5, 1, &[1, 2], [2, 4, 0, 2, 2]);
-    expect(&Job::new(2, &[0; 9], [0, 0, 0], &[]), 5, 0, &[1, 2], [2, 4, 0, 2, 2]);
+    for bound in [0, 1] {
+        expect(&Job::new(2, &table, [0, 0, bound], &[]), 5, 1, &[1, 2], [3, 5, 0, 2, 2]);
+        let floor = |budget| Job::new(2, &table, [0, 0, bound], &[]).within(budget).run(2).0.floor;
+        assert_eq!([0, 1, 2].map(floor), [bound as u32; 3]);
+    }
 }
 
 /// Cases a to e and k of document 01 with landings of 1 at home and 10, 20 and
@@ -110,20 +113,22 @@ fn table_t_with_charges() {
     expect(&on_t([2, 0, 0], &[]), 16, 74, &[1, 2, 3], [10, 16, 0, 6, 6]);
     expect(&on_t([3, 1, 0], &[]), 16, 74, &[1, 2, 3], [10, 16, 5, 1, 4]);
     expect(&on_t([3, 1, 1], &[]), 16, 74, &[1, 2, 3], [9, 15, 5, 1, 4]);
-    expect(&on_t([3, 1, 1], &[1, 2, 3]), 1, 74, &[1, 2, 3], [2, 6, 3, 1, 1]);
+    expect(&on_t([3, 1, 1], &[1, 2, 3]), 1, 74, &[1, 2, 3], [3, 7, 3, 1, 1]);
     let legs = Legs::new(3, &table);
     let e = Node::empty(&legs, Bound::Close);
     let bounds: Vec<u32> = e.children(&legs, Bound::Close, &Pairs::none()).iter().map(|y| y.bound).collect();
     assert_eq!((e.bound, bounds), (71, vec![71, 79, 80]));
 }
 
-/// Every leg and every landing the dearest.
+/// Every leg and every landing the dearest, and a budget that ends the run with
+/// the first of the orders, all of which tie.
 #[test]
 fn dearest_legs_and_charges() {
     let table = charged(&level(16, 1_000_000), &[100_000; 17]);
     let order: Vec<u32> = (1..=16).rev().collect();
     let job = Job::new(16, &table, [1, 15, 1], &[]);
-    expect(&job, 137, 17 * 1_100_000, &order, [16, 137, 0, 121, 121]);
+    let all = 17 * 1_100_000;
+    expect_stopped(&job.within(16), 137, all, all, &order, [16, 137, 0, 121, 121]);
     assert_eq!(course(16, &table), [(18_700_000, (1..=16).collect())]);
 }
 

@@ -34,21 +34,23 @@ fn legs_of(n: usize, table: &[u32], order: &[usize]) -> u32 {
     places.windows(2).map(|pair| table[pair[0] * (n + 1) + pair[1]]).sum()
 }
 
-/// The least over all orders of their legs, and on top each landing once.
-fn least_cost(n: usize, table: &[u32]) -> u32 {
-    let legs = all_orders(n).iter().map(|order| legs_of(n, table, order)).min().unwrap();
-    legs + charges(n, table).iter().sum::<u32>()
+/// The least over all orders of their legs, and on top each landing once; and
+/// the smallest order that has it.
+fn best(n: usize, table: &[u32]) -> (u32, Vec<u32>) {
+    let (legs, order) = all_orders(n).into_iter().map(|order| (legs_of(n, table, &order), order)).min().unwrap();
+    let landings: u32 = charges(n, table).iter().sum();
+    (legs + landings, order.iter().map(|&stop| stop as u32).collect())
 }
 
 /// So many tables under so many choices, with and without a starting order.
 fn enumerate(random: &mut Random, n: usize, tables: usize, some: usize) {
     for _ in 0..tables {
         let table = some_table(random, n);
-        let least = least_cost(n, &table);
+        let (least, smallest) = best(n, &table);
         for _ in 0..some {
             let job = over(table.clone(), &some_job(random, n));
             let (report, pool) = job.run(ample(n));
-            check_finished(&job, &report, &pool, least);
+            check_finished(&job, &report, &pool, least, &smallest);
         }
     }
 }

@@ -1,7 +1,8 @@
-//! Demand 3 with request A.3's budgets: job A, given no less than job B,
-//! finishes in every pool that B finishes in and counts no more. Both end home
-//! or both end away (request A.5), the one as often as the other, and both have
-//! the same pairs (request A.6) or, half of the time, none.
+//! Demand 3 with request A.3's budgets and request A.8's order: job A, given no
+//! less than job B, finishes in every pool that B finishes in and counts no
+//! more, and both report the smallest of the cheapest orders. Both end home or
+//! both end away (request A.5), the one as often as the other, and both have the
+//! same pairs (request A.6) or, half of the time, none.
 
 mod common;
 
@@ -9,7 +10,7 @@ use common::{away_choices, choices, for_each_table, table_of_kind, Job};
 use samples::Random;
 use witness::{Report, LARGEST_BUDGET, STOPPED};
 
-/// Two orders, the cheaper one first.
+/// Two orders, the cheaper one first; of two that cost the same, either may be.
 fn two_orders(random: &mut Random, job: &Job) -> (Vec<u32>, Vec<u32>) {
     let [x, y] = [0, 1].map(|_| random.order_with(job.n, &job.pairs));
     if job.cost(&x) <= job.cost(&y) {
@@ -51,29 +52,33 @@ fn pair(random: &mut Random, n: usize, table: &[u32]) -> (Job, Job) {
     (a, b)
 }
 
+/// The run finished, with the smallest of the cheapest orders.
+fn check_best(job: &Job, report: &Report, (least, smallest): &(u32, Vec<u32>)) {
+    assert_eq!((report.number, report.mark, report.cost), (0, 0, *least), "{job:?}");
+    assert_eq!(&report.order[..job.n], smallest, "{job:?}");
+}
+
 /// What B reports where it finishes: in so many records and with as large a
 /// budget as it branches, and with no less of either.
-fn report_of_b(b: &Job, records: usize, least: u32) -> Report {
+fn report_of_b(b: &Job, records: usize, best: &(u32, Vec<u32>)) -> Report {
     let (of_b, _) = b.run(records);
-    assert_eq!((of_b.number, of_b.mark, of_b.cost), (0, 0, least), "{b:?}");
+    check_best(b, &of_b, best);
     if records > 1 {
         assert_eq!(b.run(records - 1).0.number, 7, "{b:?}");
     }
     assert_eq!(b.within(of_b.branched).run(records).0, of_b, "{b:?}");
-    if of_b.branched > 0 {
-        assert_eq!(b.within(of_b.branched - 1).run(records).0.mark, STOPPED, "{b:?}");
-    }
+    assert_eq!(b.within(of_b.branched - 1).run(records).0.mark, STOPPED, "{b:?}");
     of_b
 }
 
 /// B's budget may be any from its branchings on, and A's any from B's on.
-fn check_pair(a: &Job, b: &Job, least: u32) {
+fn check_pair(a: &Job, b: &Job, best: &(u32, Vec<u32>)) {
     let enough = b.keeps().into_iter().max().unwrap();
-    let of_b = report_of_b(b, enough, least);
+    let of_b = report_of_b(b, enough, best);
     for records in [enough, enough + 1, enough + 5, 2 * enough] {
         for budget in [of_b.branched, LARGEST_BUDGET] {
             let (of_a, _) = a.within(budget).run(records);
-            assert_eq!((of_a.number, of_a.mark, of_a.cost), (0, 0, least), "{a:?} {b:?}");
+            check_best(a, &of_a, best);
             assert!(of_a.branched <= of_b.branched, "{a:?} {b:?}");
             assert!(of_a.generated <= of_b.generated, "{a:?} {b:?}");
             assert!(of_a.most <= of_b.most, "{a:?} {b:?}");
@@ -82,7 +87,8 @@ fn check_pair(a: &Job, b: &Job, least: u32) {
 }
 
 /// Two jobs that share the table, where the day ends, the pairs, and nothing
-/// else: where both finish, their costs are equal. How often they did.
+/// else: where both finish, their costs and orders are equal. How often they
+/// did.
 fn finish_both(random: &mut Random, n: usize, table: &[u32]) -> u32 {
     let choices = if random.below(2) == 0 { choices() } else { away_choices() };
     let pairs = maybe_pairs(random, n);
@@ -92,7 +98,7 @@ fn finish_both(random: &mut Random, n: usize, table: &[u32]) -> u32 {
         let start = if random.below(2) == 0 { Vec::new() } else { random.order_with(n, &pairs) };
         let job = Job::new(n, table, choice, &start).paired(&pairs).within(random.below(40));
         let (report, _) = job.run(1 + random.below(40) as usize);
-        finished.extend((report.number == 0 && report.mark == 0).then_some(report.cost));
+        finished.extend((report.number == 0 && report.mark == 0).then_some((report.cost, report.order)));
     }
     match finished[..] {
         [one, other] => {
@@ -107,7 +113,7 @@ fn check_pairs(seed: u64, n: usize, tables: usize, pairs: usize) {
     for_each_table(&mut Random(seed), n, tables, |random, table| {
         for _ in 0..pairs {
             let (a, b) = pair(random, n, table);
-            check_pair(&a, &b, a.least_cost());
+            check_pair(&a, &b, &a.best());
         }
     });
 }
@@ -135,7 +141,7 @@ fn pairs_of_six_stops() {
 }
 
 #[test]
-fn costs_of_runs_that_finish() {
+fn costs_and_orders_of_runs_that_finish() {
     let mut both = 0;
     for n in 1..=4 {
         for_each_table(&mut Random(28), n, 100, |random, table| both += finish_both(random, n, table));

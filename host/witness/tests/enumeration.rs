@@ -17,22 +17,18 @@ fn starts(random: &mut Random, job: &Job) -> Vec<Vec<u32>> {
 
 fn all_choices(random: &mut Random, n: usize, table: &[u32]) {
     let blank = Job::new(n, table, [0, 0, 0], &[]);
-    let least = blank.least_cost();
+    let best = blank.best();
     for start in starts(random, &blank) {
         for choice in choices() {
-            run_one(n, table, choice, &start, least);
+            run_one(&Job::new(n, table, choice, &start), &best);
         }
     }
 }
 
-fn run_one(n: usize, table: &[u32], choice: [u64; 3], start: &[u32], least: u32) {
-    let job = Job::new(n, table, choice, start);
-    let (report, pool) = job.run(ample(n));
-    check_finished(&job, &report, &pool, least);
-    let no_cheaper = !start.is_empty() && job.cost(start) == least;
-    if no_cheaper {
-        assert_eq!(&report.order[..n], start, "an equal order doesn't replace: {job:?}");
-    }
+/// The least cost is found, and of the orders that have it the smallest.
+fn run_one(job: &Job, (least, smallest): &(u32, Vec<u32>)) {
+    let (report, pool) = job.run(ample(job.n));
+    check_finished(job, &report, &pool, *least, smallest);
 }
 
 #[test]
@@ -61,13 +57,13 @@ fn six_stops() {
 #[test]
 fn seven_stops() {
     let mut random = Random(4);
-    for kind in [0, 2, 5] {
+    for kind in [0, 4, 5] {
         let table = table_of_kind(&mut random, 7, kind);
         let blank = Job::new(7, &table, [0, 0, 0], &[]);
-        let least = blank.least_cost();
+        let best = blank.best();
         let starts = starts(&mut random, &blank);
         for choice in choices() {
-            run_one(7, &table, choice, &random.pick(&starts), least);
+            run_one(&Job::new(7, &table, choice, &random.pick(&starts)), &best);
         }
     }
 }

@@ -99,16 +99,17 @@ fn charge_of_one_too_many() {
 }
 
 /// Job a with the bounds of a day that ends away (request A.5): the last byte is 2 or 3, and order 123 costs 4 + 2 + 1.
-/// Under plain, node 2 has path cost 7 as well and stays.
+/// Under plain, node 2 has path cost 7 as well and is branched before 123 ends the run; both its children go.
 #[test]
 fn days_that_end_away() {
-    for (bound, counts) in [(2, "eliminated 2\nactive 2"), (3, "eliminated 3\nactive 1")] {
+    let counted = [(2, "branched 4\ngenerated 9\neliminated 4"), (3, "branched 3\ngenerated 7\neliminated 3")];
+    for (bound, counts) in counted {
         let job = Contents { bound, ..a() };
         let bytes = file(&job);
         assert_eq!(bytes[..76], file(&a())[..76]);
         assert_eq!((bytes[76], bytes.len()), (bound as u8, 77));
         assert_eq!(read(&bytes), Ok(job));
-        let lines = format!("cost 7\norder 1 2 3\nbranched 3\ngenerated 7\n{counts}\nmost 4\n");
+        let lines = format!("cost 7\norder 1 2 3\n{counts}\nactive 1\nmost 4\n");
         assert_eq!(output(&bytes), lines);
         let started = Contents { bound, start: vec![3, 1, 2], ..a() };
         assert_eq!(read(&file(&started)), Ok(started));

@@ -53,7 +53,7 @@ fn number_11() {
 fn number_11_of_sixteen_stops() {
     let number = |pairs: &[u8]| {
         spoiled(|c| {
-            (c.n, c.table) = (16, vec![0; 17 * 17]);
+            (c.n, c.table, c.budget) = (16, vec![0; 17 * 17], 0);
             (c.start, c.pairs) = ((1..=16).rev().collect(), pairs.to_vec());
         })
     };

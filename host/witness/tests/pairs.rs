@@ -2,7 +2,7 @@
 
 mod common;
 
-use common::by_hand::{expect, on_t};
+use common::by_hand::{expect, expect_stopped, on_t};
 use common::course::course_with;
 use common::paired::all_choices;
 use common::Job;
@@ -68,12 +68,12 @@ fn cases_with_2_before_1() {
 }
 
 /// Case e with 3 before 2, from 132 (17): 3 (19) goes at once, 12 is never
-/// made, and 13, alone and at 17, is the end.
+/// made, and e, 1 and 13 lead to 132 again.
 #[test]
 fn case_e_with_3_before_2() {
     let job = on_t([3, 1, 1], &[1, 3, 2]).paired(&[3, 2]);
-    expect(&job, 1, 17, &[1, 3, 2], [2, 4, 1, 1, 1]);
-    assert_eq!(job.run(1).1, [2, 5, 10, 17, 0x20, 0]);
+    expect(&job, 1, 17, &[1, 3, 2], [3, 5, 1, 1, 1]);
+    assert_eq!(job.run(1).1, [3, 7, 14, 17, 0x120, 0]);
     // Without the pair 2 goes as well, 12 and 13 are made and branched, and 123 is found, for which 132 goes.
     expect(&on_t([3, 1, 1], &[1, 3, 2]), 2, 13, &[1, 2, 3], [4, 8, 3, 1, 2]);
 }
@@ -106,8 +106,9 @@ fn budgets_in_t() {
     assert_eq!([0, 1, 2, 3].map(|budget| shown(&[], budget)), none);
     let started = [(0, STOPPED, 26, 10), (0, STOPPED, 26, 18), (0, STOPPED, 26, 18), (0, 0, 18, 0)];
     assert_eq!([0, 1, 2, 3].map(|budget| shown(&[3, 2, 1], budget)), started);
-    // From 231, which costs 18, there is nothing left to branch after e.
-    assert_eq!([0, 1].map(|budget| shown(&[2, 3, 1], budget)), [(0, STOPPED, 18, 10), (0, 0, 18, 0)]);
+    // From 231, which costs 18, the floor is its cost after e, and 2 and 23 are left to branch.
+    let best = [(0, STOPPED, 18, 10), (0, STOPPED, 18, 18), (0, STOPPED, 18, 18), (0, 0, 18, 0)];
+    assert_eq!([0, 1, 2, 3].map(|budget| shown(&[2, 3, 1], budget)), best);
 }
 
 /// All legs 1, FIFO, rule 2, plain, 1 before 2: of the orders 123, 132 and 312
@@ -120,19 +121,21 @@ fn dominance_with_1_before_2() {
 }
 
 /// Eight pairs of sixteen stops, every leg the dearest: one dive, on which each
-/// pair is fetched and set down at once, with 8, 8, 7, 7 and so on children.
+/// pair is fetched and set down at once, with 8, 8, 7, 7 and so on children. All
+/// orders tie, so a budget ends the run.
 #[test]
 fn eight_pairs() {
     let pairs: Vec<u8> = (1..=16).collect();
     let order = [15, 16, 13, 14, 11, 12, 9, 10, 7, 8, 5, 6, 3, 4, 1, 2];
     for (bound, legs) in [(1, 17), (3, 16)] {
         let job = Job::new(16, &level(16, 1_000_000), [1, 15, bound], &[]).paired(&pairs);
-        expect(&job, 73, legs * 1_000_000, &order, [16, 73, 0, 57, 57]);
+        let all = legs * 1_000_000;
+        expect_stopped(&job.within(16), 73, all, all, &order, [16, 73, 0, 57, 57]);
     }
     let backwards: Vec<u8> = (1..=16).rev().collect();
     let job = Job::new(16, &level(16, 1), [1, 15, 1], &[]).paired(&backwards);
     let order = [16, 15, 14, 13, 12, 11, 10, 9, 8, 7, 6, 5, 4, 3, 2, 1];
-    expect(&job, 73, 17, &order, [16, 73, 0, 57, 57]);
+    expect_stopped(&job.within(16), 73, 17, 17, &order, [16, 73, 0, 57, 57]);
 }
 
 /// Stops 1 and 2 in a pair: the one order there is, found by every choice.

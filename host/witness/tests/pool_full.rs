@@ -80,20 +80,30 @@ fn sizes_with_pairs() {
     for_each_paired_job(113, 4, 1, check_sizes);
 }
 
-/// Both ends occur, and a run that is finished isn't refused.
+/// e's sixteen children need their records even where a starting order costs no
+/// more than e's bound.
+#[test]
+fn known_orders_save_no_record() {
+    let identity: Vec<u32> = (1..=16).collect();
+    for start in [&[], &identity[..]] {
+        let job = Job::new(16, &[0; 17 * 17], [0, 0, 0], start);
+        assert_eq!(job.run(15).0.number, 7);
+        assert_eq!(job.run(15).1, [0; 15 * WORDS]);
+        assert_eq!(job.run(15).0.counts(), [0, 1, 0, 1, 1]);
+        assert_eq!(job.run(16).0.counts(), [1, 17, 0, 16, 16]);
+    }
+}
+
+/// A run that is finished isn't refused: one stop, in the one record that e and
+/// order 1 take in turn.
 #[test]
 fn finish_comes_before_the_step() {
-    let identity: Vec<u32> = (1..=16).collect();
-    let job = Job::new(16, &[0; 17 * 17], [0, 0, 0], &identity);
-    let (report, pool) = job.run(1);
-    assert_eq!((report.number, report.mark, report.cost), (0, 0, 0));
-    assert_eq!(report.order[..], identity);
-    assert_eq!(report.counts(), [0, 1, 0, 1, 1]);
-    assert_eq!(pool, [0; 6]);
-    let job = Job::new(16, &[0; 17 * 17], [0, 0, 0], &[]);
-    assert_eq!(job.run(15).0.number, 7);
-    assert_eq!(job.run(15).0.counts(), [0, 1, 0, 1, 1]);
-    assert_eq!(job.run(16).0.counts(), [1, 17, 0, 16, 16]);
+    for start in [&[][..], &[1]] {
+        let (report, pool) = Job::new(1, &[0, 3, 5, 0], [0, 0, 0], start).run(1);
+        assert_eq!((report.number, report.mark, report.cost), (0, 0, 8));
+        assert_eq!(report.counts(), [1, 2, 0, 1, 1]);
+        assert_eq!(pool, [1, 1, 3, 8, 0, 0]);
+    }
 }
 
 /// What the pool held before plays no part.

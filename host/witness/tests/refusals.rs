@@ -22,7 +22,7 @@ fn number_1() {
         let table = vec![0; (n + 1) * (n + 1)];
         let start: Vec<u32> = (1..=n as u32).collect();
         let passed = spoiled(|c| {
-            (c.n, c.selection) = (n as u64, 0);
+            (c.n, c.budget) = (n as u64, 0);
             (c.table, c.start) = (table.clone(), start.clone());
         });
         assert_eq!(passed, 0);

@@ -18,25 +18,19 @@ fn dominates(job: &Job, y: &Order, z: &Order) -> bool {
     let (mut a, mut b) = (y.clone(), z.clone());
     a.sort();
     b.sort();
-    y != z && a == b && y.last() == z.last() && job.path(y) <= job.path(z)
+    a == b && y.last() == z.last() && (job.path(y), y) < (job.path(z), z)
 }
 
 /// The place of b among the active nodes.
 fn selected(job: &Job, active: &[Order]) -> usize {
     let places = 0..active.len();
-    let bound = |&i: &usize| job.bound_of(&active[i]);
+    let rank = |&i: &usize| (job.bound_of(&active[i]), active[i].len() == job.n);
     match job.selection {
-        0 => places.min_by_key(|i| (bound(i), *i)).unwrap(),
-        1 => places.min_by_key(|i| (bound(i), active.len() - i)).unwrap(),
+        0 => places.min_by_key(|i| (rank(i), *i)).unwrap(),
+        1 => places.min_by_key(|i| (rank(i), active.len() - i)).unwrap(),
         2 => 0,
         _ => places.max_by_key(|&i| (active[i].len() < job.n, i)).unwrap(),
     }
-}
-
-fn finished(job: &Job, active: &[Order], b: usize, upper: u32) -> bool {
-    let at_least = job.bound_of(&active[b]) >= upper;
-    let alone = job.selection < 2 || active.len() == 1;
-    at_least && alone || active[b].len() == job.n
 }
 
 struct After {
@@ -63,8 +57,8 @@ fn after(job: &Job, before: &State, b: usize) -> After {
     assert!(!children.is_empty(), "{job:?}");
     let (mut upper, mut best) = upper_of(before);
     let complete = children.iter().filter(|c| c.len() == job.n);
-    if let Some(c) = complete.min_by_key(|c| job.cost(c)) {
-        if job.cost(c) < upper {
+    if let Some(c) = complete.min_by_key(|c| (job.cost(c), *c)) {
+        if (job.cost(c), c) < (upper, &best) {
             (upper, best) = (job.cost(c), c.clone());
         }
     }
@@ -84,7 +78,7 @@ fn after(job: &Job, before: &State, b: usize) -> After {
 fn check_step(job: &Job, before: &State, next: &State) {
     let active = bare(&before.active);
     let b = selected(job, &active);
-    assert!(!finished(job, &active, b, upper_of(before).0), "{job:?}");
+    assert!(active[b].len() < job.n, "{job:?}");
     let told = after(job, before, b);
     assert_eq!(bare(&next.active), told.active, "{job:?}");
     assert_eq!(bare(&next.branched), told.branched, "{job:?}");
@@ -110,7 +104,7 @@ fn check_run(job: &Job) {
     let last = states.last().unwrap();
     let active = bare(&last.active);
     let b = selected(job, &active);
-    assert!(finished(job, &active, b, upper_of(last).0), "{job:?}");
+    assert_eq!(active[b].len(), job.n, "{job:?}");
     check_report(job, last);
 }
 

@@ -1,4 +1,4 @@
-//! The worked calls of host/vectors, for document 01 with requests A.1 to A.6.
+//! The worked calls of host/vectors, for document 01 with requests A.1 to A.8.
 
 use vectors::{fnv1a, Run};
 use witness::program::output;

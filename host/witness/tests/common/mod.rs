@@ -115,9 +115,14 @@ impl Job {
         self.path(order) + self.leg(*order.last().unwrap(), 0) + self.charges(&[0])
     }
 
-    /// The least cost over all orders that respect the pairs.
+    /// The least cost over all orders that respect the pairs, and the smallest
+    /// order that has it.
+    pub fn best(&self) -> (u32, Vec<u32>) {
+        self.orders().into_iter().map(|order| (self.cost(&order), order)).min().unwrap()
+    }
+
     pub fn least_cost(&self) -> u32 {
-        self.orders().iter().map(|order| self.cost(order)).min().unwrap()
+        self.best().0
     }
 
     pub fn bound_of(&self, order: &[u32]) -> u32 {
@@ -274,10 +279,11 @@ pub fn check_order(job: &Job, report: &Report) {
     assert!(rest.iter().all(|&s| s == 0), "{job:?}");
 }
 
-/// What every report of a finished run must satisfy.
-pub fn check_finished(job: &Job, report: &Report, pool: &[u32], least: u32) {
+/// What every report of a finished run must satisfy, with the least cost and the
+/// smallest order that has it.
+pub fn check_finished(job: &Job, report: &Report, pool: &[u32], least: u32, smallest: &[u32]) {
     assert_eq!((report.number, report.mark, report.floor), (0, 0, 0), "{job:?}");
-    assert_eq!(report.cost, least, "{job:?}");
+    assert_eq!((report.cost, &report.order[..job.n]), (least, smallest), "{job:?}");
     check_order(job, report);
     let parts = report.branched + report.eliminated + report.active;
     assert_eq!(report.generated, parts, "{job:?}");
