@@ -1,6 +1,6 @@
 //! The lazy peer against the simple one: every field of the report and every word of the pool, over random small jobs.
 //! The lazy one runs with its own numbers and with tiny ones, so that chains are long, blocks grow often and the pool
-//! is squeezed seldom, often or at every step.
+//! is squeezed seldom, often or at every step. Most tables have many ties.
 
 use std::time::{Duration, Instant};
 
@@ -98,6 +98,6 @@ fn six_and_seven_stops() {
 
 #[test]
 fn eight_and_nine_stops() {
-    let seen = random_tasks(3, 100, 8..=9, 10_000);
-    assert!(seen.finished > 300 && seen.stopped > 100 && seen.full > 300, "{seen:?}");
+    let seen = random_tasks(3, 200, 8..=9, 10_000);
+    assert!(seen.finished > 200 && seen.stopped > 100 && seen.full > 300, "{seen:?}");
 }

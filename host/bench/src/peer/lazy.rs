@@ -6,7 +6,7 @@
 mod blocks;
 mod chains;
 
-use super::node::{at, Job, Record, Stops, BOUND, NONE, PATH, SET, SIZE};
+use super::node::{at, beats, Job, Record, Stops, BOUND, NONE, SET, SIZE};
 use super::run::{root, run, Ended, Inside, Step, Until};
 use blocks::Blocks;
 use chains::{Chains, Walks};
@@ -42,8 +42,8 @@ impl<const HEADS: usize, const BLOCKS: usize, const SLACK: i64, const ABREAST: b
     fn select(&self, job: &Job) -> usize {
         let places = &self.pool[..self.used];
         match job.selection {
-            0 => self.blocks.first_least(places),
-            1 => self.blocks.last_least(places),
+            0 => self.blocks.first_least(places, job.all()),
+            1 => self.blocks.last_least(places, job.all()),
             2 => self.blocks.first(places),
             _ => latest_open(places, job.all()),
         }
@@ -79,7 +79,7 @@ impl<const HEADS: usize, const BLOCKS: usize, const SLACK: i64, const ABREAST: b
                 if y[SET] != x[SET] || !step.kin.rivals(y, x) || y[BOUND] == NONE {
                     return false;
                 }
-                let beaten = y[PATH] <= x[PATH];
+                let beaten = beats(y, x);
                 left &= !((beaten as u32) << k);
                 met |= ((lane == ACTIVE) as u32) << k;
                 beaten
@@ -168,7 +168,7 @@ impl<const HEADS: usize, const BLOCKS: usize, const SLACK: i64, const ABREAST: b
         let mut link = head;
         while link != 0 {
             let y = at(self.pool, link as usize - 1);
-            if y[SET] == x[SET] && step.kin.rivals(y, x) && y[BOUND] != NONE && y[PATH] <= x[PATH] {
+            if step.kin.dominates(y, x) && y[BOUND] != NONE {
                 return true;
             }
             link = y[SIZE];

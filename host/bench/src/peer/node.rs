@@ -83,6 +83,14 @@ pub fn order(x: &Record) -> u64 {
     x[4] as u64 | (x[5] as u64) << 32
 }
 
+/// Whether the first of two orders of one length is the smaller: at the first stop in which they differ, the lowest of
+/// the digits that do.
+#[inline(always)]
+pub fn smaller(y: u64, z: u64) -> bool {
+    let at = (y ^ z).trailing_zeros() & 60;
+    (y >> at) % 16 < (z >> at) % 16
+}
+
 /// The last stop of a node of this size, or home.
 #[inline(always)]
 pub fn last(x: &Record, size: u32) -> usize {
@@ -90,6 +98,12 @@ pub fn last(x: &Record, size: u32) -> usize {
         0 => 0,
         k => (order(x) >> (4 * (k - 1))) as usize % 16 + 1,
     }
+}
+
+/// Whether y dominates z, of two rivals: it is cheaper, or as cheap and smaller.
+#[inline(always)]
+pub fn beats(y: &Record, z: &Record) -> bool {
+    y[PATH] < z[PATH] || y[PATH] == z[PATH] && smaller(order(y), order(z))
 }
 
 /// What is common to b's children: their size, and that their sets hold b's. Size and set are tested as one number.
@@ -121,7 +135,7 @@ impl Kin {
     /// Whether y dominates z.
     #[inline(always)]
     pub fn dominates(self, y: &Record, z: &Record) -> bool {
-        self.rivals(y, z) && y[PATH] <= z[PATH]
+        self.rivals(y, z) && beats(y, z)
     }
 
     /// Whether one of the records with a bound up to `limit` dominates the child x.

@@ -6,7 +6,7 @@ use std::time::Instant;
 use gondamuy::raw::{Report, STOPPED};
 use gondamuy::{MOST_STOPS, ORDER_PLACES, RECORD_WORDS};
 
-use super::node::{ahead, at, family, first, order, passing, Job, Kids, Kin, Record, ANY, BOUND, NONE, SIZE};
+use super::node::{ahead, at, family, first, order, passing, smaller, Job, Kids, Kin, Record, ANY, BOUND, NONE, SIZE};
 
 /// How the pool is kept while a run works. Its places are the inside's own; what stands there is a node.
 pub trait Inside {
@@ -74,32 +74,37 @@ impl Step {
     }
 }
 
-/// The cheapest order known and its cost.
+/// The cheapest order known, four bits a stop, and its cost.
 struct Best {
     cost: u32,
-    order: [u8; ORDER_PLACES],
+    order: u64,
 }
 
 impl Best {
     fn of(job: &Job, start: &[u8]) -> Best {
-        let mut best = Best { cost: NONE, order: [0; ORDER_PLACES] };
-        if !start.is_empty() {
-            best.cost = job.cost(start);
-            best.order[..start.len()].copy_from_slice(start);
+        if start.is_empty() {
+            return Best { cost: NONE, order: 0 };
         }
-        best
+        let order = start.iter().rev().fold(0, |order, &s| order << 4 | (s as u64 - 1));
+        Best { cost: job.cost(start), order }
     }
 
-    /// Takes a complete node if it is cheaper, and says whether it was.
-    fn learn(&mut self, n: u32, x: &Record) -> bool {
-        if x[BOUND] >= self.cost {
-            return false;
+    /// Takes a complete node if it is cheaper, or as cheap and smaller, and says whether it was cheaper.
+    fn learn(&mut self, x: &Record) -> bool {
+        let cheaper = x[BOUND] < self.cost;
+        if cheaper || x[BOUND] == self.cost && smaller(order(x), self.order) {
+            (self.cost, self.order) = (x[BOUND], order(x));
         }
-        self.cost = x[BOUND];
-        for (k, stop) in self.order[..n as usize].iter_mut().enumerate() {
-            *stop = (order(x) >> (4 * k)) as u8 % 16 + 1;
+        cheaper
+    }
+
+    /// The order's n stops, zeros behind.
+    fn stops(&self, n: u32) -> [u8; ORDER_PLACES] {
+        let mut stops = [0; ORDER_PLACES];
+        for (k, stop) in stops[..n as usize].iter_mut().enumerate() {
+            *stop = (self.order >> (4 * k)) as u8 % 16 + 1;
         }
-        true
+        stops
     }
 }
 
@@ -125,8 +130,7 @@ pub fn run(job: &Job, start: &[u8], until: &Until, inside: &mut impl Inside) -> 
     loop {
         step.i = inside.select(job);
         step.b = inside.node(step.i);
-        let alone = job.selection < 2 || inside.active() == 1;
-        if step.b[SIZE] == job.n || step.b[BOUND] >= best.cost && alone {
+        if step.b[SIZE] == job.n {
             break;
         }
         if report.branched == until.budget {
@@ -155,7 +159,7 @@ pub fn run(job: &Job, start: &[u8], until: &Until, inside: &mut impl Inside) -> 
 fn expand(job: &Job, best: &mut Best, step: &mut Step, inside: &mut impl Inside) {
     step.kin = Kin::of(&step.b);
     step.alive = family(job, &step.b, &mut step.kids);
-    step.cut = step.b[SIZE] + 1 == job.n && best.learn(job.n, at(&step.kids, first(step.alive) - 1)) && job.rule(1);
+    step.cut = step.b[SIZE] + 1 == job.n && best.learn(at(&step.kids, first(step.alive) - 1)) && job.rule(1);
     step.limit = if job.rule(1) { best.cost.min(ANY) } else { ANY };
     step.alive = passing(&step.kids, step.alive, |x| x[BOUND] <= step.limit);
     if job.rule(2 | 4) {
@@ -181,7 +185,7 @@ fn finish(job: &Job, best: &Best, report: &mut Report, inside: &mut impl Inside)
         report.floor = pool[..active].iter().map(|x| x[BOUND]).fold(NONE, u32::min);
     }
     if report.number == 0 && best.cost != NONE {
-        (report.cost, report.order) = (best.cost, best.order);
+        (report.cost, report.order) = (best.cost, best.stops(job.n));
     }
     report.active = active as u64;
     report.eliminated = report.generated - report.branched - report.active;

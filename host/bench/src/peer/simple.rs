@@ -11,14 +11,20 @@ use super::run::{root, run, Ended, Inside, Step, Until};
 /// How many of the children's rivals are gathered at a time.
 const RIVALS: usize = 64;
 
-/// Goes from one better bound to the next, of which there are few.
+/// By the bound, and among equals first the nodes that are not complete.
 #[inline(always)]
-fn least(active: &[Record], better: impl Fn(u32, u32) -> bool) -> usize {
+fn rank(x: &Record, n: u32) -> u32 {
+    2 * x[BOUND] + (x[SIZE] == n) as u32
+}
+
+/// Goes from one better rank to the next, of which there are few.
+#[inline(always)]
+fn least(active: &[Record], n: u32, better: impl Fn(u32, u32) -> bool) -> usize {
     let (mut best, mut i) = (0, 0);
     while i < active.len() {
         best = i;
-        let bound = at(active, best)[BOUND];
-        i = find(active, i + 1, |x| better(x[BOUND], bound));
+        let least = rank(at(active, best), n);
+        i = find(active, i + 1, |x| better(rank(x, n), least));
     }
     best
 }
@@ -97,8 +103,8 @@ impl Inside for Simple<'_> {
     fn select(&self, job: &Job) -> usize {
         let active = &self.pool[..self.active];
         match job.selection {
-            0 => least(active, |bound, least| bound < least),
-            1 => least(active, |bound, least| bound <= least),
+            0 => least(active, job.n, |rank, least| rank < least),
+            1 => least(active, job.n, |rank, least| rank <= least),
             2 => 0,
             _ => latest_open(active, job.n),
         }

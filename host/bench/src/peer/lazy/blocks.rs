@@ -1,6 +1,6 @@
 //! The least bounds of blocks of records: a block has 2^shift places, and gone records have the largest number.
 
-use super::super::node::{at, find, Record, BOUND, NONE};
+use super::super::node::{at, find, Record, BOUND, NONE, SET};
 
 /// How many minima are looked at together.
 const RUN: usize = 32;
@@ -66,9 +66,9 @@ impl<const BLOCKS: usize> Blocks<BLOCKS> {
         &self.minima[..((used - 1) >> self.shift) + 1]
     }
 
-    /// The first record with the least bound.
+    /// The first record with the least bound that has not all stops, or else the first with it.
     #[inline(always)]
-    pub fn first_least(&self, records: &[Record]) -> usize {
+    pub fn first_least(&self, records: &[Record], all: u32) -> usize {
         let blocks = self.in_use(records.len());
         let (mut bound, mut from) = (NONE, 0);
         for (k, run) in blocks.chunks(RUN).enumerate() {
@@ -77,17 +77,28 @@ impl<const BLOCKS: usize> Blocks<BLOCKS> {
                 (bound, from) = (least, k * RUN);
             }
         }
-        let k = (from..).find(|&k| blocks[k] == bound).expect("a block has it");
-        find(records, k << self.shift, |x| x[BOUND] == bound)
+        for k in (from..blocks.len()).filter(|&k| blocks[k] == bound) {
+            let block = self.places(k, records.len());
+            let i = find(&records[..block.end], block.start, |x| (x[BOUND] == bound) & (x[SET] != all));
+            if i < block.end {
+                return i;
+            }
+        }
+        find(records, from << self.shift, |x| x[BOUND] == bound)
     }
 
-    /// The last one.
+    /// The last such record, or else the last with the least bound.
     #[inline(always)]
-    pub fn last_least(&self, records: &[Record]) -> usize {
+    pub fn last_least(&self, records: &[Record], all: u32) -> usize {
         let blocks = self.in_use(records.len());
         let bound = least(blocks);
-        let k = blocks.iter().rposition(|&least| least == bound).expect("a block has it");
-        self.places(k, records.len()).rev().find(|&i| at(records, i)[BOUND] == bound).expect("a record has it")
+        for k in (0..blocks.len()).rev().filter(|&k| blocks[k] == bound) {
+            let mut block = self.places(k, records.len()).rev();
+            if let Some(i) = block.find(|&i| at(records, i)[BOUND] == bound && at(records, i)[SET] != all) {
+                return i;
+            }
+        }
+        records.iter().rposition(|x| x[BOUND] == bound).expect("a record has it")
     }
 
     /// The first record that is not gone.
