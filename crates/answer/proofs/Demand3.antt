@@ -1,16 +1,20 @@
 -- Demand 3 of the written run, the first half: finished runs over one table and with the same pairs report one cost, that of a cheapest order of those
--- that respect them. A run that finishes is a call whose answer has number 0 and mark 0; nothing else is assumed of the calls.
---   Solved, solved    the state of a finished run knows an order, and no order is cheaper
---   padded-front      the first n places of a report hold its order
+-- that respect them, and the smallest of these (request A.8). A run that finishes is a call whose answer has number 0 and mark 0; nothing else is
+-- assumed of the calls.
+--   Solved, solved    the state of a finished run knows an order; none is cheaper, and none that costs the same is smaller
 use mathlib.Core.Path.{_≡_, refl, sym, _∙_, ap, subst}
+use mathlib.Core.Logic.{_⊎_, inl, inr}
 use mathlib.Core.Option.{Option, some}
 use Prim.Native.Nat.{ℕ, _-_, _≤_}
 use lib.Dec.{T}
 use native.Mathlib.Nat.{le-antisymm}
 use Rattle.search.specs.Problem.{State, upper}
-use Rattle.search.proofs.Plain.{tree, planOf, cutOf, strict}
+use Rattle.search.proofs.Laws.{Le}
+use Rattle.search.proofs.Plain.{tree, planOf, cutOf}
 use Rattle.search.proofs.Optimal.{ended-known, ended-least}
-use Rattle.orders.specs.Orders.{Node, size, Order}
+use Rattle.lists.specs.Lists.{In}
+use Rattle.orders.specs.Orders.{Node, smaller, size, Order}
+use Rattle.orders.proofs.Smaller.{total}
 use Rattle.orders.proofs.Order.{order-complete}
 use Rattle.orders.proofs.Orders.{orders-in, in-orders, distinct-orders, length-orders}
 use Rattle.orders.specs.Pairs.{pairsOf}
@@ -18,20 +22,20 @@ use Rattle.orders.proofs.Pairs.{allowed-leads, leads-allowed, in-ordersWith, or
 use Rattle.days.specs.Days.{Day, problem}
 use Rattle.records.specs.Records.{recordsIn}
 use Rattle.answer.specs.Call.{Call, Answer}
-use Rattle.answer.specs.Answer.{dayOf, problemOf, choicesOf, given, stopsOf, reportWith, finishedReport, ending, answer}
+use Rattle.answer.specs.Answer.{problemOf, choicesOf, given, stopsOf, reportWith, finishedReport, ending, answer}
 use Rattle.answer.specs.Ends.{Finishes, orderIn, AllowedOrder}
-use Rattle.answer.specs.Demands.{written, OneTable, EndAlike, SamePairs, OneCost, Cheapest, CheapestOfAll, OrdersAreAll, AllowedAreAll}
+use Rattle.answer.specs.Demands.{written, OneTable, EndAlike, SamePairs, OneCost, allowedOrders, Cheapest, CheapestOfAll, OrdersAreAll, AllowedAreAll}
 use Rattle.answer.proofs.Passes.{Passes, passes}
 use Rattle.answer.proofs.Instance.{one-day, call-pairing, finished-state, state-reached, finish-stops, call-lawful, bound-laws, call-manner, call-solvable, start-known}
 use Rattle.answer.proofs.Ending.{Finished, finishes-finished}
-use Rattle.answer.proofs.Known.{order-reported}
+use Rattle.answer.proofs.Known.{padded-front, order-reported}
 
--- the state of a finished run knows an order, and none is cheaper
+-- the state of a finished run knows an order, and it goes before every other
 pub record Solved (c : Call) (s : State Node) : Type 0 where
   pub x : Node
   pub best : s .best ≡ some x
   pub allowed : AllowedOrder c x
-  pub least : (y : Node) → AllowedOrder c y → dayOf c .cost x ≤ dayOf c .cost y
+  pub first : (y : Node) → AllowedOrder c y → Le (problemOf c) (some x) (some y)
 
 pub solved : (c : Call) (f : Finished c) → Solved c (f .state)
 unfolding problemOf problem
@@ -41,16 +45,15 @@ solved c f =
     let (x, known, whole, leads) =
     ended-known (tree (problemOf c)) (planOf (problemOf c) (choicesOf c)) (cutOf (choicesOf c)) (recordsIn (c .pool)) (size (c .job .n)) (c .job .n)
     (call-lawful c ok) (bound-laws c ok) (given (c .start)) (start-known c ok) (call-solvable c ok) (call-manner c ok)
-    (strict (problemOf c) (choicesOf c)) (f .state) (state-reached c ok steps) (finish-stops c ok (f .state) end) in
+    (f .state) (state-reached c ok steps) (finish-stops c ok (f .state) end) in
     record {
       x = x;
       best = known;
       allowed = leads-allowed (call-pairing c ok) (problemOf c) (λ y. refl) x whole leads;
-      least = λ y a.
-          subst (λ (b : Option Node). upper (problemOf c) b ≤ dayOf c .cost y) known
+      first = λ y a.
+          subst (λ (b : Option Node). Le (problemOf c) b (some y)) known
           (ended-least (tree (problemOf c)) (planOf (problemOf c) (choicesOf c)) (cutOf (choicesOf c)) (recordsIn (c .pool)) (size (c .job .n)) (c .job .n)
-          (call-lawful c ok) (bound-laws c ok) (given (c .start)) (start-known c ok) (call-manner c ok) (strict (problemOf c) (choicesOf c))
-          (f .state) (state-reached c ok steps) (finish-stops c ok (f .state) end) y (order-complete (c .job .n) y (a .order))
+          (call-lawful c ok) (bound-laws c ok) (given (c .start)) (start-known c ok) (call-manner c ok) (f .state) (state-reached c ok steps) (finish-stops c ok (f .state) end) y (order-complete (c .job .n) y (a .order))
           (allowed-leads (call-pairing c ok) (problemOf c) (λ z. refl) y a));
     }
 
@@ -59,7 +62,19 @@ solved-report : (c : Call) (s : State Node) → Solved c s → Cheapest c (finis
 unfolding reportWith problemOf problem
 solved-report c s v =
     subst (λ (b : Option Node). Cheapest c (reportWith 0 0 (upper (problemOf c) b) 0 (stopsOf b) s)) (sym (v .best))
-    (record { has-order = order-reported c 0 0 0 (v .x) s (v .allowed); least = λ y m. v .least y (in-ordersWith (c .job .n) (pairsOf (c .pairs)) y m) })
+    (record {
+      has-order = order-reported c 0 0 0 (v .x) s (v .allowed);
+      least = λ y m. v .first y (listed y m) .0;
+      smallest = λ y m e. subst (λ (x : Node). (x ≡ y) ⊎ T (smaller x y)) (sym (padded-front (c .job .n) (v .x) (v .allowed .order))) (not-larger y (v .first y (listed y m) .1 (sym e)) (total (v .x) y));
+    })
+  where
+    listed : (y : Node) → In y (allowedOrders c) → AllowedOrder c y
+    listed y m = in-ordersWith (c .job .n) (pairsOf (c .pairs)) y m
+
+    not-larger : (y : Node) → (T (smaller y (v .x)) → ⊥) → (v .x ≡ y) ⊎ (T (smaller (v .x) y) ⊎ T (smaller y (v .x))) → (v .x ≡ y) ⊎ T (smaller (v .x) y)
+    not-larger y h (inl e) = inl e
+    not-larger y h (inr (inl k)) = inr k
+    not-larger y h (inr (inr k)) = absurd (h k)
 
 pub answer-cheapest : (c : Call) → Finishes (answer c .report) → Cheapest c (answer c .report)
 unfolding ending

@@ -1,17 +1,16 @@
 -- Demand 3 of the written run, the second half: a job A that the letter favours over B finishes where B does, with no higher counts. A is any
 -- call that every check lets pass, B any call that finishes.
 use mathlib.Core.Path.{_≡_, refl, sym, _∙_, ap, subst}
-use mathlib.Core.Bool.{true, _||_}
 use mathlib.Core.List.{List, [], _∷_}
 use mathlib.Core.Logic.{_⊎_, inl, inr}
 use Prim.Native.Nat.{ℕ, zero, suc, _≤_}
 use native.Mathlib.Omega.{arith}
-use lib.Dec.{eqb, ltb→lt, lt→ltb}
+use lib.Dec.{ltb→lt, lt→ltb}
 use lib.ListN.{length}
 use Rattle.search.specs.Problem.{Problem, Choices, State, upper, start}
 use Rattle.search.specs.Run.{finished, run}
-use Rattle.search.proofs.General.{Plan, cap, search, done}
-use Rattle.search.proofs.Cover.{root-good, good-bound}
+use Rattle.search.proofs.General.{Plan, search, done}
+use Rattle.search.proofs.Cover.{root-within}
 use Rattle.search.proofs.PlainSelection.{lateBy, rankBy}
 use Rattle.search.proofs.Plain.{tree, planOf, cutOf, adds, finished-iff-done}
 use Rattle.search.proofs.Below.{Closer}
@@ -92,8 +91,6 @@ module _ (a : Call) (ok : Passes a) (rules bound : ℕ) (first pairs : List ℕ)
   one-plan = λ i. record {
     late = lateBy (a .job .selection);
     rank = one-rank i;
-    lone = eqb (a .job .selection) 2 || eqb (a .job .selection) 3;
-    early = true;
     rule2 = sym (favours .rule-2) i;
     rule4 = sym (favours .rule-4) i;
     rule8 = sym (favours .rule-8) i;
@@ -126,10 +123,8 @@ module _ (a : Call) (ok : Passes a) (rules bound : ℕ) (first pairs : List ℕ)
       go (s ∷ x) (r ∷ y) o (inr h) = h .1
 
   -- and e's bound is within it
-  root-within : choicesOf a .bound (problemOf a .root) ≤ upper (problemOf a) (given (a .start))
-  root-within =
-      good-bound (call-lawful a ok) (bound-laws a ok) (upper (problemOf a) (given (a .start)))
-      (problemOf a .root) (root-good (call-solvable a ok) (given (a .start)) (start-known a ok))
+  root-low : choicesOf a .bound (problemOf a .root) ≤ upper (problemOf a) (given (a .start))
+  root-low = root-within (call-lawful a ok) (bound-laws a ok) (call-solvable a ok) (given (a .start)) (start-known a ok)
 
   -- more words, more records
   more-records : recordsIn pool ≤ recordsIn (a .pool)
@@ -168,12 +163,12 @@ module _ (a : Call) (ok : Passes a) (rules bound : ℕ) (first pairs : List ℕ)
       (e : State Node) → outcome b ≡ finished e
       → (d : State Node) × (outcome a ≡ finished d) × (length (d .branched) ≤ length (e .branched)) × (d .generated ≤ e .generated)
       × (d .most ≤ e .most)
-  unfolding outcome cap
+  unfolding outcome
   beside-finishes e h =
       let (d, ran, branched, generated, most) =
       compare-runs (tree (problemOf a)) (planOf (problemOf a) (choicesOf a)) (cutOf (choicesOf a))
       (cutOf other) (size (a .job .n)) (a .job .n) (call-lawful a ok) (adds (problemOf a)) (bound-laws a ok)
-      (call-manner a ok) closer (recordsIn (a .pool)) (recordsIn pool) more-records (given (a .start)) (given first) lower-start root-within
+      (call-manner a ok) closer (recordsIn (a .pool)) (recordsIn pool) more-records (given (a .start)) (given first) lower-start root-low
       (suc (nodes (a .job .n))) e (other-done e h) in (
         d,
         finished-iff-done (problemOf a) (choicesOf a) (recordsIn (a .pool)) (selection-small a ok) (suc (nodes (a .job .n)))

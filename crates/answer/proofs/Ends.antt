@@ -29,7 +29,7 @@ use Rattle.answer.specs.Answer.{problemOf, choicesOf, StateOf, ending, r
 use Rattle.answer.specs.Ends.{made, FinishTestHolds, BudgetIsSpent, NextDoesNotFit, ComesTo}
 use Rattle.answer.proofs.Passes.{passes}
 use Rattle.answer.proofs.Instance.{selection-small, finish-outcome, halt-outcome, overflow-outcome}
-use Rattle.answer.proofs.Tested.{active-never-empty}
+use Rattle.answer.proofs.Active.{active-never-empty}
 
 module _ (c : Call) (s : State Node) where
   -- of a state with an active node a node is chosen
@@ -60,11 +60,11 @@ module _ (c : Call) (s : State Node) where
           let after : State Node = step (problemOf c) (choicesOf c) s b rest in
           let over : Bool = ltb (recordsIn (c .pool)) (length (held (choicesOf c .rules) after)) in
           let allowed : Bool = ltb (length (s .branched)) (choicesOf c .budget) in
-          record { b = b; rest = rest; selects = q; ends = test (finishes (problemOf c) (choicesOf c) (s .best) b rest) allowed over after e }
+          record { b = b; rest = rest; selects = q; ends = test (finishes (problemOf c) b) allowed over after e }
 
   pub holds-finish : FinishTestHolds c s → (capacity : ℕ) → next (problemOf c) (choicesOf c) capacity s ≡ finish
   unfolding next decide
-  holds-finish h records = rw (h .selects, to-true (finishes (problemOf c) (choicesOf c) (s .best) (h .b) (h .rest)) (h .ends))
+  holds-finish h records = rw (h .selects, to-true (finishes (problemOf c) (h .b)) (h .ends))
 
 made-branched :
     {N : Type 0} {P : Problem N} {C : Choices N} {capacity : ℕ} {s e : State N} (steps : Steps P C capacity s e)

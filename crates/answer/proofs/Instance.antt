@@ -140,7 +140,7 @@ module _ (c : Call) (ok : Passes c) where
   selection-small = ok .selection
 
   pub call-manner : Manner (tree (problemOf c)) (planOf (problemOf c) (choicesOf c)) (choicesOf c .bound)
-  call-manner = plan-manner (problemOf c) (choicesOf c) selection-small bound-laws
+  call-manner = plan-manner (problemOf c) (choicesOf c) selection-small
 
   pub call-solvable : Solvable (problemOf c)
   unfolding problemOf

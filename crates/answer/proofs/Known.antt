@@ -1,5 +1,5 @@
 -- At every state of a call's run the order known, if one is, is an order of the n stops that respects the pairs (`best-known`), and a report with it has
--- that order and its cost (`order-reported`).
+-- that order and its cost (`order-reported`): its first n places hold it (`padded-front`).
 use mathlib.Core.Path.{_≡_, refl, sym, ap, subst}
 use mathlib.Core.Option.{Option, none, some}
 use Prim.Native.Nat.{ℕ, _-_}
@@ -43,7 +43,7 @@ best-known c passed {s} steps =
     at best (knownIn x whole leads) = known x (leads-allowed (call-pairing c (passes c passed)) (problemOf c) (λ y. refl) x whole leads)
 
 -- a report's first n places hold its order
-padded-front : (n : ℕ) (x : Node) → Order n x → take n (padded orderPlaces x) ≡ x
+pub padded-front : (n : ℕ) (x : Node) → Order n x → take n (padded orderPlaces x) ≡ x
 unfolding padded
 padded-front n x o = take-at x (replicate (orderPlaces - length x) 0) n (order-length n x o)
 

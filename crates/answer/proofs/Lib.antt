@@ -4,13 +4,14 @@ pub mod Instance
 pub mod Known
 pub mod Ending
 pub mod Bounds
-pub mod Tested
+pub mod Active
 pub mod Ends
 pub mod Contents
 pub mod Demand1
 pub mod Demand2
 pub mod Demand3
 pub mod Demand3Pairs
+pub mod Ties
 pub mod Budget
 pub mod BudgetPairs
 pub mod OnDay

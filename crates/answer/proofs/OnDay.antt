@@ -67,6 +67,7 @@ module _ (c : Call) (ok : Passes c) (D E : Day) (same : SameFigures (c .job .n) 
     complete = λ x p. refl;
     cost = complete-cost;
     dominates = same .dominances;
+    smaller = λ x y p q v w. refl;
     above = refl;
     selection = refl;
     rules = refl;

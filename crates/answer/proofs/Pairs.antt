@@ -1,21 +1,20 @@
 -- Request A.6 of the written run, a theorem for each type of specs/Pairs.
 use mathlib.Core.Path.{_≡_, refl, sym, ap, _∙_, subst}
-use mathlib.Core.Bool.{Bool, true, false, not, _&&_, _||_}
+use mathlib.Core.Bool.{Bool, true, false, not}
 use mathlib.Core.List.{List, [], _∷_, _++_, map-id, List·Memᴰ·tail, List·Memᴰ·cases-cons, List·Memᴰ·not-nil, List·Memᴰ·append-cases, List·Memᴰ·eq-of-singleton}
 use mathlib.Core.Logic.{_⊎_, inl, inr, _≢_}
-use mathlib.Core.Option.{Option}
 use Prim.Native.Nat.{ℕ, suc, _+_, _%_}
 use native.Mathlib.Omega.{arith}
-use lib.Dec.{T, T-not, eqb, leb}
+use lib.Dec.{T, T-not, eqb}
 use lib.ListN.{length}
 use borrow.Author.Tests.{le-ltb}
 use Rattle.sizes.specs.Sizes.{mostPairBytes}
 use Rattle.lists.specs.Lists.{In, all, Distinct, none, more}
-use Rattle.lists.proofs.Tests.{to-true, to-false, ne-neqb, equal-eqb, not-either}
+use Rattle.lists.proofs.Tests.{to-true, to-false, ne-neqb, equal-eqb}
 use Rattle.lists.proofs.Members.{in-head, in-all}
 use Rattle.lists.proofs.Distinct.{append-apart}
-use Rattle.search.specs.Problem.{Problem, Choices, State, upper, start}
-use Rattle.search.specs.Selection.{finishes, empty}
+use Rattle.search.specs.Problem.{Problem, State, start}
+use Rattle.search.specs.Selection.{finishes}
 use Rattle.search.specs.Step.{step}
 use Rattle.search.specs.Run.{Steps, none as noStep, more as oneMore}
 use Rattle.search.proofs.Mapped.{Maps, ValidBest, ValidState}
@@ -205,14 +204,6 @@ pub children-respect-pairs : ChildrenRespect
 unfolding problemOf problem
 children-respect-pairs c e x h = children-respect (call-pairing c (passes c e)) x h
 
--- a node of which the finish test does not hold is not complete
-unfinished-partial :
-    (P : Problem Node) (C : Choices Node) (best : Option Node) (b : Node) (rest : List Node) → T (not (finishes P C best b rest)) → T (P .complete b) → ⊥
-unfolding finishes
-unfinished-partial P C best b rest goes whole =
-    let counts : Bool = not (eqb (C .selection) 2 || eqb (C .selection) 3) || empty rest in
-    T-not (P .complete b) (not-either (leb (upper P best) (C .bound b) && counts) (P .complete b) goes .1) whole
-
 module _ (c : Call) (ok : Passes c) where
   abbrev pairs : List Pair
   pairs = pairsOf (c .pairs)
@@ -228,6 +219,7 @@ module _ (c : Call) (ok : Passes c) where
     complete = λ x h. refl;
     cost = λ x h whole. refl;
     dominates = λ y z h k. refl;
+    smaller = λ x y h k v w. refl;
     above = refl;
     selection = refl;
     rules = refl;
@@ -254,7 +246,7 @@ module _ (c : Call) (ok : Passes c) where
       go : In b (s′ .branched) ⊎ In b (last .b ∷ []) → (In b (s′ .branched) → T (complete (c .job .n) b) → ⊥) → ⊥
       go (inl i) again = again i whole
       go (inr i) again =
-          unfinished-partial (problemOf c) (choicesOf c) (s′ .best) (last .b) (last .rest) (last .goes)
+          T-not (complete (c .job .n) (last .b)) (last .goes)
           (subst (λ (x : Node). T (complete (c .job .n) x)) (List·Memᴰ·eq-of-singleton i) whole)
 
 pub only-respecting : OnlyRespecting

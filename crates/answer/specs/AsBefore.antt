@@ -1,10 +1,11 @@
--- A call that uses no request's feature is answered as before the request: a type for each, over any planner; proofs/ has a theorem for each.
+-- A call that uses no request's feature is answered as before the request: a type for each, over any planner; proofs/ has a theorem for each. Request A.8
+-- changes the run of every call, so that what is said here, of its day, its children and its causes, is said over that run.
 --   freely, answerFreely, NoPairsAsBefore    without request A.6: no pairs
 --   laterCause                       the causes behind 5, which the requests before A.6 do not change
 --   homeCause, EndsHomeAsBefore      without request A.5: no day that ends away
 --   NoCharges, Uncharged, UnchargedByLegs    without request A.4: no landing charge
 --   legCause₃, legTableCause, TableCausesAsBefore    the causes that look at a table, by document 01
---   legCause, AsDocument01, AcceptedBefore           without any of them, an answer is document 01's, within whatever budget
+--   legCause, AsDocument01, AcceptedBefore           without any of them: document 01's day and causes, within whatever budget
 use mathlib.Core.Path.{_≡_}
 use mathlib.Core.Bool.{Bool, false, not, _||_}
 use mathlib.Core.List.{List, []}
@@ -102,7 +103,7 @@ legCause c = legTableCause (c .job .n) (c .table) (homeCauseBehind c (poolCause 
 unfoldable pub document01Day : Call → Day
 document01Day c = dayOn (c .job .n) (legRows (c .job .n) false (c .table))
 
--- With all charges 0, a day that ends at home and no pairs, every answer is document 01's.
+-- With all charges 0, a day that ends at home and no pairs, every answer is the one over document 01's day, by its causes.
 abbrev pub AsDocument01 : Planner → Type 0
 AsDocument01 P =
     (c : Call) (a : Answer) → P c a → Uncharged c → EndsHome c → c .pairs ≡ [] → a ≡ answerFreely (document01Day c) c (legCause c)

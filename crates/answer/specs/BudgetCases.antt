@@ -83,13 +83,21 @@ start-is-shown : Holds e₀
 unfolding e₀ tableT computed
 start-is-shown = refl
 
--- One stop, close, from the only order: its cost is the bound of e, so with budget 0 the run is finished.
+-- One stop, close, from the only order: its cost is the bound of e, but e is not complete, so that with budget 0 the run is stopped (request A.8); ..
 one₀ : Case
-one₀ = reports (within 0 (call 1 (0 ∷ 3 ∷ 5 ∷ 0 ∷ []) 0 0 1 (1 ∷ []) 9)) (found 8 (1 ∷ replicate 15 0) 0 1 0 1 1)
+one₀ = reports (within 0 (call 1 (0 ∷ 3 ∷ 5 ∷ 0 ∷ []) 0 0 1 (1 ∷ []) 9)) (soFar 8 (found 8 (1 ∷ replicate 15 0) 0 1 0 1 1))
 
-finished-unbranched : Holds one₀
+stopped-at-its-floor : Holds one₀
 unfolding one₀ computed
-finished-unbranched = refl
+stopped-at-its-floor = refl
+
+-- .. with budget 1 it is finished.
+one₁ : Case
+one₁ = reports (within 1 (call 1 (0 ∷ 3 ∷ 5 ∷ 0 ∷ []) 0 0 1 (1 ∷ []) 9)) (found 8 (1 ∷ replicate 15 0) 1 2 0 1 1)
+
+finished-when-complete : Holds one₁
+unfolding one₁ computed
+finished-when-complete = refl
 
 -- Case f₂, one record, where the first step does not fit: with budget 0 the run is stopped before that is asked, and the pool has e ..
 full₀ : Case
@@ -118,8 +126,8 @@ unfolding j₀ computed
 refused-as-before = refl
 
 pub budgetCases : List Case
-budgetCases = b₀ ∷ b₅ ∷ b₉ ∷ b₁₀ ∷ c₁ ∷ e₀ ∷ one₀ ∷ full₀ ∷ full₁ ∷ j₀ ∷ []
+budgetCases = b₀ ∷ b₅ ∷ b₉ ∷ b₁₀ ∷ c₁ ∷ e₀ ∷ one₀ ∷ one₁ ∷ full₀ ∷ full₁ ∷ j₀ ∷ []
 
 pub budget-cases-hold : AllHold budgetCases
 unfolding budgetCases
-budget-cases-hold = (nothing-branched, (five-branched, (one-lacking, (budget-suffices, (least-under-LIFO, (start-is-shown, (finished-unbranched, (budget-before-pool, (full-is-unmarked, (refused-as-before, tt))))))))))
+budget-cases-hold = (nothing-branched, (five-branched, (one-lacking, (budget-suffices, (least-under-LIFO, (start-is-shown, (stopped-at-its-floor, (finished-when-complete, (budget-before-pool, (full-is-unmarked, (refused-as-before, tt)))))))))))

@@ -1,4 +1,5 @@
--- Document 01's cases a to k as theorems about the written run itself: a list, with one theorem for all of it (`cases-hold`). Our own cases, with
+-- Document 01's cases a to k as theorems about the written run itself, e, f and i as request A.8 has them: a list, with one theorem for all of it
+-- (`cases-hold`). Our own cases, with
 -- the pool's words, are in `OwnCases`. Every pool is dirty before the call: its words are all 7.
 --   Case     what a case says: a call's report; its whole answer; the number of its cause; the bounds of nodes
 --   Holds    that it is true
@@ -128,9 +129,9 @@ case-d : Holds d
 unfolding d tableT computed
 case-d = refl
 
--- e. As d, starting from 123.
+-- e. As d, starting from 123. Node 12, whose bound is U, is branched too (request A.8).
 e : Case
-e = reports (call 3 tableT 3 1 1 (1 ∷ 2 ∷ 3 ∷ []) 9) (found 13 order123 2 6 3 1 1)
+e = reports (call 3 tableT 3 1 1 (1 ∷ 2 ∷ 3 ∷ []) 9) (found 13 order123 3 7 3 1 1)
 
 case-e : Holds e
 unfolding e tableT computed
@@ -138,7 +139,7 @@ case-e = refl
 
 -- f₁. e's job again, in a pool of one record: its report.
 f₁ : Case
-f₁ = reports (call 3 tableT 3 1 1 (1 ∷ 2 ∷ 3 ∷ []) 1) (found 13 order123 2 6 3 1 1)
+f₁ = reports (call 3 tableT 3 1 1 (1 ∷ 2 ∷ 3 ∷ []) 1) (found 13 order123 3 7 3 1 1)
 
 case-f₁ : Holds f₁
 unfolding f₁ tableT computed
@@ -168,17 +169,17 @@ case-h : Holds h
 unfolding h computed
 case-h = refl
 
--- i₀. Two stops, every leg 0: of the two orders selection 0 finds 12 first.
+-- i₀. Two stops, every leg 0: of the two orders selection 0 finds 12 first, and 21, as cheap but larger, does not replace it.
 i₀ : Case
-i₀ = reports (call 2 (replicate 9 0) 0 0 1 [] 9) (found 0 (1 ∷ 2 ∷ replicate 14 0) 2 4 0 2 2)
+i₀ = reports (call 2 (replicate 9 0) 0 0 1 [] 9) (found 0 (1 ∷ 2 ∷ replicate 14 0) 3 5 0 2 2)
 
 case-i₀ : Holds i₀
 unfolding i₀ computed
 case-i₀ = refl
 
--- i₁. The same under selection 1: the later of equals leads to 21.
+-- i₁. The same under selection 1: the later of equals leads to 21, which 12, as cheap and smaller, replaces (request A.8).
 i₁ : Case
-i₁ = reports (call 2 (replicate 9 0) 1 0 1 [] 9) (found 0 (2 ∷ 1 ∷ replicate 14 0) 2 4 0 2 2)
+i₁ = reports (call 2 (replicate 9 0) 1 0 1 [] 9) (found 0 (1 ∷ 2 ∷ replicate 14 0) 3 5 0 2 2)
 
 case-i₁ : Holds i₁
 unfolding i₁ computed

@@ -18,7 +18,7 @@ charged-a : Holds a
 unfolding a chargedT computed
 charged-a = refl
 
--- The same with the plain bound, which has the charges of the stops flown alone: it takes 10 branchings, where without charges 7 are enough.
+-- The same with the plain bound, which has the charges of the stops flown alone: it takes 10 branchings, where without charges 8 are enough.
 a₀ : Case
 a₀ = reports (call 3 chargedT 0 1 0 [] 9) (found 85 order123 10 16 5 1 5)
 
@@ -28,7 +28,7 @@ charged-a₀ = refl
 
 -- .. namely
 uncharged : Case
-uncharged = reports (call 3 tableT 0 1 0 [] 9) (found 13 order123 7 13 4 2 4)
+uncharged = reports (call 3 tableT 0 1 0 [] 9) (found 13 order123 8 14 5 1 4)
 
 uncharged-a₀ : Holds uncharged
 unfolding uncharged tableT computed

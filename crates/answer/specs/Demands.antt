@@ -1,7 +1,7 @@
 -- What the letter demands of a planner, a type for each of its sentences and in its order. A proof of a sentence is a theorem whose type is the
 -- sentence's name: of the written run (`written`) in proofs/ of this crate, of what the code of `plan` returns in proofs/ of crate `planner`.
--- What document 01 says beside the run's definition is in `Document01`, what requests A.3 to A.6 add in `Budget`, `Charges`, `Away` and `Pairs`; what demands
--- 1 and 2 say of files is in crate `job_format`.
+-- What document 01 says beside the run's definition is in `Document01`, what requests A.3 to A.6 and A.8 add in `Budget`, `Charges`, `Away`, `Pairs` and
+-- `Ties`; what demands 1 and 2 say of files is in crate `job_format`.
 use mathlib.Core.Path.{_≡_}
 use mathlib.Core.List.{List, []}
 use mathlib.Core.Logic.{_⊎_, _≢_, _↔_}
@@ -10,7 +10,7 @@ use lib.Dec.{T}
 use lib.ListN.{length}
 use Rattle.lists.specs.Lists.{In, Distinct}
 use Rattle.search.specs.Step.{on}
-use Rattle.orders.specs.Orders.{Node, Order, orders, factorial}
+use Rattle.orders.specs.Orders.{Node, smaller, Order, orders, factorial}
 use Rattle.orders.specs.Pairs.{Pair, pairsOf, OnePairs, Allowed, ordersWith}
 use Rattle.days.specs.Days.{Closer}
 use Rattle.stops.specs.Bounds.{endsAway}
@@ -19,7 +19,7 @@ use Rattle.answer.specs.declared.Job.{Job}
 use Rattle.answer.specs.declared.Report.{Report}
 use Rattle.answer.specs.Checks.{cause}
 use Rattle.answer.specs.Answer.{dayOf, answer}
-use Rattle.answer.specs.Ends.{Finishes, NextDoesNotFit, ComesTo, FullAt, RefusedAt, HasOrder, Ended}
+use Rattle.answer.specs.Ends.{Finishes, NextDoesNotFit, ComesTo, FullAt, RefusedAt, orderIn, HasOrder, Ended}
 
 -- A planner as its callers see it: which answers it gives to a call. An answer is the report and the words that the pool holds afterwards.
 abbrev pub Planner : Type 1
@@ -85,10 +85,13 @@ OneCost P =
 abbrev pub allowedOrders : Call → List Node
 allowedOrders c = ordersWith (c .job .n) (pairsOf (c .pairs))
 
--- The cost is that of the order reported with it, and each of the orders of the stops that respect the pairs costs at least as much.
+-- The cost is that of the order reported with it, and each of the orders of the stops that respect the pairs costs at least as much; those that cost the
+-- same are the order itself and larger ones (request A.8).
 pub record Cheapest (c : Call) (r : Report) : Type 0 where
   pub has-order : HasOrder c r
   pub least : (y : Node) → In y (allowedOrders c) → r .cost ≤ dayOf c .cost y
+  pub smallest :
+      (y : Node) → In y (allowedOrders c) → dayOf c .cost y ≡ r .cost → (orderIn c r ≡ y) ⊎ T (smaller (orderIn c r) y)
 
 abbrev pub CheapestOfAll : Planner → Type 0
 CheapestOfAll P = (c : Call) (a : Answer) → P c a → Finishes (a .report) → Cheapest c (a .report)

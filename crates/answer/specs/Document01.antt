@@ -1,18 +1,16 @@
--- What document 01 says of a run beside its definition, a type for each sentence, as in `Demands`; proofs/ has a theorem for each.
+-- What document 01 says of a run beside its definition, a type for each sentence, as in `Demands`; proofs/ has a theorem for each. What it says of the
+-- bound that is tested against U has no object since request A.8: no bound ends a run.
 --   FinishedIff, BranchedAreSteps, ContentsPlayNoPart    of a planner's answers
 --   StatesBalance, ActiveNeverEmpty                      of every state of a run
---   TestedWithinU, TestsAgree                            of the finish test
 --   BoundNeverFalls, BoundExact, CloseNotBelowPlain      of the lower bounds
 use mathlib.Core.Path.{_≡_}
-use mathlib.Core.Bool.{Bool, not, _&&_, _||_}
 use mathlib.Core.List.{List}
 use mathlib.Core.Logic.{_↔_}
 use Prim.Native.Nat.{ℕ, _+_, _≤_}
-use lib.Dec.{T, eqb}
+use lib.Dec.{T}
 use lib.ListN.{length}
 use Rattle.lists.specs.Lists.{In}
-use Rattle.search.specs.Problem.{State, upper}
-use Rattle.search.specs.Selection.{chosen, select, empty, finishes}
+use Rattle.search.specs.Problem.{State}
 use Rattle.orders.specs.Orders.{Node, complete, extensions}
 use Rattle.days.specs.Days.{Closer}
 use Rattle.answer.specs.Call.{Call, callOf, Answer}
@@ -48,28 +46,6 @@ StatesBalance =
 -- The active set is never empty.
 abbrev pub ActiveNeverEmpty : Type 0
 ActiveNeverEmpty = (c : Call) → cause c ≡ 0 → (s : State Node) → StateOf c s → (x : Node) × In x (s .active)
-
--- the bound counts in the finish test: under selections 0 and 1 always, under 2 and 3 where b is the only active node
-abbrev pub BoundCounts : Call → List Node → Bool
-BoundCounts c rest = not (eqb (choicesOf c .selection) 2 || eqb (choicesOf c .selection) 3) || empty rest
-
--- Where it counts, the bound tested never exceeds U.
-abbrev pub TestedWithinU : Type 0
-TestedWithinU =
-    (c : Call) → cause c ≡ 0 → (s : State Node) → StateOf c s → (b : Node) (rest : List Node)
-    → select (problemOf c) (choicesOf c) (s .active) ≡ chosen b rest → T (BoundCounts c rest)
-    → choicesOf c .bound b ≤ upper (problemOf c) (s .best)
-
--- the finish test of document 000, which has "equal to U"
-abbrev pub finishesWhenEqual : Call → State Node → Node → List Node → Bool
-finishesWhenEqual c s b rest = eqb (upper (problemOf c) (s .best)) (choicesOf c .bound b) && BoundCounts c rest || problemOf c .complete b
-
--- So the two tests agree on every run.
-abbrev pub TestsAgree : Type 0
-TestsAgree =
-    (c : Call) → cause c ≡ 0 → (s : State Node) → StateOf c s → (b : Node) (rest : List Node)
-    → select (problemOf c) (choicesOf c) (s .active) ≡ chosen b rest
-    → finishes (problemOf c) (choicesOf c) (s .best) b rest ≡ finishesWhenEqual c s b rest
 
 -- NODES: the lower bounds
 

@@ -1,5 +1,5 @@
 -- How a call's run ends: what the demands (`Demands`) and request A.3 (`Budget`) speak of. Document 01, "One run", "The pool", "The report"
--- and "Causes and numbers"; document 02, A.3 and A.6.
+-- and "Causes and numbers"; document 02, A.3, A.6 and A.8.
 --   Finishes                           what a report of a finished run says
 --   made                               how many steps a run made
 --   FinishTestHolds, BudgetIsSpent, NextDoesNotFit, Ends    what ends a run at a state
@@ -35,12 +35,12 @@ abbrev pub made : {N : Type 0} {P : Problem N} {C : Choices N} {capacity : ℕ} 
 made none = 0
 made (more before last) = suc (made before)
 
--- A node is chosen, and the finish test holds of it.
+-- A node is chosen, and the finish test holds of it: it is complete (request A.8).
 pub record FinishTestHolds (c : Call) (s : State Node) : Type 0 where
   pub b : Node
   pub rest : List Node
   pub selects : select (problemOf c) (choicesOf c) (s .active) ≡ chosen b rest
-  pub ends : T (finishes (problemOf c) (choicesOf c) (s .best) b rest)
+  pub ends : T (finishes (problemOf c) b)
 
 -- Request A.3: a node is chosen, the finish test does not hold of it, and as many nodes as the budget has are branched.
 abbrev pub BudgetIsSpent : Call → State Node → Type 0

@@ -11,8 +11,10 @@ pub mod BudgetCases
 pub mod ChargeCases
 pub mod AwayCases
 pub mod PairCases
+pub mod TieCases
 pub mod OnDay
 pub mod Charges
 pub mod Away
 pub mod Pairs
 pub mod AsBefore
+pub mod Ties

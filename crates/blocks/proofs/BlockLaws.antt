@@ -4,7 +4,7 @@
 --   least-from                            .. of the numbers from one to another, and the next
 --   shift-small, shifted, shift-more      shifts by which blocks stay small: an amount, a product, one more
 --   block-at, block-low, block-high, block-below, block-from, block-up-to   the block of a place, and the places of a block
---   least-block, block-runs               those in use are the ones from a place to another that is not before it
+--   block-run, run-block, least-block, block-runs   those in use are the ones from a place to another that is not before it
 use mathlib.Core.Path.{_≡_, refl, ap, _∙_}
 use mathlib.Core.Bool.{not}
 use mathlib.Core.Logic.{_⊎_, inl, inr, ⊎-elim}
@@ -113,18 +113,15 @@ module _ (width : ℕ) (wide : 1 ≤ width) where
   block-up-to i j h = block-from j (i / width) (let e : i / width * width ≤ i = div-mul-le-self i width in omega arith)
 
 -- those in use are the ones from a place to another
-pub least-block :
-    (used width k : ℕ) (f : ℕ → ℕ) (from to m : ℕ)
-    → 1 ≤ width → from ≡ min (k * width) used → to ≡ min ((k + 1) * width) used → Least (λ (i : ℕ). (from ≤ i) × (i < to)) f m
-    → Least (inBlock used width k) f m
-least-block used width k f from to m wide l h =
-    least-like (λ (i : ℕ). (from ≤ i) × (i < to)) (inBlock used width k) f f m there (λ i p u. back i p) (λ i p. refl)
-  where
-    there : (i : ℕ) → inBlock used width k i → (from ≤ i) × (i < to)
-    there i b = (omega (arith, block-low width k i (b .1)), omega (arith, b .0, block-high width wide k i (b .1)))
+module _ (used width k from to : ℕ) (wide : 1 ≤ width) (l : from ≡ min (k * width) used) (h : to ≡ min ((k + 1) * width) used) where
+  pub block-run : (i : ℕ) → inBlock used width k i → (from ≤ i) × (i < to)
+  block-run i b = (omega (arith, block-low width k i (b .1)), omega (arith, b .0, block-high width wide k i (b .1)))
 
-    back : (i : ℕ) → (from ≤ i) × (i < to) → inBlock used width k i
-    back i p = (omega (arith, p .1), block-at width k i (omega (arith, p)) (omega (arith, p .1)))
+  pub run-block : (i : ℕ) → (from ≤ i) × (i < to) → inBlock used width k i
+  run-block i p = (omega (arith, p .1), block-at width k i (omega (arith, p)) (omega (arith, p .1)))
+
+  pub least-block : (f : ℕ → ℕ) (m : ℕ) → Least (λ (i : ℕ). (from ≤ i) × (i < to)) f m → Least (inBlock used width k) f m
+  least-block f m = least-like (λ (i : ℕ). (from ≤ i) × (i < to)) (inBlock used width k) f f m block-run (λ i p u. run-block i p) (λ i p. refl)
 
 -- the place that it starts from is not behind the one that it ends at
 pub block-runs : (used width k from to : ℕ) → from ≡ min (k * width) used → to ≡ min ((k + 1) * width) used → from ≤ to

@@ -2,6 +2,7 @@
 -- bound up to a limit is the first in the first block whose minimum is up to it (`first-in-first`), and the last is the last in the last
 -- (`last-in-last`).
 use mathlib.Core.Path.{_≡_, refl, ap}
+use mathlib.Core.Bool.{true, false}
 use mathlib.Core.List.{List}
 use mathlib.Core.Logic.{_⊎_, inl, inr, _≢_}
 use Prim.Native.Nat.{ℕ, _+_, _*_, _/_, _≤_, _<_, min}
@@ -10,7 +11,7 @@ use lib.ListN.{getD}
 use Rattle.lists.proofs.Tests.{compared, ordered}
 use Rattle.stops.specs.declared.node_record.Record.{Record}
 use Rattle.lanes.specs.Sizes.{blocks, gone}
-use Rattle.blocks.specs.Code.{boundAt, Least, inBlock, Blocked, Earliest, Latest}
+use Rattle.blocks.specs.Code.{boundAt, Least, inBlock, Blocked, Foremost}
 use Rattle.blocks.proofs.BlockLaws.{least-none, least-both, least-like, block-low, block-high, block-below, block-from}
 
 -- Walks that look for a place i where f is up to a limit: a walk has not passed it, and what is above the limit is not it.
@@ -58,13 +59,13 @@ module _ {recs : List Record} {used w : ℕ} {index : List ℕ} (b : Blocked rec
 
   pub first-in-first :
       (limit k r : ℕ) → limit < gone → k < blocks → getD index k 0 ≤ limit → ((j : ℕ) → j < k → limit < getD index j 0)
-      → boundAt recs r ≤ limit → ((j : ℕ) → k * w ≤ j → j < r → limit < boundAt recs j) → Earliest recs used limit r
+      → boundAt recs r ≤ limit → ((j : ℕ) → k * w ≤ j → j < r → limit < boundAt recs j) → Foremost false recs used limit r
   first-in-first limit k r live h up before at passed =
       let (i, (start, (end, (inside, low)))) = in-block limit k live h up in
       record {
         inside = reach (ordered r i) (passed i start) inside low;
         within = at;
-        before = λ j m. go j m (ordered (k * w) j);
+        before = λ j m h. go j h (ordered (k * w) j);
       }
     where
       reach : {i : ℕ} → (r ≤ i) ⊎ (i < r) → (i < r → limit < boundAt recs i) → i < used → boundAt recs i ≤ limit → r < used
@@ -81,11 +82,11 @@ module _ {recs : List Record} {used w : ℕ} {index : List ℕ} (b : Blocked rec
   pub last-in-last :
       (limit end k to r : ℕ) → ((i : ℕ) → i < used → i / w < end) → ((j : ℕ) → k < j → j < end → limit < getD index j 0)
       → to ≡ min ((k + 1) * w) used → r < to → boundAt recs r ≤ limit
-      → ((j : ℕ) → r < j → j < to → limit < boundAt recs j) → Latest recs used limit r
+      → ((j : ℕ) → r < j → j < to → limit < boundAt recs j) → Foremost true recs used limit r
   last-in-last limit end k to r ends behind e inside at passed = record {
     inside = omega arith;
     within = at;
-    behind = λ j h m. go j h m (ordered to j);
+    before = λ j m h. go j h m (ordered to j);
   }
     where
       go : (j : ℕ) → r < j → j < used → (to ≤ j) ⊎ (j < to) → limit < boundAt recs j

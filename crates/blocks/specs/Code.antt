@@ -2,8 +2,9 @@
 --   Least                the least of some numbers, or the bound of gone records
 --   inBlock, Blocked     the places of a block; the minima of all blocks are right (BlockedBut: of all but one)
 --   Same                 an index is the same but for the minima
---   Earliest, Latest     the first and the last place with a bound up to a limit
+--   Before, Foremost     which of two places comes first, from the front or from the end; the first place with a bound up to a limit
 use mathlib.Core.Path.{_≡_}
+use mathlib.Core.Bool.{Bool, true, false}
 use mathlib.Core.List.{List}
 use Prim.Native.Nat.{ℕ, _*_, _/_, _≤_, _<_}
 use lib.ListN.{length, getD}
@@ -41,14 +42,13 @@ pub record Same (index index′ : List ℕ) : Type 0 where
   pub same-length : length index′ ≡ length index
   pub behind : (j : ℕ) → blocks ≤ j → getD index′ j 0 ≡ getD index j 0
 
--- r is the first place below `used` with a bound up to limit
-pub record Earliest (recs : List Record) (used limit r : ℕ) : Type 0 where
-  pub inside : r < used
-  pub within : boundAt recs r ≤ limit
-  pub before : (j : ℕ) → j < r → limit < boundAt recs j
+-- i comes before j, seen from the front or, if late, from the end
+abbrev pub Before : Bool → ℕ → ℕ → Type 0
+Before true i j = j < i
+Before false i j = i < j
 
--- r is the last one
-pub record Latest (recs : List Record) (used limit r : ℕ) : Type 0 where
+-- r is the first or, if late, the last place below `used` with a bound up to limit
+pub record Foremost (late : Bool) (recs : List Record) (used limit r : ℕ) : Type 0 where
   pub inside : r < used
   pub within : boundAt recs r ≤ limit
-  pub behind : (j : ℕ) → r < j → j < used → limit < boundAt recs j
+  pub before : (j : ℕ) → j < used → Before late j r → limit < boundAt recs j

@@ -1,18 +1,19 @@
 // The least bound, and the first and the last record with a bound up to a limit.
+ghost use mathlib.Core.Bool.{true, false};
 ghost use mathlib.Core.List.{List};
 ghost use Prim.Native.Nat.{ℕ, _*_, _+_, _/_, _^_, _≤_, _<_};
 ghost use lib.ListN.{length, getD};
 ghost use Rattle.stops.specs.declared.node_record.Record.{Record};
 ghost use Rattle.records.specs.Code.{records};
 ghost use Rattle.lanes.specs.Sizes.{blocks, gone};
-ghost use Rattle.blocks.specs.Code.{Least, Blocked, Earliest, Latest, boundAt};
+ghost use Rattle.blocks.specs.Code.{Least, Blocked, Foremost, boundAt};
 use crate::lesser::lesser_place;
 use lanes::constants::GONE;
 use records::bound_at;
 use stops::bound::lesser;
 
 // A number of blocks that holds the first `used` places, and no more than there are.
-fn blocks_of(used: usize, shift: u32) -> usize
+pub fn blocks_of(used: usize, shift: u32) -> usize
     requires { ⌜ (1 ≤ used) × (blocks * 2 ^ shift < 2 ^ 62) ⌝ }
     ensures { λ r. ⌜ ((i : ℕ) → i < used → i / 2 ^ shift < r) × (used ≤ blocks * 2 ^ shift → r ≤ blocks) ⌝ }
 {
@@ -61,7 +62,7 @@ fn first_from(w: &[u32], from: usize, limit: u32) -> usize
 // The first of the first `used` records with a bound up to a limit, of which there is one: the first in the first block that has one.
 pub fn earliest(w: &[u32], used: usize, shift: u32, index: &[u32], limit: u32) -> usize
     requires { ⌜ Blocked (records (now w)) used (2 ^ shift) (now index) × ((blocks * 2 ^ shift < 2 ^ 62) × ((limit < gone) × ((i : ℕ) × ((i < used) × (boundAt (records (now w)) i ≤ limit))))) ⌝ }
-    ensures { λ r. ⌜ Earliest (records (now (w .entry))) used limit r ⌝ }
+    ensures { λ r. ⌜ Foremost false (records (now (w .entry))) used limit r ⌝ }
 {
     let k = first_block(index, limit);
     first_from(w, k << shift, limit)
@@ -94,7 +95,7 @@ pub fn last_before(w: &[u32], to: usize, limit: u32) -> usize
 // The last of the first `used` records with a bound up to a limit, of which there is one: the last in the last block that has one.
 pub fn latest(w: &[u32], used: usize, shift: u32, index: &[u32], limit: u32) -> usize
     requires { ⌜ Blocked (records (now w)) used (2 ^ shift) (now index) × ((blocks * 2 ^ shift < 2 ^ 62) × ((limit < gone) × ((i : ℕ) × ((i < used) × (boundAt (records (now w)) i ≤ limit))))) ⌝ }
-    ensures { λ r. ⌜ Latest (records (now (w .entry))) used limit r ⌝ }
+    ensures { λ r. ⌜ Foremost true (records (now (w .entry))) used limit r ⌝ }
 {
     let k = last_block(index, blocks_of(used, shift), limit);
     last_before(w, lesser_place((k + 1) << shift, used), limit)

@@ -9,40 +9,33 @@
 --   standing-top, standing-after     a walk starts at the head of a chain or at the last record, and goes on along the link or to the one before
 --   standing-met, standing-end       what it says where the test is passed, or once it has ended
 use mathlib.Core.Path.{_≡_, refl, ap, sym, _∙_}
-use mathlib.Core.Bool.{Bool, true, false, cond, _&&_, _||_, and-false, or-false}
+use mathlib.Core.Bool.{Bool, true, false, cond, _||_, or-false}
 use mathlib.Core.List.{List, map}
 use mathlib.Core.Logic.{_≢_}
 use Prim.Native.Nat.{ℕ, zero, suc, _+_, _-_, _*_, _/_, _%_, _^_, _≤_, _<_}
 use native.Mathlib.Nat.{mod-lt}
 use native.Mathlib.Omega.{arith}
-use borrow.Author.Tests.{ne-eqb}
 use lib.Dec.{T, leb, eqb, eqb→eq, not-T}
 use lib.ListN.{length, getD}
 use Rattle.lists.specs.Lists.{any, from}
 use Rattle.lists.proofs.Keep.{any-append}
 use Rattle.lists.proofs.Map.{map-from}
 use Rattle.lists.proofs.Members.{in-any, map-in, from-in}
-use Rattle.lists.proofs.Tests.{to-true, to-false, equal-eqb, and-left, and-right}
+use Rattle.lists.proofs.Tests.{to-true, to-false, equal-eqb, and-right}
 use Rattle.stops.specs.Code.{emptyRecord, lastStop, recDominates}
 use Rattle.stops.specs.declared.node_record.Record.{Record}
+use Rattle.stops.proofs.Dominance.{dominates-parts, refused}
 use Rattle.lanes.specs.Sizes.{heads}
 use Rattle.lanes.specs.Code.{sized, placeOf, recAt, laneOf}
 use Rattle.lanes.specs.declared.Lane.{Lane}
 use Rattle.chains.specs.Code.{bucketOf, lastWith, keyAt, Inside, Walkable, isRival}
 
 pub sets-apart : (y z : Record) → (y .set ≡ z .set → ⊥) → false ≡ recDominates y z
-unfolding recDominates
-sets-apart y z h = simp (ne-eqb (y .set) (z .set) h, and-false)
+sets-apart y z h = refused y z (λ d. h (d .set))
 
 pub dominates-bucket : (y z : Record) → T (recDominates y z) → bucketOf y ≡ bucketOf z
-unfolding recDominates bucketOf
-dominates-bucket y z h =
-    let a = eqb (y .size) (z .size) && eqb (y .set) (z .set) && leb (y .path) (z .path) in
-    let four = and-left (a && eqb (lastStop y) (lastStop z)) _ h in
-    let stops = eqb→eq (lastStop y) (lastStop z) (and-right a (eqb (lastStop y) (lastStop z)) four) in
-    let two = and-left (eqb (y .size) (z .size) && eqb (y .set) (z .set)) _ (and-left a _ four) in
-    let sets = eqb→eq (y .set) (z .set) (and-right (eqb (y .size) (z .size)) _ two) in
-    rw (stops, sets)
+unfolding bucketOf
+dominates-bucket y z h = let d = dominates-parts y z h in rw (d .last, d .set)
 
 pub bucket-head : (x : Record) → bucketOf x < heads
 unfolding bucketOf

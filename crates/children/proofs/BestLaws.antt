@@ -1,23 +1,25 @@
 -- Part 2 of a step: what children do to U and its order (`src/best.rt`).
+--   ahead, ahead-dearer, ahead-cheaper, ahead-tied    whether a complete child goes before what is known
 --   learn-keeps, learn-replaces            of one child
 --   learn-none, learn-more                 of a list without a complete child, and of one child in front of a list
 --   Learning, learning-starts, learning-again, learning-ends    the invariant of the loop over the children in their slots
 use mathlib.Core.Path.{_≡_, refl, sym, _∙_}
-use mathlib.Core.Bool.{Bool, true, false, _&&_}
+use mathlib.Core.Bool.{Bool, true, false, _&&_, _||_, and-false, or-false}
 use mathlib.Core.List.{List, [], _∷_, List·Memᴰ·tail}
 use mathlib.Core.Logic.{_≢_}
 use mathlib.Core.Option.{Option, none, some}
-use Prim.Native.Nat.{ℕ, _-_, _^_, _≤_, _<_}
+use Prim.Native.Nat.{ℕ, _-_, _^_, _<_}
 use native.Mathlib.Omega.{arith}
 use borrow.Author.Tests.{lt-ltb, le-ltb, eq-eqb, ne-eqb}
-use lib.Dec.{eqb}
-use Rattle.sizes.specs.Sizes.{mostStops}
+use lib.Dec.{ltb, eqb}
+use Rattle.sizes.specs.Sizes.{mostStops, aboveEveryCost}
 use Rattle.lists.specs.Lists.{In}
 use Rattle.lists.proofs.Members.{in-head}
 use Rattle.search.specs.Problem.{upper}
-use Rattle.search.specs.Step.{replace, learn}
-use Rattle.stops.specs.Code.{stopsIn, First}
+use Rattle.search.specs.Step.{better, replace, learn}
+use Rattle.stops.specs.Code.{wordsBefore, recSmaller, stopsIn, First}
 use Rattle.stops.specs.declared.node_record.Record.{Record}
+use Rattle.stops.proofs.WordsBefore.{none-before-zeros}
 use Rattle.records.specs.Code.{inSlot, slots}
 use Rattle.records.proofs.SlotLaws.{slots-none, slots-first, slot-in}
 use Rattle.children.specs.Code.{Table, recProblem, IsBest, Learnt}
@@ -37,19 +39,44 @@ learn-none d a [] h t o best = best
 learn-none d a (x ∷ xs) h t o best =
     rw (ne-eqb (x .size) (d .n) (h x in-head)) (learn-none d a xs (λ y m. h y (List·Memᴰ·tail m)) t o best)
 
-module _ (d : Setting) (a : Best) (x : Record) where
-  pub learn-keeps : a .upper ≤ x .bound → Learnt d a (x ∷ []) a
+-- the complete child x goes before what a stands for: it is cheaper than U or, where it costs the same, its order is the smaller (request A.8)
+module _ (a : Best) (x : Record) where
+  unfoldable pub ahead : Bool
+  ahead = ltb (x .bound) (a .upper) || eqb (x .bound) (a .upper) && wordsBefore (x .first) (x .second) (a .first) (a .second)
+
+  pub ahead-dearer : a .upper < x .bound → ahead ≡ false
+  unfolding ahead
+  ahead-dearer h = simp (le-ltb (x .bound) (a .upper) (omega arith), ne-eqb (x .bound) (a .upper) (omega arith))
+
+  pub ahead-cheaper : x .bound < a .upper → ahead ≡ true
+  unfolding ahead
+  ahead-cheaper h = simp (lt-ltb (x .bound) (a .upper) h)
+
+  pub ahead-tied :
+      {b c : Bool} → x .bound ≡ a .upper → b ≡ wordsBefore (x .first) (x .second) (a .first) (a .second) → b ≡ c → ahead ≡ c
+  unfolding ahead
+  ahead-tied h e f = rw (le-ltb (x .bound) (a .upper) (omega arith), eq-eqb (x .bound) (a .upper) h) (sym e ∙ f)
+
+  -- while none is known, no order is smaller than its words, which are zeros
+  better-ahead : (d : Setting) (t : Table) (o : Option Record) → IsBest a o → better (recProblem d t) x o ≡ ahead
+  unfolding recProblem recSmaller ahead
+  better-ahead d t none (u, f, s) =
+      rw (u, f, s, none-before-zeros (x .first) (x .second), and-false (eqb (x .bound) aboveEveryCost), or-false (ltb (x .bound) aboveEveryCost)) refl
+  better-ahead d t (some y) (u, f, s) = rw (u, f, s) refl
+
+  pub learn-keeps : (d : Setting) → ahead ≡ false → Learnt d a (x ∷ []) a
   unfolding recProblem
-  learn-keeps e t o h = rw (upper-best d t a o h, le-ltb (x .bound) (a .upper) e) (go (eqb (x .size) (d .n)))
+  learn-keeps d e t o best = rw (better-ahead d t o best, e) (go (eqb (x .size) (d .n)))
     where
       go : (b : Bool) → IsBest a (replace (b && false) x o)
-      go true = h
-      go false = h
+      go true = best
+      go false = best
 
   pub learn-replaces :
-      x .size ≡ d .n → x .bound < a .upper → Learnt d a (x ∷ []) (record { upper = x .bound; first = x .first; second = x .second })
+      (d : Setting) → x .size ≡ d .n → ahead ≡ true
+      → Learnt d a (x ∷ []) (record { upper = x .bound; first = x .first; second = x .second })
   unfolding recProblem
-  learn-replaces e l t o h = rw (eq-eqb (x .size) (d .n) e, upper-best d t a o h, lt-ltb (x .bound) (a .upper) l) (refl, refl, refl)
+  learn-replaces d whole e t o best = rw (eq-eqb (x .size) (d .n) whole, better-ahead d t o best, e) (refl, refl, refl)
 
 learn-more :
     (d : Setting) (a b c : Best) (x : Record) (xs : List Record) → Learnt d a (x ∷ []) b → Learnt d b xs c → Learnt d a (x ∷ xs) c

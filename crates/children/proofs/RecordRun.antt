@@ -10,6 +10,7 @@ use Rattle.search.proofs.Mapped.{Maps}
 use Rattle.orders.specs.Orders.{Node, Partial, extend, setOf, left, mask, size, complete}
 use Rattle.orders.specs.Pairs.{ready, children}
 use Rattle.orders.proofs.Sets.{empty-set}
+use Rattle.orders.proofs.Tree.{complete-size}
 use Rattle.orders.proofs.Partial.{partial-root, partial-child, partial-size}
 use Rattle.orders.proofs.Pairs.{in-ready, kids-extend}
 use Rattle.days.specs.Days.{Day, problem, choices}
@@ -22,7 +23,7 @@ use Rattle.records.specs.Code.{encode}
 use Rattle.stops.proofs.SetBits.{stopsIn-all}
 use Rattle.records.proofs.Mask.{stops-left}
 use Rattle.records.proofs.Encode.{encode-last, encode-extend}
-use Rattle.records.proofs.EncodeLaws.{encode-child, encode-dominates}
+use Rattle.records.proofs.EncodeLaws.{encode-child, encode-smaller, encode-dominates}
 use Rattle.children.specs.Code.{Table, Rows, problemOf, choicesOf, encodeOf, restOf, pairsBy, bounded, bornOf, childOf, childrenOf, rootOf, recProblem, recChoices}
 use Rattle.children.specs.declared.setting.Setting.{Setting}
 
@@ -99,6 +100,7 @@ module _ {d : Setting} {t : Table} (rows : Rows d t) where
     complete = λ x p. refl;
     cost = λ x p whole. bound-exact walk k (rows .bound) x whole;
     dominates = λ w x p q. encode-dominates walk (place-last t) (rows .few) k w x p q;
+    smaller = λ w x p q whole also. encode-smaller n (rows .few) D k w x p q (complete-size n w whole ∙ sym (complete-size n x also));
     above = refl;
     selection = refl;
     rules = refl;

@@ -27,7 +27,7 @@ use Rattle.orders.specs.Orders.{Node, Partial}
 use Rattle.orders.specs.Pairs.{Pair, Pairing, ready}
 use Rattle.days.specs.Days.{problem, choices}
 use Rattle.stops.specs.Stops.{dayOn}
-use Rattle.stops.specs.Code.{emptyRecord, Wide, extended, lastStop, recDominates, stopsIn, reckonOn, Cheap}
+use Rattle.stops.specs.Code.{emptyRecord, Wide, extended, lastStop, recSmaller, recDominates, stopsIn, reckonOn, Cheap}
 use Rattle.stops.specs.declared.node_record.Record.{Record}
 use Rattle.pairs.specs.Code.{precedenceOf, pairsIn}
 use Rattle.records.specs.Code.{encode, inSlot}
@@ -106,6 +106,7 @@ recProblem d t = record {
   complete = λ x. eqb (x .size) (d .n);
   cost = λ x. x .bound;
   dominates = recDominates;
+  smaller = recSmaller;
   above = aboveEveryCost;
 }
 

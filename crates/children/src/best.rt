@@ -21,6 +21,7 @@ use sizes::ABOVE_EVERY_COST;
 use sizes::PLACES;
 use stops::cost::order_cost;
 use stops::node_record::Record;
+use stops::order_words::words_before;
 use stops::sets::later;
 use stops::sets::next;
 
@@ -31,20 +32,28 @@ pub struct Best {
     pub second: u32,
 }
 
-// The best order known after the complete child in a slot: the child's, if it costs less than U.
+// The best order known after the complete child in a slot: the child's, if it costs less than U, or the same and is the smaller (request A.8).
+// While none is known its words are zeros, and no order is smaller than these.
 fn better(best: Best, kids: &[u32], k: usize) -> Best
     requires { ⌜ k < length (records (now kids)) ⌝ }
     ensures { λ r. ⌜ ((d : Setting) → getD (records (now (kids .entry))) k emptyRecord .size ≡ d .n → Learnt d best (getD (records (now (kids .entry))) k emptyRecord ∷ []) r) ⌝ }
 {
-    if best.upper <= bound_at(kids, k) {
+    if best.upper < bound_at(kids, k) {
         return best;
     }
     let x = load(kids, k);
-    Best {
+    let child = Best {
         upper: x.bound,
         first: x.first,
         second: x.second,
+    };
+    if x.bound < best.upper {
+        return child;
     }
+    if words_before(x.first, x.second, best.first, best.second) {
+        return child;
+    }
+    best
 }
 
 // Part 2 of a step, over the children by the stops of `born`, which are all of one size.

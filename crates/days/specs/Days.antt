@@ -1,4 +1,4 @@
--- What a day reckons with, and the search for its cheapest order: document 01, "Nodes" and "One run"; document 02, A.6. The stops of a table are a day
+-- What a day reckons with, and the search for its cheapest order: document 01, "Nodes" and "One run"; document 02, A.6 and A.8. The stops of a table are a day
 -- (crate `stops`).
 use mathlib.Core.Path.{_≡_}
 use mathlib.Core.Bool.{Bool}
@@ -7,7 +7,7 @@ use mathlib.Core.Logic.{_⊎_}
 use Prim.Native.Nat.{ℕ}
 use Rattle.sizes.specs.Sizes.{aboveEveryCost}
 use Rattle.search.specs.Problem.{Problem, Choices}
-use Rattle.orders.specs.Orders.{Node, complete}
+use Rattle.orders.specs.Orders.{Node, smaller, complete}
 use Rattle.orders.specs.Pairs.{Pair, children}
 
 pub record Day : Type 0 where
@@ -33,6 +33,7 @@ problemBy kids n D = record {
   complete = complete n;
   cost = D .cost;
   dominates = D .dominates;
+  smaller = smaller;
   above = aboveEveryCost;
 }
 

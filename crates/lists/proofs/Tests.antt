@@ -3,7 +3,7 @@ use mathlib.Core.Path.{_≡_, refl, subst}
 use mathlib.Core.Bool.{Bool, true, false, not, _&&_, _||_, cond}
 use mathlib.Core.Logic.{_⊎_, inl, inr, _≢_}
 use Prim.Native.Nat.{ℕ, _≤_, _<_}
-use lib.Dec.{T, leb, eqb, leb→le, ltb→lt, nleb→lt, nltb→le, le→leb, lt→ltb, eqb→eq, eqb-refl, T-not, not-T}
+use lib.Dec.{T, leb, ltb, eqb, leb→le, ltb→lt, nleb→lt, nltb→le, le→leb, lt→ltb, eqb→eq, eqb-refl, T-not, not-T}
 
 -- `omega (arith, tests)` reads and proves T (leb a b), T (ltb a b), T (not (leb a b)), T (not (ltb a b)) and reads T (eqb a b)
 pub ruleset tests = (leb→le, ltb→lt, nleb→lt, nltb→le, le→leb, lt→ltb, eqb→eq)
@@ -104,3 +104,15 @@ ordered a b = go (either (leb a b))
     go : T (leb a b) ⊎ T (not (leb a b)) → (a ≤ b) ⊎ (b < a)
     go (inl h) = inl (leb→le a b h)
     go (inr h) = inr (nleb→lt a b h)
+
+-- of two numbers the lesser goes first and, of equal ones, what another test says
+pub tied-cases : (a b : ℕ) (c : Bool) → T (ltb a b || eqb a b && c) → (a < b) ⊎ ((a ≡ b) × T c)
+tied-cases a b c h = go (or-cases (ltb a b) (eqb a b && c) h)
+  where
+    go : T (ltb a b) ⊎ T (eqb a b && c) → (a < b) ⊎ ((a ≡ b) × T c)
+    go (inl k) = inl (ltb→lt a b k)
+    go (inr k) = inr (eqb→eq a b (and-left (eqb a b) c k), and-right (eqb a b) c k)
+
+pub cases-tied : (a b : ℕ) (c : Bool) → (a < b) ⊎ ((a ≡ b) × T c) → T (ltb a b || eqb a b && c)
+cases-tied a b c (inl k) = or-left (ltb a b) (eqb a b && c) (lt→ltb a b k)
+cases-tied a b c (inr (e, k)) = or-right (ltb a b) (eqb a b && c) (and-both (eqb a b) c (equal-eqb a b e) k)

@@ -1,4 +1,5 @@
 pub mod Sets
+pub mod Smaller
 pub mod Tree
 pub mod Partial
 pub mod Order

@@ -9,12 +9,11 @@ use native.Mathlib.Nat.{suc-mul}
 use native.Mathlib.Omega.{arith}
 use lib.Dec.{T, eqb, eqb→eq, eqb-refl}
 use lib.ListN.{length}
-use Rattle.lists.specs.Lists.{In, sum}
+use Rattle.lists.specs.Lists.{In, sum, same}
 use Rattle.lists.proofs.Tests.{to-true, to-false, ne-neqb, ordered}
 use Rattle.lists.proofs.Empty.{in-nonempty, no-members}
 use Rattle.lists.proofs.Numbers.{sum-same, sum-const, sum-map}
 use Rattle.search.specs.Problem.{Problem}
-use Rattle.search.specs.Selection.{empty}
 use Rattle.search.proofs.Laws.{Sized, Weighs}
 use Rattle.orders.specs.Orders.{Node, flown, left, last, size, complete, extend, extensions, nodes}
 use Rattle.orders.proofs.Sets.{left-in, size-left, last-of-some, size-extend, in-extensions}
@@ -42,11 +41,11 @@ last-flown n some [] whole =
 last-flown n some (s ∷ x) whole = last-of-some s x
 
 -- the same as a test
-pub complete-empty : (n : ℕ) (x : Node) → complete n x ≡ empty (left n x)
+pub complete-empty : (n : ℕ) (x : Node) → complete n x ≡ same (left n x) []
 unfolding complete
 complete-empty n x = go (left n x) (size-left n x)
   where
-    go : (rest : List ℕ) → size n x + length rest ≡ n → eqb (size n x) n ≡ empty rest
+    go : (rest : List ℕ) → size n x + length rest ≡ n → eqb (size n x) n ≡ same rest []
     go [] e = to-true (eqb (size n x) n) (let h : size n x ≡ n = omega arith in rw h (eqb-refl n))
     go (r ∷ rs) e = to-false (eqb (size n x) n) (ne-neqb (size n x) n (omega arith))
 

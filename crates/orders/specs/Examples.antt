@@ -3,7 +3,7 @@
 use mathlib.Core.Path.{_≡_, refl}
 use mathlib.Core.Bool.{true, false}
 use mathlib.Core.List.{List, [], _∷_}
-use Rattle.orders.specs.Orders.{Node, flown, setOf, left, mask, last, size, complete, extensions, count, isOrder, level, orders}
+use Rattle.orders.specs.Orders.{Node, flown, setOf, left, mask, last, smaller, size, complete, extensions, count, isOrder, level, orders}
 use Rattle.orders.specs.Pairs.{Pair, pairsOf, respects, ordersWith, waits, ready, children}
 
 -- stop 3, then stop 1, with every definition that the examples rest on open
@@ -49,6 +49,23 @@ an-order = refl
 twice-no-order : isOrder 3 (3 ∷ 1 ∷ 3 ∷ []) ≡ false
 unfolding node
 twice-no-order = refl
+
+-- COMPARISON STOP BY STOP (request A.8)
+
+-- where two orders first differ, the lesser stop decides, whatever is behind it
+first-difference : smaller (1 ∷ 2 ∷ 3 ∷ []) (1 ∷ 3 ∷ 2 ∷ []) ≡ true
+first-difference = refl
+
+first-stop-first : smaller (2 ∷ 1 ∷ []) (1 ∷ 2 ∷ []) ≡ false
+first-stop-first = refl
+
+not-itself : smaller node node ≡ false
+unfolding node
+not-itself = refl
+
+-- what ends goes before what goes on
+shorter-first : smaller (1 ∷ []) (1 ∷ 2 ∷ []) ≡ true
+shorter-first = refl
 
 -- PAIRS (request A.6)
 

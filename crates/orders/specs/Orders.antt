@@ -1,9 +1,9 @@
--- Orders and nodes: document 01, "Legs and orders" and "Nodes", as far as they need no leg.
+-- Orders and nodes: document 01, "Legs and orders" and "Nodes", as far as they need no leg; document 02, A.8.
 -- A node is a partial order: the list of its stops as they are flown. The empty one, e, is [].
-use mathlib.Core.Bool.{Bool, not, _&&_}
+use mathlib.Core.Bool.{Bool, true, false, not, _&&_, _||_}
 use mathlib.Core.List.{List, [], _∷_, _++_, map}
 use Prim.Native.Nat.{ℕ, zero, suc, _+_, _*_, _-_, _^_, _≤_}
-use lib.Dec.{eqb}
+use lib.Dec.{ltb, eqb}
 use lib.ListN.{length}
 use Rattle.lists.specs.Lists.{In, keep, any, all, sum, from, each, Distinct}
 
@@ -36,6 +36,13 @@ lastFrom place (s ∷ x) = lastFrom s x
 
 unfoldable pub last : Node → ℕ
 last x = lastFrom 0 x
+
+-- x is smaller than y in comparison stop by stop (request A.8): where they first differ, x has the lesser stop, or ends
+abbrev pub smaller : Node → Node → Bool
+smaller [] [] = false
+smaller [] (t ∷ y) = true
+smaller (s ∷ x) [] = false
+smaller (s ∷ x) (t ∷ y) = ltb s t || eqb s t && smaller x y
 
 -- how many stops of 1 to n it flies, and whether it flies all
 unfoldable pub size : ℕ → Node → ℕ

@@ -1,10 +1,11 @@
--- The letter's demands and requests A.3 to A.6 of what `plan` returns and leaves in the pool, from its promise alone: that is an equation with
+-- The letter's demands and requests A.3 to A.6 and A.8 of what `plan` returns and leaves in the pool, from its promise alone: that is an equation with
 -- `answer`, of which crate `answer` proves them.
 use Rattle.answer.specs.Demands.{EveryCallIsAnswered, EveryCallEnds, OneAnswer, RefusalsFixed, RunIsWritten, CountsBalance, FullIff, OneCost, CheapestOfAll, FavouredFinishes}
 use Rattle.answer.specs.Budget.{MarkedIff, StoppedAsWritten, OtherwiseZero, ExactBudget, WithinBudget, OrderOrZeros, NoDearerThanStart, FloorHolds, Between, LargerBudget, UnstoppedAsWithout, NoRunReaches}
 use Rattle.answer.specs.Charges.{OrderShownPays, CheapestByLegs}
 use Rattle.answer.specs.Away.{AnswersAway, CheapestWithoutLegHome, NoDearerAway, LegsHomeUnread}
 use Rattle.answer.specs.Pairs.{InSequence, RefusedAsByFive, SomeActive, SequencePlaysNoPart}
+use Rattle.answer.specs.Ties.{OneOrder, EqualStart}
 use Rattle.answer.specs.AsBefore.{NoPairsAsBefore, EndsHomeAsBefore, UnchargedByLegs, AsDocument01, AcceptedBefore}
 use Rattle.answer.specs.Document01.{FinishedIff, BranchedAreSteps, ContentsPlayNoPart}
 use Rattle.answer.proofs.Demand1.{call-answered, call-ends, one-answer, refusals-fixed}
@@ -16,8 +17,9 @@ use Rattle.answer.proofs.Budget.{marked-iff, stopped-as-written, otherwise-zero
 use Rattle.answer.proofs.BudgetPairs.{no-dearer-than-start, larger-budget, unstopped-as-without}
 use Rattle.answer.proofs.Charges.{order-shown-pays, cheapest-by-legs}
 use Rattle.answer.proofs.Away.{answers-away, cheapest-without-leg-home, no-dearer-away, legs-home-unread}
-use Rattle.answer.proofs.Tested.{some-active}
+use Rattle.answer.proofs.Active.{some-active}
 use Rattle.answer.proofs.Pairs.{in-sequence, refused-as-by-five, sequence-plays-no-part}
+use Rattle.answer.proofs.Ties.{one-order, equal-start}
 use Rattle.answer.proofs.AsBefore.{no-pairs-as-before, ends-home-as-before, uncharged-by-legs, as-document-01, accepted-before}
 use Rattle.planner.specs.Demands.{returned}
 
@@ -149,3 +151,10 @@ returned-as-document-01 = as-document-01
 
 pub returned-as-before : AcceptedBefore returned
 returned-as-before = accepted-before
+
+-- request A.8
+pub returned-one-order : OneOrder returned
+returned-one-order = one-order
+
+pub returned-equal-start : EqualStart returned
+returned-equal-start = equal-start

@@ -17,7 +17,7 @@ use lib.Seq.{take-suc-set, drop-length}
 use Rattle.lists.proofs.Tests.{and-right, or-left, or-right}
 use Rattle.search.specs.Problem.{upper, start}
 use Rattle.search.specs.Step.{on}
-use Rattle.search.proofs.Cover.{good-bound, root-good}
+use Rattle.search.proofs.Cover.{root-within as root-lawful}
 use Rattle.orders.specs.Pairs.{Allowed}
 use Rattle.stops.specs.declared.node_record.Record.{Record}
 use Rattle.records.specs.Code.{records}
@@ -187,8 +187,7 @@ module _ {d : Setting} {t : Table} (rows : Rows d t) (first : List ℕ) where
   pub root-within :
       (first ≡ []) ⊎ Allowed (d .n) (pairsBy d) first → choicesOf d t .bound (problemOf d t .root) ≤ upper (problemOf d t) (given first)
   root-within starts =
-      good-bound (setting-lawful rows) (setting-bounds rows) (upper (problemOf d t) (given first)) (problemOf d t .root)
-      (root-good (setting-solvable rows) (given first) (given-known rows first starts))
+      root-lawful (setting-lawful rows) (setting-bounds rows) (setting-solvable rows) (given first) (given-known rows first starts)
 
   its-size : rootOf d t ≡ sized (rootOf d t)
   unfolding sized

@@ -4,22 +4,21 @@
 -- b is the node that the selection picks, and rest are the other active ones. P and C are the problem and the choices of the run, Q and D
 -- the same on records, and S the state that the pool shows.
 use mathlib.Core.Path.{_≡_, refl, sym, _∙_, ap, subst}
-use mathlib.Core.Bool.{Bool, true, false, not, _&&_, _||_}
-use mathlib.Core.List.{List, [], _∷_, map}
+use mathlib.Core.Bool.{Bool, true, false}
+use mathlib.Core.List.{List, map}
 use mathlib.Core.Logic.{_≢_}
 use mathlib.Core.Option.{Option·map}
-use Prim.Native.Nat.{ℕ, suc, _+_, _*_, _^_, _≤_, _<_}
+use Prim.Native.Nat.{ℕ, _+_, _*_, _^_, _≤_, _<_}
 use native.Mathlib.Omega.{arith}
-use lib.Dec.{T, leb, ltb, eqb}
+use lib.Dec.{T, ltb, eqb}
 use lib.ListN.{length, length-map}
-use borrow.Author.Tests.{eq-eqb, ne-eqb, eqb-false, lt-ltb, le-ltb}
+use borrow.Author.Tests.{eqb-false, lt-ltb, le-ltb}
 use Rattle.sizes.specs.Sizes.{mostStops}
 use Rattle.lists.specs.Lists.{In}
 use Rattle.lists.proofs.Members.{in-map}
 use Rattle.lists.proofs.Empty.{in-nonempty}
-use Rattle.lists.proofs.Tests.{both-false}
 use Rattle.search.specs.Problem.{Problem, Choices, State, upper}
-use Rattle.search.specs.Selection.{chosen, selectBy, select, empty, finishes}
+use Rattle.search.specs.Selection.{chosen, selectBy, select, finishes}
 use Rattle.search.specs.Step.{on}
 use Rattle.search.specs.Run.{Next, finish, halt, overflow, go, unless, ifAllowed, fitting, decide, next}
 use Rattle.search.proofs.Plain.{tree, planOf, cutOf}
@@ -34,7 +33,7 @@ use Rattle.orders.proofs.Tree.{nodes-rise}
 use Rattle.stops.specs.declared.node_record.Record.{Record}
 use Rattle.records.specs.Code.{records}
 use Rattle.lanes.specs.Sizes.{blocks}
-use Rattle.lanes.proofs.LiveLaws.{in-live, others-few}
+use Rattle.lanes.proofs.LiveLaws.{in-live}
 use Rattle.blocks.specs.Code.{Blocked}
 use Rattle.selection.specs.Code.{Chosen}
 use Rattle.answer.specs.Answer.{given}
@@ -75,11 +74,6 @@ module _ {N M : Type 0} (f : N → M) where
   unmap-go halt s′ e = absurd (let z : _≡_ {A = ℕ} 0 1 = cc in omega arith)
   unmap-go overflow s′ e = absurd (let z : _≡_ {A = ℕ} 0 1 = cc in omega arith)
   unmap-go (go s) s′ e = (s, refl, cc)
-
--- b is the only one of m if there are no others
-alone : {A : Type 0} (xs : List A) (m : ℕ) → m ≡ suc (length xs) → empty xs ≡ eqb m 1
-alone [] m e = sym (eq-eqb m 1 e)
-alone (x ∷ xs) m e = sym (ne-eqb m 1 (λ h. omega arith))
 
 module _
     {d : Setting} {t : Table} {first w index : List ℕ} {r : Run} {s : State Node} (running : Running d t first w index r s)
@@ -210,21 +204,13 @@ module _
           subst (λ (xs : List Record). selectBy Q (λ x. x .bound) (d .selection) xs ≡ chosen b rest) (running .shows .active)
           (picked .picks Q (λ x. refl))
 
-      -- the finish test of the code on a record, as far as it looks at the bound, and whole
-      abbrev dear : Record → Bool
-      dear x = leb (r .best .upper) (x .bound) && (not (eqb (d .selection) 2 || eqb (d .selection) 3) || eqb (r .layout .active) 1)
-
+      -- the finish test of the code on a record
       abbrev ends : Record → Bool
-      ends x = dear x || eqb (x .size) (d .n)
+      ends x = eqb (x .size) (d .n)
 
-      shown-finishes : finishes Q D (S .best) b rest ≡ ends b
-      unfolding finishes recProblem recChoices
-      shown-finishes =
-          rw (
-            upper-best d t (r .best) (S .best) (running .shows .best),
-            alone rest (r .layout .active)
-                (count-same ∙ sym (others-few (records w) used used-inside i (picked .inside) (picked .live))),
-          )
+      shown-finishes : finishes Q b ≡ ends b
+      unfolding finishes recProblem
+      shown-finishes = refl
 
       shown-next : next Q D capacity S ≡ unless (ends b) (ifAllowed (ltb (r .branched) (d .budget)) (fitting Q D capacity (stepOf d t b rest S)))
       unfolding next decide stepOf recChoices
@@ -254,7 +240,7 @@ module _
             live = picked .live;
             encoded = chosen-encoded;
             partial =
-                let unlike : b .size ≢ d .n = eqb-false (b .size) (d .n) (both-false (dear b) (eqb (b .size) (d .n)) goes-on .1) in
+                let unlike : b .size ≢ d .n = eqb-false (b .size) (d .n) goes-on in
                 omega (arith, chosen-small);
             tidy = shown-tidy;
             unheld = λ off.

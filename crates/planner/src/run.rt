@@ -1,10 +1,10 @@
 // The run: one turn after another until the finish test ends it, the budget is spent or the pool is full.
 ghost use mathlib.Core.Path.{_≡_};
-ghost use mathlib.Core.Bool.{false, not, _&&_, _||_};
+ghost use mathlib.Core.Bool.{false};
 ghost use mathlib.Core.List.{List, []};
 ghost use mathlib.Core.Logic.{_⊎_};
 ghost use Prim.Native.Nat.{ℕ, _≤_};
-ghost use lib.Dec.{leb, eqb};
+ghost use lib.Dec.{eqb};
 ghost use lib.ListN.{length};
 ghost use Rattle.sizes.specs.Sizes.{mostStops};
 ghost use Rattle.search.specs.Problem.{State, start};
@@ -67,21 +67,11 @@ pub enum Turn {
     Go(Run),
 }
 
-// The finish test, on the chosen node.
-fn finishes(setting: Setting, b: Record, upper: u32, active: usize) -> bool
-    requires { ⌜ setting .selection ≤ 3 ⌝ }
-    ensures { λ r. ⌜ r ≡ (leb upper (b .bound) && (not (eqb (setting .selection) 2 || eqb (setting .selection) 3) || eqb active 1) || eqb (b .size) (setting .n)) ⌝ }
+// The finish test, on the chosen node: it is complete, a node of all n stops (request A.8).
+fn finishes(n: u32, b: Record) -> bool
+    ensures { λ r. ⌜ r ≡ eqb (b .size) n ⌝ }
 {
-    if b.size == setting.n {
-        return true;
-    }
-    if b.bound < upper {
-        return false;
-    }
-    if setting.selection < 2 {
-        return true;
-    }
-    active == 1
+    b.size == n
 }
 
 // The turn of the node at i, which the selection picked: the finish test, the budget, the step. `kids` has the slots for its children.
@@ -98,9 +88,7 @@ fn turn_at(
     ensures { λ q. ⌜ ((first : List ℕ) (s : State Node) → Running setting t first (now (w .entry)) (now (index .entry)) r s → Turned setting t (now (w .entry)) (now (w .exit)) (now (index .exit)) s q) ⌝ }
 {
     let b = sized_at(w, i);
-    let best = r.best;
-    let p = r.layout;
-    if finishes(setting, b, best.upper, p.active) {
+    if finishes(setting.n, b) {
         return Turn::Finish;
     }
     if setting.budget <= r.branched {

@@ -69,7 +69,7 @@ module _ (n : ℕ) (few : n ≤ mostStops) (x : Node) (p : Partial n x) where
   pub partial-digits : Digits x
   partial-digits s m = let h : (1 ≤ s) × (s ≤ n) = p .only s m in omega arith
 
-  partial-short : length x ≤ mostStops
+  pub partial-short : length x ≤ mostStops
   partial-short = omega (arith, partial-size n x p, size-left n x)
 
 module _ (n : ℕ) (few : n ≤ mostStops) (D : Day) (k : ℕ) (x : Node) (p : Partial n x) where

@@ -2,6 +2,7 @@ pub mod ViewLaws
 pub mod SiftLaws
 pub mod SlotLaws
 pub mod OrderWords
+pub mod SmallerWords
 pub mod Mask
 pub mod Encode
 pub mod OrderStops

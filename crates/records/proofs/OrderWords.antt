@@ -4,11 +4,10 @@
 --   first-digit, second-digit      the stops can be read back
 --   stop-range, stop-read          the stop at a place is one that a digit can hold, and a node's own
 --   first-extend, second-extend    one stop more is one digit more, in the second word once the first is full
---   orders-equal                   nodes of one length with the same words are one node
 -- Each is shown of one word (`word-..`) and then of both.
-use mathlib.Core.Path.{_≡_, refl, ap, ap₂, sym, _∙_, subst}
+use mathlib.Core.Path.{_≡_, refl, ap, sym, _∙_, subst}
 use mathlib.Core.Bool.{Bool, true, false, cond}
-use mathlib.Core.List.{[], _∷_, _++_, List·Memᴰ·tail, Memᴰ·append-left, Memᴰ·append-right}
+use mathlib.Core.List.{[], _∷_, List·Memᴰ·tail, Memᴰ·append-left, Memᴰ·append-right}
 use mathlib.Core.Logic.{_⊎_, inl, inr}
 use Prim.Native.Nat.{ℕ, zero, suc, _+_, _*_, _-_, _^_, _/_, _%_, _≤_, _<_, min}
 use native.Mathlib.Nat.{pow-suc, pow-succ', pow-le-pow-right, div-div-eq-div-mul, mul-assoc, mul-comm}
@@ -16,7 +15,7 @@ use native.Mathlib.Omega.{arith}
 use borrow.Author.Tests.{lt-ltb, le-ltb}
 use lib.Dec.{ltb}
 use lib.ListN.{length, getD, take, drop, length-append, length-take, length-drop, take-append-drop, drop-of-length-le}
-use lib.Seq.{ext-getD, getD-take, getD-drop, take-all, take-append-le, drop-append-le}
+use lib.Seq.{getD-take, getD-drop, take-all, take-append-le, drop-append-le}
 use Rattle.sizes.specs.Sizes.{stopBase, wordStops}
 use Rattle.lists.specs.Lists.{In}
 use Rattle.lists.proofs.Members.{in-head}
@@ -50,11 +49,6 @@ word-digit (s ∷ x) d (suc i) h =
     ap (λ (m : ℕ). w / m) (pow-succ' stopBase i) ∙ sym (div-div-eq-div-mul w stopBase (stopBase ^ i)) ∙ ap (λ (m : ℕ). m / stopBase ^ i) e in
     ap (λ (m : ℕ). m % stopBase + 1) f ∙ word-digit x (λ r j. d r (List·Memᴰ·tail j)) i (omega arith)
 
-word-equal : (w x : Node) → Digits w → Digits x → length w ≡ length x → orderWord w ≡ orderWord x → w ≡ x
-word-equal w x d e l h =
-    ext-getD 0 w x l
-    (λ i k. sym (word-digit w d i k) ∙ ap (λ (m : ℕ). m / stopBase ^ i % stopBase + 1) h ∙ word-digit x e i (omega arith))
-
 word-extend : (x : Node) (s : ℕ) → orderWord (extend x s) ≡ orderWord x + (s - 1) * stopBase ^ length x
 word-extend [] s = omega arith
 word-extend (r ∷ x) s =
@@ -67,7 +61,7 @@ word-extend (r ∷ x) s =
 digits-take : (k : ℕ) (x : Node) → Digits x → Digits (take k x)
 digits-take k x d s i = d s (subst (λ (l : Node). In s l) (take-append-drop k x) (Memᴰ·append-left {s = take k x} (drop k x) i))
 
-digits-drop : (k : ℕ) (x : Node) → Digits x → Digits (drop k x)
+pub digits-drop : (k : ℕ) (x : Node) → Digits x → Digits (drop k x)
 digits-drop k x d s i = d s (subst (λ (l : Node). In s l) (take-append-drop k x) (Memᴰ·append-right (take k x) i))
 
 module _ (x : Node) (d : Digits x) where
@@ -133,13 +127,3 @@ second-extend x s = go (ordered wordStops (length x))
           drop-of-length-le (extend x s) {i = wordStops} (omega (arith, length-append x (s ∷ []))),
           drop-of-length-le x {i = wordStops} (omega arith),
         ) refl
-
-pub orders-equal :
-    (w x : Node) → Digits w → Digits x → length w ≡ length x
-    → orderWord (take wordStops w) ≡ orderWord (take wordStops x) → orderWord (drop wordStops w) ≡ orderWord (drop wordStops x) → w ≡ x
-orders-equal w x d e l h k =
-    sym (take-append-drop wordStops w)
-    ∙ ap₂ (λ (a b : Node). a ++ b)
-    (word-equal (take wordStops w) (take wordStops x) (digits-take wordStops w d) (digits-take wordStops x e) (omega (arith, length-take wordStops w, length-take wordStops x)) h)
-    (word-equal (drop wordStops w) (drop wordStops x) (digits-drop wordStops w d) (digits-drop wordStops x e) (omega (arith, length-drop wordStops w, length-drop wordStops x)) k)
-    ∙ take-append-drop wordStops x

@@ -8,8 +8,8 @@
 --   least-never-falls                the least bound among active nodes does not fall
 --   larger-same                      a run that is not stopped ends the same under a larger budget
 --   stopped-after                    the state at which a larger budget stops comes after every state of the run with the smaller one
-use mathlib.Core.Path.{_≡_, refl, sym, _∙_, subst}
-use mathlib.Core.Bool.{Bool, true, false, _&&_}
+use mathlib.Core.Path.{_≡_, refl, ap, sym, _∙_, subst}
+use mathlib.Core.Bool.{Bool, true, false}
 use mathlib.Core.List.{List, [], _∷_, List·Memᴰ·not-nil}
 use mathlib.Core.Logic.{_⊎_, inl, inr}
 use mathlib.Core.Option.{Option, some}
@@ -20,14 +20,15 @@ use lib.ListN.{length, length-append}
 use Rattle.lists.specs.Lists.{In, least}
 use Rattle.lists.proofs.Tests.{tests, ordered}
 use Rattle.lists.proofs.Numbers.{least-le, least-in}
-use Rattle.search.specs.Problem.{Problem, Choices, State, start}
+use Rattle.search.specs.Problem.{Problem, Choices, State, upper, start}
 use Rattle.search.specs.Selection.{Choice, nothing, chosen, select, finishes}
-use Rattle.search.specs.Step.{replace, learn, children₁, best₂, over₃, children₃, rest₃, dominated₄, children₄, dominated₅, children₅, dominated₆, rest₆, active₇, step}
+use Rattle.search.specs.Step.{children₁, best₂, over₃, children₃, rest₃, dominated₄, children₄, dominated₅, children₅, dominated₆, rest₆, active₇, step}
 use Rattle.search.specs.Run.{Next, finish, halt, overflow, go, stopped, unless, ifAllowed, fitting, decide, next, follow, run, Stepped, Steps, none, more, Halts}
 use Rattle.search.proofs.General.{move}
 use Rattle.search.proofs.Pick.{Picked, picked-of, picked-in, rest-in}
 use Rattle.search.proofs.Verdict.{reached-keeps}
-use Rattle.search.proofs.Learn.{learn-le}
+use Rattle.search.proofs.Values.{better-cost}
+use Rattle.search.proofs.Learn.{learn-keeps}
 use Rattle.search.proofs.Move.{next-active}
 use Rattle.search.proofs.PlainSelection.{select-is-pick}
 use Rattle.search.proofs.Plain.{tree, planOf, cutOf}
@@ -35,15 +36,6 @@ use Rattle.search.proofs.Outcome.{steps-reached}
 
 abbrev pub withBudget : {N : Type 0} → Choices N → ℕ → Choices N
 withBudget C k = record { selection = C .selection; rules = C .rules; bound = C .bound; budget = k }
-
--- where an order is known, one is known after some children
-learn-keeps : {N : Type 0} (P : Problem N) (x : N) (cs : List N) → (y : N) × (learn P (some x) cs ≡ some y)
-learn-keeps P x [] = (x, refl)
-learn-keeps {N} P x (c ∷ cs) = at (P .complete c && ltb (P .cost c) (P .cost x)) (λ z. learn-keeps P z cs)
-  where
-    at : (b : Bool) → ((z : N) → (y : N) × (learn P (some z) cs ≡ some y)) → (y : N) × (learn P (replace b c (some x)) cs ≡ some y)
-    at true again = again c
-    at false again = again x
 
 module _ {N : Type 0} (P : Problem N) (C : Choices N) (capacity : ℕ) where
   pub stepped-adds : {s s′ : State N} → Stepped P C capacity s s′ → length (s′ .branched) ≡ suc (length (s .branched))
@@ -67,11 +59,11 @@ module _ {N : Type 0} (P : Problem N) (C : Choices N) (capacity : ℕ) where
       {s e : State N} → Steps P C capacity s e → (x : N) → s .best ≡ some x → (y : N) × (e .best ≡ some y) × (P .cost y ≤ P .cost x)
   unfolding step best₂ children₁
   best-never-dearer none x q = (x, q, omega arith)
-  best-never-dearer (more r h) x q =
-      let (y, known, low) = best-never-dearer r x q in
-      let (z, now) = learn-keeps P y (P .children (h .b)) in
-      let lower : P .cost z ≤ P .cost y = rw now at (learn-le P (some y) (P .children (h .b))) in
-      (z, cc, omega arith)
+  best-never-dearer (more {s′} r h) x q =
+      rw (h .steps)
+      (learn-keeps P (λ o. (y : N) × (o ≡ some y) × (P .cost y ≤ P .cost x)) (s′ .best) (P .children (h .b)) (best-never-dearer r x q)
+      (λ o c m whole first h.
+      (let k : upper P o ≡ P .cost (h .0) = ap (upper P) (h .1) in (c, refl, omega (arith, better-cost P c o first)))))
 
   module _ (known : C .selection ≤ 3) where
     pub halts-active : {e : State N} (h : Halts P C capacity e) → In (h .b) (e .active)
@@ -132,7 +124,7 @@ module _ {N : Type 0} (P : Problem N) (C : Choices N) (capacity k : ℕ) where
       at nothing = inr refl
       at (chosen b rest) =
           rw step-same
-          (cases (finishes P C (s .best) b rest) (ltb (length (s .branched)) (C .budget)) (ltb (length (s .branched)) k) (λ h. omega (arith, tests)))
+          (cases (finishes P b) (ltb (length (s .branched)) (C .budget)) (ltb (length (s .branched)) k) (λ h. omega (arith, tests)))
         where
           after : Next N
           after = fitting P C capacity (step P C s b rest)

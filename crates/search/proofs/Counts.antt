@@ -8,9 +8,9 @@ use Prim.Native.Nat.{ℕ, suc, _+_, _≤_}
 use native.Mathlib.Omega.{arith}
 use lib.ListN.{length, length-append}
 use Rattle.lists.proofs.Numbers.{keep-parts}
-use Rattle.search.specs.Problem.{State, start}
+use Rattle.search.specs.Problem.{State, upper, start}
 use Rattle.search.specs.Step.{lost}
-use Rattle.search.proofs.General.{Tree, Plan, Cut, taken, cap, over, kids, learnt, kids₃, others₃, kids₄, kids₅, others₆, move, Reached}
+use Rattle.search.proofs.General.{Tree, Plan, Cut, taken, over, kids, learnt, kids₃, others₃, kids₄, kids₅, others₆, move, Reached}
 use Rattle.search.proofs.Laws.{Adds}
 use Rattle.search.proofs.Pick.{picked-of, picked-length}
 use Rattle.search.proofs.Verdict.{reached-keeps}
@@ -44,7 +44,7 @@ module _ {N : Type 0} (t : Tree N) (p : Plan N) (c : Cut N) (adds : Adds t) wher
   }
     where
       rule1 : N → Bool
-      rule1 = over t p c (cap t p c (learnt t p c s b rest))
+      rule1 = over c (upper (t .problem) (learnt t p c s b rest))
 
       rule2 : N → Bool
       rule2 = taken (t .problem) (p .rule2) (others₃ t p c s b rest)

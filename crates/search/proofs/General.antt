@@ -1,13 +1,12 @@
 -- The run in the form that the theory uses. specs/ has the run that document 01 writes; `Plain` shows that it is this one.
---   Tree    what is searched: a problem, with `price` and `withDead`
+--   Tree    what is searched: a problem, with `withDead`
 --   Plan    what compared jobs share: one selection by rank with a side, and the dominance rules
 --   Cut     what compared jobs may differ in: rule 1, the bound, the budget
--- `allows` is the budget of document 02, A.3: whether another branching is allowed after so many. The places for later requests: `price`
--- and `early` (A.8: what a bound is held against; a bound can end the run at all), `withDead` (A.9: a count with the dead children of b
--- added), `children` (A.6). As yet the price of a cost is the cost, a bound can end the run, and there are no dead children.
+-- `allows` is the budget of document 02, A.3: whether another branching is allowed after so many. The places for later requests: `withDead`
+-- (A.9: a count with the dead children of b added), `children` (A.6). As yet there are no dead children.
 -- Definitions only; laws are in `Laws`.
 use mathlib.Core.Path.{_≡_}
-use mathlib.Core.Bool.{Bool, true, false, not, _&&_, _||_, cond}
+use mathlib.Core.Bool.{Bool, true, false, _&&_, cond}
 use mathlib.Core.List.{List, [], _∷_, _++_}
 use mathlib.Core.Option.{Option}
 use Prim.Native.Nat.{ℕ, zero, suc, _+_, max}
@@ -15,24 +14,19 @@ use lib.Dec.{leb, ltb}
 use lib.ListN.{length}
 use Rattle.lists.specs.Lists.{any}
 use Rattle.search.specs.Problem.{Problem, State, upper}
-use Rattle.search.specs.Selection.{Choice, nothing, chosen, empty}
+use Rattle.search.specs.Selection.{Choice, nothing, chosen}
 use Rattle.search.specs.Step.{survivors, lost, learn}
 use Rattle.search.specs.Run.{withBranched}
 use Rattle.search.specs.Examples
 
 pub record Tree (N : Type 0) : Type 0 where
   pub problem : Problem N
-  pub price : ℕ → ℕ
   pub withDead : N → ℕ → ℕ
 
 pub record Plan (N : Type 0) : Type 0 where
   -- the node of least rank is chosen: the latest of them, or the earliest
   pub late : Bool
   pub rank : N → ℕ
-  -- a bound ends the run only at the last active node
-  pub lone : Bool
-  -- a bound can end the run
-  pub early : Bool
   pub rule2 : Bool
   pub rule4 : Bool
   pub rule8 : Bool
@@ -62,52 +56,45 @@ pick late rank (x ∷ xs) = against late rank x xs (pick late rank xs)
 unfoldable pub taken : {N : Type 0} → Problem N → Bool → List N → N → Bool
 taken P rule ws x = rule && any (λ w. P .dominates w x) ws
 
-module _ {N : Type 0} (t : Tree N) (p : Plan N) (c : Cut N) where
-  unfoldable pub cap : Option N → ℕ
-  cap best = t .price (upper (t .problem) best)
+-- x is thrown out by rule 1 at the upper cost u
+unfoldable pub over : {N : Type 0} → Cut N → ℕ → N → Bool
+over c u x = c .rule1 && ltb u (c .bound x)
 
-  -- x is thrown out by rule 1 at the price u
-  unfoldable pub over : ℕ → N → Bool
-  over u x = c .rule1 && ltb u (c .bound x)
+module _ {N : Type 0} (t : Tree N) (p : Plan N) (c : Cut N) (s : State N) (b : N) (rest : List N) where
+  unfoldable pub kids : List N
+  kids = t .problem .children b
 
-  module _ (s : State N) (b : N) (rest : List N) where
-    unfoldable pub kids : List N
-    kids = t .problem .children b
+  unfoldable pub learnt : Option N
+  learnt = learn (t .problem) (s .best) kids
 
-    unfoldable pub learnt : Option N
-    learnt = learn (t .problem) (s .best) kids
+  unfoldable pub kids₃ : List N
+  kids₃ = survivors (over c (upper (t .problem) learnt)) kids
 
-    unfoldable pub kids₃ : List N
-    kids₃ = survivors (over (cap learnt)) kids
+  unfoldable pub others₃ : List N
+  others₃ = survivors (over c (upper (t .problem) learnt)) rest
 
-    unfoldable pub others₃ : List N
-    others₃ = survivors (over (cap learnt)) rest
+  unfoldable pub kids₄ : List N
+  kids₄ = survivors (taken (t .problem) (p .rule2) others₃) kids₃
 
-    unfoldable pub kids₄ : List N
-    kids₄ = survivors (taken (t .problem) (p .rule2) others₃) kids₃
+  unfoldable pub kids₅ : List N
+  kids₅ = survivors (taken (t .problem) (p .rule4) (s .branched)) kids₄
 
-    unfoldable pub kids₅ : List N
-    kids₅ = survivors (taken (t .problem) (p .rule4) (s .branched)) kids₄
+  unfoldable pub others₆ : List N
+  others₆ = survivors (taken (t .problem) (p .rule8) kids₅) others₃
 
-    unfoldable pub others₆ : List N
-    others₆ = survivors (taken (t .problem) (p .rule8) kids₅) others₃
-
-    unfoldable pub move : State N
-    move = record {
-      active = others₆ ++ kids₅;
-      branched = s .branched ++ (b ∷ []);
-      best = learnt;
-      generated = t .withDead b (s .generated + length kids);
-      eliminated =
-          t .withDead b
-          (s .eliminated + lost (over (cap learnt)) kids + lost (over (cap learnt)) rest
-          + lost (taken (t .problem) (p .rule2) others₃) kids₃ + lost (taken (t .problem) (p .rule4) (s .branched)) kids₄
-          + lost (taken (t .problem) (p .rule8) kids₅) others₃);
-      most = max (s .most) (length (others₆ ++ kids₅));
-    }
-
-    unfoldable pub ends : Bool
-    ends = p .early && leb (cap (s .best)) (c .bound b) && (not (p .lone) || empty rest) || t .problem .complete b
+  unfoldable pub move : State N
+  move = record {
+    active = others₆ ++ kids₅;
+    branched = s .branched ++ (b ∷ []);
+    best = learnt;
+    generated = t .withDead b (s .generated + length kids);
+    eliminated =
+        t .withDead b
+        (s .eliminated + lost (over c (upper (t .problem) learnt)) kids + lost (over c (upper (t .problem) learnt)) rest
+        + lost (taken (t .problem) (p .rule2) others₃) kids₃ + lost (taken (t .problem) (p .rule4) (s .branched)) kids₄
+        + lost (taken (t .problem) (p .rule8) kids₅) others₃);
+    most = max (s .most) (length (others₆ ++ kids₅));
+  }
 
 pub data Verdict (N : Type 0) : Type 0 where
   stop : Verdict N
@@ -142,7 +129,7 @@ module _ {N : Type 0} (t : Tree N) (p : Plan N) (c : Cut N) (pool : ℕ) where
   unfoldable pub verdictOn : State N → Choice N → Verdict N
   verdictOn s nothing = stop
   verdictOn s (chosen b rest) =
-      stopIf (ends t p c s b rest)
+      stopIf (t .problem .complete b)
       (allowedIf (c .allows (length (s .branched)))
       (refuseIf (ltb pool (length (kept (move t p c s b rest)))) (move t p c s b rest)))
 

@@ -1,6 +1,6 @@
--- What the theory asks of a tree, a selection and a bound. Statements only.
+-- What the theory asks of a tree, a selection and a bound, and how what is known is ordered (request A.8). Statements only.
 use mathlib.Core.Path.{_≡_}
-use mathlib.Core.Bool.{false, not}
+use mathlib.Core.Bool.{false}
 use mathlib.Core.Logic.{_⊎_}
 use mathlib.Core.Option.{Option, none, some}
 use Prim.Native.Nat.{ℕ, suc, _+_, _≤_, _<_}
@@ -9,17 +9,30 @@ use Rattle.lists.specs.Lists.{In, sum}
 use Rattle.search.specs.Problem.{Problem}
 use Rattle.search.proofs.General.{Tree, Plan}
 
+-- What is known, in order: the cheaper first and, of equal costs, the smaller order. "None" is worth `above`, and goes before an order of
+-- that cost, so that the written test while none is known, "cheaper than U", is the same test.
+abbrev pub Le : {N : Type 0} → Problem N → Option N → Option N → Type 0
+Le P none none = Unit {0}
+Le P none (some y) = P .above ≤ P .cost y
+Le P (some x) none = P .cost x < P .above
+Le P (some x) (some y) = (P .cost x ≤ P .cost y) × (P .cost x ≡ P .cost y → T (P .smaller y x) → ⊥)
+
+-- What the comparison of orders must be: one-way, and of x, y and z, none of which is smaller than the one before it, z is not smaller than x.
+pub record Ties {N : Type 0} (P : Problem N) : Type 0 where
+  pub one-way : (x y : N) → T (P .smaller x y) → T (P .smaller y x) → ⊥
+  pub through : (x y z : N) → (T (P .smaller y x) → ⊥) → (T (P .smaller z y) → ⊥) → T (P .smaller z x) → ⊥
+
 -- y is reached from x by children
 pub data Leads {N : Type 0} (P : Problem N) : N → N → Type 0 where
   stay : {x : N} → Leads P x x
   down : {x c y : N} → In c (P .children x) → Leads P c y → Leads P x y
 
--- some complete node reached from x costs at most v
-pub record Good {N : Type 0} (P : Problem N) (v : ℕ) (x : N) : Type 0 where
+-- some complete node reached from x is no dearer than what v knows and, where it costs the same, no larger
+pub record Good {N : Type 0} (P : Problem N) (v : Option N) (x : N) : Type 0 where
   pub leaf : N
   pub leads : Leads P x leaf
   pub whole : T (P .complete leaf)
-  pub cheap : P .cost leaf ≤ v
+  pub cheap : Le P (some leaf) v
 
 -- Sizes rise by one from a node to its children, up to a limit at which just the complete nodes stand.
 pub record Sized {N : Type 0} (P : Problem N) (size : N → ℕ) (limit : ℕ) : Type 0 where
@@ -31,36 +44,26 @@ pub record Sized {N : Type 0} (P : Problem N) (size : N → ℕ) (limit : ℕ) :
 pub record Lawful {N : Type 0} (t : Tree N) (size : N → ℕ) (limit : ℕ) : Type 0 where
   pub sized : Sized (t .problem) size limit
   pub unfinished : T (t .problem .complete (t .problem .root)) → ⊥
-  -- dominance is sound: what is good in x is as good in what dominates x
-  pub swap : (v : ℕ) (w x : N) → T (t .problem .dominates w x) → Good (t .problem) v x → Good (t .problem) v w
+  pub ties : Ties (t .problem)
+  -- dominance is sound: what is good in x is as good in what dominates x, where both are nodes of the tree
+  pub swap :
+      (v : Option N) (w x : N) → Leads (t .problem) (t .problem .root) w → Leads (t .problem) (t .problem .root) x
+      → T (t .problem .dominates w x) → Good (t .problem) v x → Good (t .problem) v w
   pub trans : (w x y : N) → T (t .problem .dominates w x) → T (t .problem .dominates x y) → (w ≡ y) ⊎ T (t .problem .dominates w y)
   pub level : (w x : N) → T (t .problem .dominates w x) → size x ≤ size w
-  -- the price rises with the cost
-  pub rises : (u v : ℕ) → u ≤ v → t .price u ≤ t .price v
 
 pub record BoundLaws {N : Type 0} (t : Tree N) (bound : N → ℕ) : Type 0 where
   pub grows : (b c : N) → In c (t .problem .children b) → bound b ≤ bound c
-  pub exact : (x : N) → T (t .problem .complete x) → bound x ≡ t .price (t .problem .cost x)
+  pub exact : (x : N) → T (t .problem .complete x) → bound x ≡ t .problem .cost x
   pub fair : (w x : N) → T (t .problem .dominates w x) → bound w ≤ bound x
 
--- How a selection lets a run end at a complete node b.
+-- How a selection lets a run end at a complete node b: every active node is then complete or has a greater bound.
 pub data Manner {N : Type 0} (t : Tree N) (p : Plan N) (bound : N → ℕ) : Type 0 where
-  -- least bound: b's cost is at most any v that the bound of an incomplete active node allows
-  least :
-      T (not (p .lone))
-      → ((x y : N) → p .rank x ≤ p .rank y → bound x ≤ bound y)
-      → ((b x : N) (v : ℕ) → T (t .problem .complete b) → (T (t .problem .complete x) → ⊥) → p .rank b ≤ p .rank x
-      → bound x ≤ t .price v → t .problem .cost b ≤ v)
-      → Manner t p bound
-  -- LIFO: a complete node is chosen only if all are
-  stack :
-      T (p .lone) → ((b x : N) → T (t .problem .complete b) → p .rank b ≤ p .rank x → T (t .problem .complete x)) → Manner t p bound
+  -- the ranks say so: under a least bound an incomplete node goes before a complete one of its bound, under LIFO before every complete one
+  ranked :
+      ((b x : N) → T (t .problem .complete b) → p .rank b ≤ p .rank x → T (t .problem .complete x) ⊎ (bound b < bound x)) → Manner t p bound
   -- FIFO: the earliest is chosen
-  queue : T (p .lone) → p .late ≡ false → ((x y : N) → p .rank x ≡ p .rank y) → Manner t p bound
-
--- Where a bound can end a run, costs of one price are equal.
-abbrev pub Strict : {N : Type 0} → Tree N → Plan N → Type 0
-Strict t p = T (p .early) → (u v : ℕ) → t .price u ≤ t .price v → u ≤ v
+  queue : p .late ≡ false → ((x y : N) → p .rank x ≡ p .rank y) → Manner t p bound
 
 -- A node weighs more than its children together: each step makes the active nodes lighter.
 abbrev pub Weighs : {N : Type 0} → Problem N → (N → ℕ) → Type 0

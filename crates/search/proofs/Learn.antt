@@ -1,71 +1,72 @@
--- Laws of `learn`, the search of the children for a cheaper complete node: the upper cost never rises, no complete child is cheaper
--- than it afterwards, and what is known stays a complete node of the tree.
+-- Laws of `learn`, the search of the children for a complete node that goes before the best order known (request A.8).
+--   learn-keeps    what holds of the best order known, and of each complete child that takes its place, holds of what is learnt
+--   learn-le       what is learnt is what was known or goes before it
+--   learn-least    no complete child goes before what is learnt
+--   learn-known    what is known stays a complete node of the tree
 use mathlib.Core.Path.{_≡_}
 use mathlib.Core.Bool.{Bool, true, false, not, _&&_}
 use mathlib.Core.List.{List, [], _∷_, List·Memᴰ·tail, List·Memᴰ·cases-cons, List·Memᴰ·not-nil}
 use mathlib.Core.Logic.{_⊎_, inl, inr}
 use mathlib.Core.Option.{Option, some}
-use Prim.Native.Nat.{_≤_, _<_}
-use native.Mathlib.Omega.{arith}
-use lib.Dec.{T, ltb, ltb→lt, nltb→le}
+use lib.Dec.{T}
 use Rattle.lists.specs.Lists.{In}
+use Rattle.lists.proofs.Tests.{and-left, and-right}
 use Rattle.lists.proofs.Members.{in-head}
-use Rattle.search.specs.Problem.{Problem, upper}
-use Rattle.search.specs.Step.{replace, learn}
-use Rattle.search.proofs.Laws.{Leads, KnownIn, known}
+use Rattle.search.specs.Problem.{Problem}
+use Rattle.search.specs.Step.{better, replace, learn}
+use Rattle.search.proofs.Laws.{Le, Ties, Leads, KnownIn, known}
+use Rattle.search.proofs.Values.{better-le, not-better-le, le-refl, le-trans}
 
 module _ {N : Type 0} (P : Problem N) where
   -- what is known after the child c
   abbrev pub taught : Option N → N → Option N
-  taught best c = replace (P .complete c && ltb (P .cost c) (upper P best)) c best
+  taught best c = replace (P .complete c && better P c best) c best
 
-  taught-le : (best : Option N) (c : N) → upper P (taught best c) ≤ upper P best
-  taught-le best c = go (P .complete c) (ltb (P .cost c) (upper P best)) (ltb→lt (P .cost c) (upper P best))
+  -- by cases of the child: it takes the place of what is known, or does not
+  pub taught-cases :
+      (Q : Option N → Type 0) (best : Option N) (c : N) → (T (P .complete c) → T (better P c best) → Q (some c)) → Q best → Q (taught best c)
+  taught-cases Q best c new old =
+      go (P .complete c && better P c best)
+      (λ h. new (and-left (P .complete c) (better P c best) h) (and-right (P .complete c) (better P c best) h))
     where
-      go : (whole less : Bool) → (T less → P .cost c < upper P best) → upper P (replace (whole && less) c best) ≤ upper P best
-      go true true h = let k : P .cost c < upper P best = h tt in omega arith
-      go true false h = omega arith
-      go false less h = omega arith
+      go : (b : Bool) → (T b → Q (some c)) → Q (replace b c best)
+      go true h = h tt
+      go false h = old
 
-  taught-least : (best : Option N) (c : N) → T (P .complete c) → upper P (taught best c) ≤ P .cost c
-  taught-least best c whole = go (P .complete c) (ltb (P .cost c) (upper P best)) whole (nltb→le (P .cost c) (upper P best))
-    where
-      go :
-          (whole less : Bool) → T whole → (T (not less) → upper P best ≤ P .cost c) → upper P (replace (whole && less) c best) ≤ P .cost c
-      go true true w h = omega arith
-      go true false w h = h tt
-      go false less w h = absurd w
-
-  taught-known : (best : Option N) (c : N) → KnownIn P best → Leads P (P .root) c → KnownIn P (taught best c)
-  taught-known best c old leads = go (P .complete c) (ltb (P .cost c) (upper P best)) (λ h. known c h leads)
-    where
-      go : (whole less : Bool) → (T whole → KnownIn P (some c)) → KnownIn P (replace (whole && less) c best)
-      go true true new = new tt
-      go true false new = old
-      go false less new = old
-
-  pub learn-le : (best : Option N) (cs : List N) → upper P (learn P best cs) ≤ upper P best
-  learn-le best [] = omega arith
-  learn-le best (c ∷ cs) =
-      let later : upper P (learn P (taught best c) cs) ≤ upper P (taught best c) = learn-le (taught best c) cs in
-      let now : upper P (taught best c) ≤ upper P best = taught-le best c in
-      omega arith
-
-  pub learn-least : (best : Option N) (cs : List N) (c : N) → In c cs → T (P .complete c) → upper P (learn P best cs) ≤ P .cost c
-  learn-least best [] c m whole = absurd (List·Memᴰ·not-nil m)
-  learn-least best (d ∷ cs) c m whole = go (List·Memᴰ·cases-cons m) (λ k. learn-least (taught best d) cs c k whole)
-    where
-      go :
-          (c ≡ d) ⊎ In c cs → (In c cs → upper P (learn P (taught best d) cs) ≤ P .cost c)
-          → upper P (learn P (taught best d) cs) ≤ P .cost c
-      go (inl e) again =
-          let later : upper P (learn P (taught best d) cs) ≤ upper P (taught best d) = learn-le (taught best d) cs in
-          let now : upper P (taught best d) ≤ P .cost d = taught-least best d (rw (← e) whole) in
-          rw e (omega arith)
-      go (inr k) again = again k
+  pub learn-keeps :
+      (Q : Option N → Type 0) (best : Option N) (cs : List N) → Q best
+      → ((best : Option N) (c : N) → In c cs → T (P .complete c) → T (better P c best) → Q best → Q (some c)) → Q (learn P best cs)
+  learn-keeps Q best [] old new = old
+  learn-keeps Q best (c ∷ cs) old new =
+      learn-keeps Q (taught best c) cs (taught-cases Q best c (λ whole first. new best c in-head whole first old) old)
+      (λ best d m. new best d (List·Memᴰ·tail m))
 
   pub learn-known :
       (best : Option N) (cs : List N) → KnownIn P best → ((c : N) → In c cs → Leads P (P .root) c) → KnownIn P (learn P best cs)
-  learn-known best [] old leads = old
-  learn-known best (c ∷ cs) old leads =
-      learn-known (taught best c) cs (taught-known best c old (leads c in-head)) (λ d m. leads d (List·Memᴰ·tail m))
+  learn-known best cs old leads = learn-keeps (KnownIn P) best cs old (λ best c m whole first h. known c whole (leads c m))
+
+module _ {N : Type 0} {P : Problem N} (ties : Ties P) where
+  pub learn-le : (best : Option N) (cs : List N) → Le P (learn P best cs) best
+  learn-le best cs =
+      learn-keeps P (λ u. Le P u best) best cs (le-refl ties best)
+      (λ u c m whole first h. le-trans ties (some c) u best (better-le ties c u first) h)
+
+  taught-least : (best : Option N) (c : N) → T (P .complete c) → Le P (taught P best c) (some c)
+  taught-least best c whole = go (P .complete c) (better P c best) whole (not-better-le P c best)
+    where
+      go : (w b : Bool) → T w → (T (not b) → Le P best (some c)) → Le P (replace (w && b) c best) (some c)
+      go true true w h = le-refl ties (some c)
+      go true false w h = h tt
+      go false b w h = absurd w
+
+  pub learn-least : (best : Option N) (cs : List N) (c : N) → In c cs → T (P .complete c) → Le P (learn P best cs) (some c)
+  learn-least best [] c m whole = absurd (List·Memᴰ·not-nil m)
+  learn-least best (d ∷ cs) c m whole = go (List·Memᴰ·cases-cons m) (λ k. learn-least (taught P best d) cs c k whole)
+    where
+      go :
+          (c ≡ d) ⊎ In c cs → (In c cs → Le P (learn P (taught P best d) cs) (some c)) → Le P (learn P (taught P best d) cs) (some c)
+      go (inl e) again =
+          rw e
+          (le-trans ties (learn P (taught P best d) cs) (taught P best d) (some d) (learn-le (taught P best d) cs)
+          (taught-least best d (rw (← e) whole)))
+      go (inr k) again = again k

@@ -3,6 +3,7 @@ pub mod Laws
 pub mod Pick
 pub mod Verdict
 pub mod Queue
+pub mod Values
 pub mod Learn
 pub mod Move
 pub mod Cover
@@ -25,3 +26,4 @@ pub mod Bounded
 pub mod Within
 pub mod Budget
 pub mod SameRun
+pub mod EqualStart

@@ -10,15 +10,15 @@ use mathlib.Core.List.{List, [], _∷_, map, List·Memᴰ·tail, List·Memᴰ·c
 use mathlib.Core.Logic.{_⊎_, inl, inr}
 use mathlib.Core.Option.{Option, none, some, Option·map}
 use Prim.Native.Nat.{ℕ, zero, suc}
-use lib.Dec.{T, ltb, eqb}
-use Rattle.lists.specs.Lists.{In, least}
+use lib.Dec.{T}
+use Rattle.lists.specs.Lists.{In}
 use Rattle.lists.proofs.Members.{in-head}
 use Rattle.lists.proofs.Map.{least-map}
 use Rattle.search.specs.Problem.{Problem, Choices, State, upper}
-use Rattle.search.specs.Selection.{Choice, nothing, chosen, behind, orElse, earliest, latest, selectBy, select, empty, finishes}
-use Rattle.search.specs.Step.{replace, learn}
+use Rattle.search.specs.Selection.{Choice, nothing, chosen, behind, orElse, earliest, latest, lowest, lowestOpen, selectBy, select, finishes}
+use Rattle.search.specs.Step.{better, replace, learn}
 use Rattle.search.specs.Run.{Next, finish, halt, overflow, go}
-use Rattle.search.proofs.Learn.{taught}
+use Rattle.search.proofs.Learn.{taught, taught-cases, learn-keeps}
 
 pub record Maps
     {N M : Type 0} (f : N → M) (Valid : N → Type 0) (P : Problem N) (Q : Problem M) (C : Choices N) (D : Choices M)
@@ -30,6 +30,8 @@ pub record Maps
   pub complete : (x : N) → Valid x → Q .complete (f x) ≡ P .complete x
   pub cost : (x : N) → Valid x → T (P .complete x) → Q .cost (f x) ≡ P .cost x
   pub dominates : (w x : N) → Valid w → Valid x → Q .dominates (f w) (f x) ≡ P .dominates w x
+  -- of complete nodes, for only these are compared
+  pub smaller : (x y : N) → Valid x → Valid y → T (P .complete x) → T (P .complete y) → Q .smaller (f x) (f y) ≡ P .smaller x y
   pub above : Q .above ≡ P .above
   pub selection : D .selection ≡ C .selection
   pub rules : D .rules ≡ C .rules
@@ -116,8 +118,10 @@ module _ {N : Type 0} (Valid : N → Type 0) where
   module _ (P : Problem N) (bound : N → ℕ) where
     selectBy-valid : (k : ℕ) (xs : List N) → AllValid Valid xs → ValidChoice Valid (selectBy P bound k xs)
     unfolding selectBy
-    selectBy-valid zero xs valid = earliest-valid _ xs valid
-    selectBy-valid (suc zero) xs valid = latest-valid _ xs valid
+    selectBy-valid zero xs valid =
+        orElse-valid (earliest (lowestOpen P bound xs) xs) (earliest (lowest bound xs) xs) (earliest-valid _ xs valid) (earliest-valid _ xs valid)
+    selectBy-valid (suc zero) xs valid =
+        orElse-valid (latest (lowestOpen P bound xs) xs) (latest (lowest bound xs) xs) (latest-valid _ xs valid) (latest-valid _ xs valid)
     selectBy-valid (suc (suc zero)) xs valid = earliest-valid _ xs valid
     selectBy-valid (suc (suc (suc zero))) xs valid =
         orElse-valid (latest (λ x. not (P .complete x)) xs) (latest (λ x. true) xs) (latest-valid _ xs valid) (latest-valid _ xs valid)
@@ -127,19 +131,9 @@ module _ {N : Type 0} (Valid : N → Type 0) where
   unfolding select
   select-valid P C xs valid = selectBy-valid P (C .bound) (C .selection) xs valid
 
-  module _ (P : Problem N) where
-    taught-valid : (best : Option N) (c : N) → ValidBest Valid P best → Valid c → ValidBest Valid P (taught P best c)
-    taught-valid best c valid v = cases (P .complete c) (ltb (P .cost c) (upper P best)) (λ h. h)
-      where
-        cases : (whole less : Bool) → (T whole → T (P .complete c)) → ValidBest Valid P (replace (whole && less) c best)
-        cases true true h = (v, h tt)
-        cases true false h = valid
-        cases false less h = valid
-
-    pub learn-valid : (best : Option N) (cs : List N) → ValidBest Valid P best → AllValid Valid cs → ValidBest Valid P (learn P best cs)
-    learn-valid best [] valid all = valid
-    learn-valid best (c ∷ cs) valid all =
-        learn-valid (taught P best c) cs (taught-valid best c valid (all c in-head)) (valid-tail c cs all)
+  pub learn-valid :
+      (P : Problem N) (best : Option N) (cs : List N) → ValidBest Valid P best → AllValid Valid cs → ValidBest Valid P (learn P best cs)
+  learn-valid P best cs valid all = learn-keeps P (ValidBest Valid P) best cs valid (λ o c m whole first h. (all c m, whole))
 
 -- The selections of document 01 commute with the map, wherever their tests do.
 module _ {N M : Type 0} (f : N → M) where
@@ -173,25 +167,34 @@ module _ {N M : Type 0} (f : N → M) where
         )
         (orElse-map (behind x (latest p xs)) (cond (p x) (chosen x xs) nothing))
 
-  empty-map : (xs : List N) → empty (map f xs) ≡ empty xs
-  empty-map [] = refl
-  empty-map (x ∷ xs) = refl
-
 module _
     {N M : Type 0} {f : N → M} {Valid : N → Type 0} {P : Problem N} {Q : Problem M} {C : Choices N} {D : Choices M}
     (maps : Maps f Valid P Q C D)
   where
-    least-maps :
-        (xs : List N) → AllValid Valid xs → (x : N) → In x xs
-        → eqb (D .bound (f x)) (least (D .bound) (map f xs)) ≡ eqb (C .bound x) (least (C .bound) xs)
-    least-maps xs valid x m =
+    lowest-maps :
+        (xs : List N) → AllValid Valid xs → (x : N) → In x xs → lowest (D .bound) (map f xs) (f x) ≡ lowest (C .bound) xs x
+    lowest-maps xs valid x m =
         rw (maps .bound x (valid x m), least-map f (C .bound) (D .bound) xs (λ y k. maps .bound y (valid y k)))
+
+    open-maps :
+        (xs : List N) → AllValid Valid xs → (x : N) → In x xs → lowestOpen Q (D .bound) (map f xs) (f x) ≡ lowestOpen P (C .bound) xs x
+    open-maps xs valid x m = rw (lowest-maps xs valid x m, maps .complete x (valid x m))
 
     selectBy-maps :
         (k : ℕ) (xs : List N) → AllValid Valid xs → selectBy Q (D .bound) k (map f xs) ≡ mapChoice f (selectBy P (C .bound) k xs)
     unfolding selectBy
-    selectBy-maps zero xs valid = earliest-map f _ _ xs (least-maps xs valid)
-    selectBy-maps (suc zero) xs valid = latest-map f _ _ xs (least-maps xs valid)
+    selectBy-maps zero xs valid =
+        rw (
+          earliest-map f (lowestOpen P (C .bound) xs) (lowestOpen Q (D .bound) (map f xs)) xs (open-maps xs valid),
+          earliest-map f (lowest (C .bound) xs) (lowest (D .bound) (map f xs)) xs (lowest-maps xs valid),
+        )
+        (orElse-map f (earliest (lowestOpen P (C .bound) xs) xs) (earliest (lowest (C .bound) xs) xs))
+    selectBy-maps (suc zero) xs valid =
+        rw (
+          latest-map f (lowestOpen P (C .bound) xs) (lowestOpen Q (D .bound) (map f xs)) xs (open-maps xs valid),
+          latest-map f (lowest (C .bound) xs) (lowest (D .bound) (map f xs)) xs (lowest-maps xs valid),
+        )
+        (orElse-map f (latest (lowestOpen P (C .bound) xs) xs) (latest (lowest (C .bound) xs) xs))
     selectBy-maps (suc (suc zero)) xs valid = earliest-map f _ _ xs (λ x m. refl)
     selectBy-maps (suc (suc (suc zero))) xs valid =
         rw (
@@ -209,34 +212,31 @@ module _
     upper-maps none valid = maps .above
     upper-maps (some x) valid = maps .cost x (valid .0) (valid .1)
 
-    pub finishes-maps :
-        (best : Option N) (b : N) (rest : List N) → ValidBest Valid P best → Valid b
-        → finishes Q D (Option·map f best) (f b) (map f rest) ≡ finishes P C best b rest
+    pub finishes-maps : (b : N) → Valid b → finishes Q (f b) ≡ finishes P b
     unfolding finishes
-    finishes-maps best b rest valid v =
-        rw (upper-maps best valid, maps .bound b v, maps .selection, empty-map f rest, maps .complete b v)
+    finishes-maps b v = maps .complete b v
 
-    -- a child's cost is looked at only if the child is complete
-    cheaper-maps :
-        (best : Option N) (c : N) → ValidBest Valid P best → Valid c
-        → (Q .complete (f c) && ltb (Q .cost (f c)) (upper Q (Option·map f best))) ≡ (P .complete c && ltb (P .cost c) (upper P best))
-    cheaper-maps best c valid v = rw (maps .complete c v, upper-maps best valid) (cases (P .complete c) (maps .cost c v))
-      where
-        cases :
-            (b : Bool) → (T b → Q .cost (f c) ≡ P .cost c)
-            → (b && ltb (Q .cost (f c)) (upper P best)) ≡ (b && ltb (P .cost c) (upper P best))
-        cases true same = rw (same tt)
-        cases false same = refl
+    better-maps :
+        (c : N) (best : Option N) → Valid c → T (P .complete c) → ValidBest Valid P best → better Q (f c) (Option·map f best) ≡ better P c best
+    better-maps c none v whole valid = rw (maps .cost c v whole, maps .above)
+    better-maps c (some x) v whole valid =
+        rw (maps .cost c v whole, maps .cost x (valid .0) (valid .1), maps .smaller c x v (valid .0) whole (valid .1))
 
+    -- a child is held against what is known only if it is complete
     taught-maps :
         (best : Option N) (c : N) → ValidBest Valid P best → Valid c
         → taught Q (Option·map f best) (f c) ≡ Option·map f (taught P best c)
-    taught-maps best c valid v =
-        rw (cheaper-maps best c valid v) (cases (P .complete c && ltb (P .cost c) (upper P best)))
+    taught-maps best c valid v = rw (maps .complete c v) (cases (P .complete c) (λ whole. better-maps c best v whole valid))
       where
-        cases : (b : Bool) → replace b (f c) (Option·map f best) ≡ Option·map f (replace b c best)
-        cases true = refl
-        cases false = refl
+        replaced : (b : Bool) → replace b (f c) (Option·map f best) ≡ Option·map f (replace b c best)
+        replaced true = refl
+        replaced false = refl
+
+        cases :
+            (w : Bool) → (T w → better Q (f c) (Option·map f best) ≡ better P c best)
+            → replace (w && better Q (f c) (Option·map f best)) (f c) (Option·map f best) ≡ Option·map f (replace (w && better P c best) c best)
+        cases true same = rw (same tt) (replaced (better P c best))
+        cases false same = refl
 
     pub learn-maps :
         (best : Option N) (cs : List N) → ValidBest Valid P best → AllValid Valid cs
@@ -244,4 +244,5 @@ module _
     learn-maps best [] valid all = refl
     learn-maps best (c ∷ cs) valid all =
         ap (λ (o : Option M). learn Q o (map f cs)) (taught-maps best c valid (all c in-head))
-        ∙ learn-maps (taught P best c) cs (taught-valid Valid P best c valid (all c in-head)) (valid-tail Valid c cs all)
+        ∙ learn-maps (taught P best c) cs
+        (taught-cases P (ValidBest Valid P) best c (λ whole first. (all c in-head, whole)) valid) (valid-tail Valid c cs all)

@@ -36,13 +36,13 @@ module _
       decide-maps s nothing valid picked = refl
       decide-maps s (chosen b rest) valid picked =
           rw (
-            finishes-maps maps (s .best) b rest (valid .best) (picked .0),
+            finishes-maps maps b (picked .0),
             step-maps maps s b rest valid (picked .0) (picked .1),
             held-maps (step P C s b rest),
             length-map (s .branched) f,
             maps .budget,
           )
-          (cases (finishes P C (s .best) b rest) (ltb (length (s .branched)) (C .budget))
+          (cases (finishes P b) (ltb (length (s .branched)) (C .budget))
           (ltb capacity (length (held (C .rules) (step P C s b rest)))))
         where
           cases :

@@ -1,12 +1,12 @@
--- Which nodes are active and branched after a step, and that the upper cost does not rise.
+-- Which nodes are active and branched after a step, and that what is known then is what was known or goes before it.
 use mathlib.Core.Path.{_≡_}
 use mathlib.Core.List.{List, [], _∷_, List·Memᴰ·head, Memᴰ·append-left, Memᴰ·append-right, List·Memᴰ·append-cases, List·Memᴰ·eq-of-singleton}
 use mathlib.Core.Logic.{_⊎_, inl, inr}
-use Prim.Native.Nat.{_≤_}
 use Rattle.lists.specs.Lists.{In}
 use Rattle.lists.proofs.Members.{in-keep}
-use Rattle.search.specs.Problem.{State, upper}
+use Rattle.search.specs.Problem.{State}
 use Rattle.search.proofs.General.{Tree, Plan, Cut, kids, learnt, kids₃, others₃, kids₄, kids₅, others₆, move}
+use Rattle.search.proofs.Laws.{Le, Ties}
 use Rattle.search.proofs.Learn.{learn-le}
 
 module _ {N : Type 0} (t : Tree N) (p : Plan N) (c : Cut N) (s : State N) (b : N) (rest : List N) where
@@ -18,9 +18,9 @@ module _ {N : Type 0} (t : Tree N) (p : Plan N) (c : Cut N) (s : State N) (b : N
   unfolding kids₅ kids₄ kids₃ kids
   in-kids x m = in-keep _ (kids t p c s b rest) x (in-keep _ (kids₃ t p c s b rest) x (in-keep _ (kids₄ t p c s b rest) x m .0) .0) .0
 
-  pub upper-falls : upper (t .problem) (learnt t p c s b rest) ≤ upper (t .problem) (s .best)
+  pub learnt-le : Ties (t .problem) → Le (t .problem) (learnt t p c s b rest) (s .best)
   unfolding learnt
-  upper-falls = learn-le (t .problem) (s .best) (kids t p c s b rest)
+  learnt-le ties = learn-le ties (s .best) (kids t p c s b rest)
 
   pub branched-next : (z : N) → In z (s .branched) ⊎ (z ≡ b) → In z (move t p c s b rest .branched)
   unfolding move

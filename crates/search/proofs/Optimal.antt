@@ -1,34 +1,38 @@
--- Optimality, of the run from `start`. At each of its states, if the root leads to an order that costs at most v, and v is at most the
--- upper cost, then some active node leads to such an order (`reached-alive`, the paper's Lemma 1). Hence no order is cheaper than what
--- an ended run knows (`ended-least`). Where the problem has an order, an ended run knows one (`ended-known`), and no state is without
--- active nodes (`active-some`). The bounds of the active nodes give the floor of document 02, A.3 (`active-below`).
+-- Optimality, of the run from `start`. At each of its states, if the root leads to an order as good as v, and v is what is known or goes
+-- before it, then some active node leads to such an order (`reached-alive`, the paper's Lemma 1). Hence no order goes before what an ended
+-- run knows: none is cheaper and, of those as cheap, none is smaller (`ended-least`; request A.8). Where the problem has an order, an ended
+-- run knows one (`ended-known`), and no state is without active nodes (`active-some`). The bounds of the active nodes give the floor of
+-- document 02, A.3 (`active-below`).
 use mathlib.Core.Path.{_≡_, refl, subst}
-use mathlib.Core.Bool.{not}
-use mathlib.Core.List.{List, [], List·Memᴰ·not-nil, List·Memᴰ·eq-of-singleton}
+use mathlib.Core.List.{List, List·Memᴰ·not-nil, List·Memᴰ·eq-of-singleton}
 use mathlib.Core.Logic.{_⊎_, inl, inr}
 use mathlib.Core.Option.{Option, some}
 use Prim.Native.Nat.{ℕ, zero, suc, _+_, _≤_, _<_}
 use native.Mathlib.Omega.{arith}
-use lib.Dec.{T, T-not}
+use lib.Dec.{T}
 use Rattle.lists.specs.Lists.{In}
-use Rattle.lists.proofs.Tests.{ordered}
 use Rattle.lists.proofs.Members.{in-head}
-use Rattle.search.specs.Problem.{State, upper, start}
+use Rattle.search.specs.Problem.{State, start}
 use Rattle.search.specs.Selection.{nothing, chosen}
-use Rattle.search.proofs.General.{Tree, Plan, Cut, pick, cap, ends, verdict, stop, Reached}
-use Rattle.search.proofs.Laws.{Leads, stay, Good, Lawful, BoundLaws, Manner, least, stack, queue, Strict, KnownIn, unknown, known, Solvable}
-use Rattle.search.proofs.Pick.{Picked, picked-of, picked-none, picked-in, in-rest}
-use Rattle.search.proofs.Verdict.{stop-cases, ends-cases, reached-keeps}
+use Rattle.search.proofs.General.{Tree, Plan, Cut, pick, verdict, stop, Reached}
+use Rattle.search.proofs.Laws.{Le, Leads, stay, Good, Lawful, BoundLaws, Manner, KnownIn, unknown, known, Solvable}
+use Rattle.search.proofs.Pick.{Picked, picked-of, picked-none, picked-in}
+use Rattle.search.proofs.Verdict.{stop-cases, reached-keeps}
 use Rattle.search.proofs.Queue.{all-complete}
-use Rattle.search.proofs.Cover.{Live, Cover, Covered, Sound, leaf-good, root-good, good-cases, complete-good, covers-good, covers-size, good-bound}
+use Rattle.search.proofs.Values.{le-upper, cheaper-le, le-refl, le-trans, le-total}
+use Rattle.search.proofs.Cover.{Live, Cover, Covered, Sound, leads-on, leaf-good, root-good, good-cases, complete-good, covers-good, covers-size, good-bound}
 use Rattle.search.proofs.CoverStep.{step-keeps-cover, step-keeps-sound}
 
 -- From a live good node to an active one: a branched node is not complete, so its good leaf goes through a child; a live node covers
 -- that child, is as good, and is of larger size. Sizes have a limit, so the climb ends, at an active node.
 module _
-    {N : Type 0} {t : Tree N} {size : N → ℕ} {limit : ℕ} (lawful : Lawful t size limit) (s : State N) (v : ℕ)
-    (within : v ≤ upper (t .problem) (s .best)) (covered : Covered (t .problem) v s) (sound : Sound (t .problem) s)
+    {N : Type 0} {t : Tree N} {size : N → ℕ} {limit : ℕ} (lawful : Lawful t size limit) (s : State N) (v : Option N)
+    (within : Le (t .problem) v (s .best)) (covered : Covered (t .problem) v s) (sound : Sound (t .problem) s)
   where
+    cover-good :
+        (x : N) → Leads (t .problem) (t .problem .root) x → (k : Cover (t .problem) s x) → Good (t .problem) v x → Good (t .problem) v (k .by)
+    cover-good x inside k = covers-good lawful v (k .by) x (sound .inside (k .by) (k .live)) inside (k .covers)
+
     climb :
         (m : ℕ) (z : N) → limit < size z + m → Live (t .problem) s z → Good (t .problem) v z
         → (x : N) × In x (s .active) × Good (t .problem) v x
@@ -37,7 +41,7 @@ module _
     climb (suc m) z high (inr i) g = go (good-cases v z g) (λ w k. climb m w k)
       where
         go :
-            (T (t .problem .complete z) × (t .problem .cost z ≤ v)) ⊎ ((x : N) × In x (t .problem .children z) × Good (t .problem) v x)
+            (T (t .problem .complete z) × Le (t .problem) (some z) v) ⊎ ((x : N) × In x (t .problem .children z) × Good (t .problem) v x)
             → ((w : N) → limit < size w + m → Live (t .problem) s w → Good (t .problem) v w
             → (x : N) × In x (s .active) × Good (t .problem) v x)
             → (x : N) × In x (s .active) × Good (t .problem) v x
@@ -45,172 +49,139 @@ module _
         go (inr (x, below, good)) again =
             let k : Cover (t .problem) s x = covered .child within z x i below good in
             let larger : size x ≤ size (k .by) = covers-size lawful (k .by) x (k .covers) in
-            again (k .by) (omega (arith, lawful .sized .child z x below)) (k .live) (covers-good lawful v (k .by) x (k .covers) good)
-
--- Where the chosen node's bound is asked, it is the least of the active nodes' bounds: by the selection, or since the node is alone.
-tested-least :
-    {N : Type 0} {t : Tree N} {p : Plan N} {bound : N → ℕ} {xs : List N} {b : N} {rest : List N} → Manner t p bound
-    → Picked (p .rank) xs b rest → T (not (p .lone)) ⊎ (rest ≡ []) → (x : N) → In x xs → bound b ≤ bound x
-tested-least {b} (least many ranks costs) picked (inl many′) x m = ranks b x (picked .least x m)
-tested-least {p} (stack lone whole) picked (inl many) x m = absurd (T-not (p .lone) many lone)
-tested-least {p} (queue lone side level) picked (inl many) x m = absurd (T-not (p .lone) many lone)
-tested-least {N} {bound} {b} {rest} manner picked (inr e) x m = go (in-rest picked x m)
-  where
-    go : (x ≡ b) ⊎ In x rest → bound b ≤ bound x
-    go (inl q) = rw q (omega arith)
-    go (inr i) = absurd (List·Memᴰ·not-nil (subst (λ (l : List N). In x l) e i))
+            again (k .by) (omega (arith, lawful .sized .child z x below)) (k .live)
+            (cover-good x (leads-on (sound .inside z (inr i)) below) k good)
 
 module _
     {N : Type 0} (t : Tree N) (p : Plan N) (c : Cut N) (pool : ℕ) (size : N → ℕ) (limit : ℕ) (lawful : Lawful t size limit)
     (bounds : BoundLaws t (c .bound)) (best₀ : Option N) (known₀ : KnownIn (t .problem) best₀)
   where
-    reached-sound : (s : State N) → Reached t p c pool (start (t .problem) best₀) s → Sound (t .problem) s
+    start-sound : Sound (t .problem) (start (t .problem) best₀)
     unfolding start
-    reached-sound s r =
-        reached-keeps t p c pool (Sound (t .problem))
-        (λ s b rest e goes h. step-keeps-sound t p c s b rest (picked-of (p .rank) (p .late) (s .active) b rest e) goes h) r
-        (record {
-          partial = λ z m whole. List·Memᴰ·not-nil m;
-          leaves = λ x m whole. absurd (lawful .unfinished (rw (← List·Memᴰ·eq-of-singleton m) whole));
-          inside = λ x m. rw (List·Memᴰ·eq-of-singleton m) stay;
-          known = known₀;
-        })
+    start-sound = record {
+      partial = λ z m whole. List·Memᴰ·not-nil m;
+      leaves = λ x m whole. absurd (lawful .unfinished (rw (← List·Memᴰ·eq-of-singleton m) whole));
+      inside = inside;
+      known = known₀;
+    }
+      where
+        inside : (x : N) → Live (t .problem) (start (t .problem) best₀) x → Leads (t .problem) (t .problem .root) x
+        inside x (inl m) = rw (List·Memᴰ·eq-of-singleton m) stay
+        inside x (inr m) = absurd (List·Memᴰ·not-nil m)
 
-    reached-covered : (v : ℕ) (s : State N) → Reached t p c pool (start (t .problem) best₀) s → Covered (t .problem) v s
+    start-covered : (v : Option N) → Covered (t .problem) v (start (t .problem) best₀)
     unfolding start
-    reached-covered v s r =
-        reached-keeps t p c pool (Covered (t .problem) v)
-        (λ s b rest e goes h. step-keeps-cover t p c lawful bounds s b rest (picked-of (p .rank) (p .late) (s .active) b rest e) v h) r
-        (record {
-          root-covered = λ within g. record { by = t .problem .root; live = inl in-head; covers = inl refl };
-          child = λ within z x m i g. absurd (List·Memᴰ·not-nil m);
-        })
+    start-covered v = record {
+      root-covered = λ within g. record { by = t .problem .root; live = inl in-head; covers = inl refl };
+      child = λ within z x m i g. absurd (List·Memᴰ·not-nil m);
+    }
+
+    -- the covers are kept beside what else holds, for a step keeps them among nodes of the tree
+    reached-both :
+        (v : Option N) (s : State N) → Reached t p c pool (start (t .problem) best₀) s → Sound (t .problem) s × Covered (t .problem) v s
+    reached-both v s r =
+        reached-keeps t p c pool (λ s. Sound (t .problem) s × Covered (t .problem) v s)
+        (λ s b rest e goes h.
+        (let picked : Picked (p .rank) (s .active) b rest = picked-of (p .rank) (p .late) (s .active) b rest e in (
+          step-keeps-sound t p c (lawful .ties) s b rest picked goes (h .0),
+          step-keeps-cover t p c lawful bounds s b rest picked (h .0) v (h .1),
+        ))) r
+        (start-sound, start-covered v)
+
+    reached-sound : (s : State N) → Reached t p c pool (start (t .problem) best₀) s → Sound (t .problem) s
+    reached-sound s r = reached-both (s .best) s r .0
 
     pub reached-known : (s : State N) → Reached t p c pool (start (t .problem) best₀) s → KnownIn (t .problem) (s .best)
     reached-known s r = reached-sound s r .known
 
     -- The paper's Lemma 1.
     pub reached-alive :
-        (s : State N) → Reached t p c pool (start (t .problem) best₀) s → (v : ℕ) → v ≤ upper (t .problem) (s .best)
+        (s : State N) → Reached t p c pool (start (t .problem) best₀) s → (v : Option N) → Le (t .problem) v (s .best)
         → Good (t .problem) v (t .problem .root) → (x : N) × In x (s .active) × Good (t .problem) v x
     reached-alive s r v within g =
-        let covered : Covered (t .problem) v s = reached-covered v s r in
+        let (sound, covered) = reached-both v s r in
         let k : Cover (t .problem) s (t .problem .root) = covered .root-covered within g in
-        climb lawful s v within covered (reached-sound s r) (suc limit) (k .by) (omega arith) (k .live)
-        (covers-good lawful v (k .by) (t .problem .root) (k .covers) g)
+        climb lawful s v within covered sound (suc limit) (k .by) (omega arith) (k .live)
+        (cover-good lawful s v within covered sound (t .problem .root) stay k g)
 
-    -- An ended run has no active node x that is good at some v below the upper cost. Such an x is not complete, or it would have been
-    -- learnt from. By the way the run ended: there is no active node; or the chosen node b is complete, and then costs at most v, though
-    -- it was learnt from (least bound), or all active nodes are complete (FIFO, LIFO); or b's bound reaches the price of the upper cost,
-    -- though it is at most the bound of x, which is within the price of v.
-    stop-leaves-none :
-        Manner t p (c .bound) → Strict t p → (s : State N) → Reached t p c pool (start (t .problem) best₀) s → verdict t p c pool s ≡ stop
-        → (v : ℕ) → v < upper (t .problem) (s .best) → (x : N) → In x (s .active) → Good (t .problem) v x → ⊥
-    unfolding cap
-    stop-leaves-none manner strict s r e v below x m g = go (stop-cases t p c pool s e)
+    -- In an ended run no v at which some active node x is good goes before what is known. By the way the run ended: there is no active
+    -- node; or the chosen node b is complete. Then x is complete and was learnt from; or its bound, which is within the cost of v, is above
+    -- that of b, which is the cost of b, and b was learnt from.
+    stop-least :
+        Manner t p (c .bound) → (s : State N) → Reached t p c pool (start (t .problem) best₀) s → verdict t p c pool s ≡ stop
+        → (v : Option N) (x : N) → In x (s .active) → Good (t .problem) v x → Le (t .problem) (s .best) v
+    stop-least manner s r e v x m g = go (stop-cases t p c pool s e)
       where
-        low : c .bound x ≤ t .price v
-        low = good-bound lawful bounds v x g
-
-        partial : T (t .problem .complete x) → ⊥
-        partial whole =
-            omega (arith, complete-good size limit (lawful .sized) v x whole g, reached-sound s r .leaves x m whole)
-
-        all-active :
-            (b : N) (rest : List N) → pick (p .late) (p .rank) (s .active) ≡ chosen b rest → T (t .problem .complete b) → T (p .lone)
-            → T (t .problem .complete x)
-        all-active b rest q whole lone = all-complete t p c pool size limit (lawful .sized) manner lone best₀ s r b rest q whole x m
-
-        at-complete :
-            (b : N) (rest : List N) → pick (p .late) (p .rank) (s .active) ≡ chosen b rest → T (t .problem .complete b)
-            → Manner t p (c .bound) → ⊥
-        at-complete b rest q whole (least many ranks costs) =
-            let picked : Picked (p .rank) (s .active) b rest = picked-of (p .rank) (p .late) (s .active) b rest q in
-            let cheap : t .problem .cost b ≤ v = costs b x v whole partial (picked .least x m) low in
-            omega (arith, reached-sound s r .leaves b (picked-in picked) whole)
-        at-complete b rest q whole (stack lone all) = partial (all-active b rest q whole lone)
-        at-complete b rest q whole (queue lone side level) = partial (all-active b rest q whole lone)
+        -- nor does it where it goes behind some y that was learnt from
+        learnt : (y : N) → In y (s .active) → T (t .problem .complete y) → Le (t .problem) (some y) v → Le (t .problem) (s .best) v
+        learnt y i whole low = le-trans (lawful .ties) (s .best) (some y) v (reached-sound s r .leaves y i whole) low
 
         at :
-            (b : N) (rest : List N) → pick (p .late) (p .rank) (s .active) ≡ chosen b rest
-            → (T (p .early) × (cap t p c (s .best) ≤ c .bound b) × (T (not (p .lone)) ⊎ (rest ≡ []))) ⊎ T (t .problem .complete b) → ⊥
-        at b rest q (inl (early, reaches, asked)) =
-            let first : c .bound b ≤ c .bound x = tested-least manner (picked-of (p .rank) (p .late) (s .active) b rest q) asked x m in
-            omega (arith, strict early (upper (t .problem) (s .best)) v (omega (arith, low)))
-        at b rest q (inr whole) = at-complete b rest q whole manner
+            (b : N) → In b (s .active) → T (t .problem .complete b) → T (t .problem .complete x) ⊎ (c .bound b < c .bound x)
+            → Le (t .problem) (s .best) v
+        at b i whole (inl all) = learnt x m all (complete-good size limit (lawful .sized) v x all g)
+        at b i whole (inr less) =
+            learnt b i whole (cheaper-le (t .problem) b v (omega (arith, bounds .exact b whole, good-bound bounds v x g)))
 
         go :
             (pick (p .late) (p .rank) (s .active) ≡ nothing)
-            ⊎ ((b : N) × (rest : List N) × (pick (p .late) (p .rank) (s .active) ≡ chosen b rest) × T (ends t p c s b rest)) → ⊥
-        go (inl q) = List·Memᴰ·not-nil (subst (λ (l : List N). In x l) (picked-none (p .rank) (p .late) (s .active) q) m)
-        go (inr (b, rest, q, h)) = at b rest q (ends-cases t p c s b rest h)
+            ⊎ ((b : N) × (rest : List N) × (pick (p .late) (p .rank) (s .active) ≡ chosen b rest) × T (t .problem .complete b))
+            → Le (t .problem) (s .best) v
+        go (inl q) = absurd (List·Memᴰ·not-nil (subst (λ (l : List N). In x l) (picked-none (p .rank) (p .late) (s .active) q) m))
+        go (inr (b, rest, q, whole)) =
+            at b (picked-in (picked-of (p .rank) (p .late) (s .active) b rest q)) whole
+            (all-complete t p c pool size limit (lawful .sized) manner best₀ s r b rest q whole x m)
 
-    -- No order is cheaper than what an ended run knows.
+    -- No order goes before what an ended run knows (request A.8).
     pub ended-least :
-        Manner t p (c .bound) → Strict t p → (s : State N) → Reached t p c pool (start (t .problem) best₀) s → verdict t p c pool s ≡ stop
-        → (y : N) → T (t .problem .complete y) → Leads (t .problem) (t .problem .root) y
-        → upper (t .problem) (s .best) ≤ t .problem .cost y
-    ended-least manner strict s r e y whole leads = go (ordered (upper (t .problem) (s .best)) (t .problem .cost y))
+        Manner t p (c .bound) → (s : State N) → Reached t p c pool (start (t .problem) best₀) s → verdict t p c pool s ≡ stop
+        → (y : N) → T (t .problem .complete y) → Leads (t .problem) (t .problem .root) y → Le (t .problem) (s .best) (some y)
+    ended-least manner s r e y whole leads = go (le-total (lawful .ties) (s .best) (some y))
       where
-        v : ℕ
-        v = t .problem .cost y
-
-        go : (upper (t .problem) (s .best) ≤ v) ⊎ (v < upper (t .problem) (s .best)) → upper (t .problem) (s .best) ≤ v
+        go : Le (t .problem) (s .best) (some y) ⊎ Le (t .problem) (some y) (s .best) → Le (t .problem) (s .best) (some y)
         go (inl h) = h
-        go (inr below) =
-            let (x, m, g) = reached-alive s r v (omega arith) (leaf-good (t .problem .root) y whole leads) in
-            absurd (stop-leaves-none manner strict s r e v below x m g)
+        go (inr within) =
+            let (x, m, g) = reached-alive s r (some y) within (leaf-good lawful (t .problem .root) y whole leads) in
+            stop-least manner s r e (some y) x m g
 
     -- What follows is of problems with an order.
     module _ (solvable : Solvable (t .problem)) where
       -- an ended run knows an order
       pub ended-known :
-          Manner t p (c .bound) → Strict t p → (s : State N) → Reached t p c pool (start (t .problem) best₀) s
-          → verdict t p c pool s ≡ stop
+          Manner t p (c .bound) → (s : State N) → Reached t p c pool (start (t .problem) best₀) s → verdict t p c pool s ≡ stop
           → (x : N) × (s .best ≡ some x) × T (t .problem .complete x) × Leads (t .problem) (t .problem .root) x
-      ended-known manner strict s r e =
-          go (s .best) (reached-known s r) (ended-least manner strict s r e (solvable .0) (solvable .1) (solvable .2))
+      ended-known manner s r e =
+          go (s .best) (reached-known s r) (ended-least manner s r e (solvable .0) (solvable .1) (solvable .2))
         where
           go :
-              (best : Option N) → KnownIn (t .problem) best → upper (t .problem) best ≤ t .problem .cost (solvable .0)
+              (best : Option N) → KnownIn (t .problem) best → Le (t .problem) best (some (solvable .0))
               → (x : N) × (best ≡ some x) × T (t .problem .complete x) × Leads (t .problem) (t .problem .root) x
           go best unknown h = absurd (omega (arith, solvable .3))
           go best (known x whole leads) h = (x, refl, whole, leads)
 
-      -- some active node leads to an order as cheap as the known one
+      -- some active node leads to an order as good as the known one
       live-some :
-          (s : State N) → Reached t p c pool (start (t .problem) best₀) s
-          → (x : N) × In x (s .active) × Good (t .problem) (upper (t .problem) (s .best)) x
-      live-some s r = reached-alive s r (upper (t .problem) (s .best)) (omega arith) (root-good solvable (s .best) (reached-known s r))
-
-      -- The floor: some active node's bound is at most the price of any order. Of an order dearer than the upper cost it is, for some active node's
-      -- is at most the price of the upper cost.
-      pub active-below :
-          (s : State N) → Reached t p c pool (start (t .problem) best₀) s → (y : N) → T (t .problem .complete y)
-          → Leads (t .problem) (t .problem .root) y → (x : N) × In x (s .active) × (c .bound x ≤ t .price (t .problem .cost y))
-      active-below s r y whole leads = at (ordered (t .problem .cost y) (upper (t .problem) (s .best)))
-        where
-          at :
-              (t .problem .cost y ≤ upper (t .problem) (s .best)) ⊎ (upper (t .problem) (s .best) < t .problem .cost y)
-              → (x : N) × In x (s .active) × (c .bound x ≤ t .price (t .problem .cost y))
-          at (inl within) =
-              let (x, m, g) = reached-alive s r (t .problem .cost y) within (leaf-good (t .problem .root) y whole leads) in
-              (x, m, good-bound lawful bounds (t .problem .cost y) x g)
-          at (inr dearer) =
-              let (x, m, g) = live-some s r in
-              let rises = lawful .rises (upper (t .problem) (s .best)) (t .problem .cost y) (omega arith) in
-              (x, m, omega (arith, rises, good-bound lawful bounds (upper (t .problem) (s .best)) x g))
+          (s : State N) → Reached t p c pool (start (t .problem) best₀) s → (x : N) × In x (s .active) × Good (t .problem) (s .best) x
+      live-some s r =
+          reached-alive s r (s .best) (le-refl (lawful .ties) (s .best)) (root-good lawful solvable (s .best) (reached-known s r))
 
       -- the active set is never empty
       pub active-some : (s : State N) → Reached t p c pool (start (t .problem) best₀) s → (x : N) × In x (s .active)
       active-some s r = let (x, m, g) = live-some s r in (x, m)
 
-      -- where the chosen node's bound is asked, it is at most the price of the upper cost
-      pub tested-within :
-          Manner t p (c .bound) → (s : State N) → Reached t p c pool (start (t .problem) best₀) s → (b : N) (rest : List N)
-          → pick (p .late) (p .rank) (s .active) ≡ chosen b rest → T (not (p .lone)) ⊎ (rest ≡ []) → c .bound b ≤ cap t p c (s .best)
-      unfolding cap
-      tested-within manner s r b rest q asked =
-          let (x, m, g) = live-some s r in
-          let first : c .bound b ≤ c .bound x = tested-least manner (picked-of (p .rank) (p .late) (s .active) b rest q) asked x m in
-          omega (arith, good-bound lawful bounds (upper (t .problem) (s .best)) x g)
+      -- The floor: some active node's bound is at most the cost of any order. Of an order that goes behind what is known it is, for some
+      -- active node's is at most the upper cost.
+      pub active-below :
+          (s : State N) → Reached t p c pool (start (t .problem) best₀) s → (y : N) → T (t .problem .complete y)
+          → Leads (t .problem) (t .problem .root) y → (x : N) × In x (s .active) × (c .bound x ≤ t .problem .cost y)
+      active-below s r y whole leads = at (le-total (lawful .ties) (some y) (s .best))
+        where
+          at :
+              Le (t .problem) (some y) (s .best) ⊎ Le (t .problem) (s .best) (some y)
+              → (x : N) × In x (s .active) × (c .bound x ≤ t .problem .cost y)
+          at (inl within) =
+              let (x, m, g) = reached-alive s r (some y) within (leaf-good lawful (t .problem .root) y whole leads) in
+              (x, m, good-bound bounds (some y) x g)
+          at (inr behind) =
+              let (x, m, g) = live-some s r in
+              (x, m, omega (arith, good-bound bounds (s .best) x g, le-upper (t .problem) (s .best) (some y) behind))

@@ -63,7 +63,7 @@ module _ {N : Type 0} (P : Problem N) (C : Choices N) (capacity : ℕ) where
       at : (c : Choice N) → select P C (s .active) ≡ c → Says s (decide P C capacity s c)
       at nothing e = tt
       at (chosen b rest) e =
-          cases (finishes P C (s .best) b rest) (ltb made (C .budget)) (ltb capacity kept) (λ h. h) (ltb→lt made (C .budget))
+          cases (finishes P b) (ltb made (C .budget)) (ltb capacity kept) (λ h. h) (ltb→lt made (C .budget))
           (nltb→le made (C .budget)) (ltb→lt capacity kept) (nltb→le capacity kept)
         where
           made : ℕ
@@ -73,7 +73,7 @@ module _ {N : Type 0} (P : Problem N) (C : Choices N) (capacity : ℕ) where
           kept = length (held (C .rules) (step P C s b rest))
 
           cases :
-              (f a o : Bool) → (T (not f) → T (not (finishes P C (s .best) b rest))) → (T a → made < C .budget) → (T (not a) → C .budget ≤ made)
+              (f a o : Bool) → (T (not f) → T (not (finishes P b))) → (T a → made < C .budget) → (T (not a) → C .budget ≤ made)
               → (T o → capacity < kept) → (T (not o) → kept ≤ capacity) → Says s (unless f (ifAllowed a (goUnless o (step P C s b rest))))
           cases true a o goes allows spent over fits = tt
           cases false false o goes allows spent over fits = record { b = b; rest = rest; selects = e; goes = goes tt; spent = spent tt }
@@ -93,13 +93,13 @@ module _ {N : Type 0} (P : Problem N) (C : Choices N) (capacity : ℕ) where
 
   -- a step that the finish test lets through and the budget allows is put to the pool
   goes-next :
-      (s : State N) (b : N) (rest : List N) → select P C (s .active) ≡ chosen b rest → T (not (finishes P C (s .best) b rest))
+      (s : State N) (b : N) (rest : List N) → select P C (s .active) ≡ chosen b rest → T (not (finishes P b))
       → length (s .branched) < C .budget → next P C capacity s ≡ fitting P C capacity (step P C s b rest)
   unfolding next decide
   goes-next s b rest e h k =
       rw (
         e,
-        to-false (finishes P C (s .best) b rest) h,
+        to-false (finishes P b) h,
         to-true (ltb (length (s .branched)) (C .budget)) (lt→ltb (length (s .branched)) (C .budget) k),
       )
 
@@ -108,7 +108,7 @@ module _ {N : Type 0} (P : Problem N) (C : Choices N) (capacity : ℕ) where
   halts-next {s} h =
       rw (
         h .selects,
-        to-false (finishes P C (s .best) (h .b) (h .rest)) (h .goes),
+        to-false (finishes P (h .b)) (h .goes),
         to-false (ltb (length (s .branched)) (C .budget)) (not-T (ltb (length (s .branched)) (C .budget)) (λ o. omega (arith, tests, h .spent))),
       )
 

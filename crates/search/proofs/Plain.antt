@@ -1,35 +1,33 @@
--- The written run (specs/) is the general run (`General`) at one instance: the price of a cost is the cost, there are no dead children, a
--- branching is allowed while fewer than the budget were made, a bound can end the run, and the selection gives side and rank.
+-- The written run (specs/) is the general run (`General`) at one instance: there are no dead children, a branching is allowed while fewer
+-- than the budget were made, and the selection gives side and rank.
 --   tree, planOf, cutOf    the instance
---   step-is-move, finishes-is-ends, held-is-kept, next-is-verdict    the parts of the run are the general run's parts
+--   step-is-move, held-is-kept, next-is-verdict    the parts of the run are the general run's parts
 --   search-is-run, run-is-search    so are the outcomes
---   plan-manner, strict, adds    the laws that `Laws` asks of a plan and a tree, at this instance
+--   plan-manner, adds    the laws that `Laws` asks of a plan and a tree, at this instance
 use mathlib.Core.Path.{_≡_, refl, ap, sym, _∙_}
-use mathlib.Core.Bool.{Bool, true, false, _||_, cond}
+use mathlib.Core.Bool.{Bool, true, false, cond}
 use mathlib.Core.List.{List}
-use mathlib.Core.Logic.{_↔_}
-use Prim.Native.Nat.{ℕ, zero, suc, _≤_}
+use mathlib.Core.Logic.{_⊎_, inl, inr, _↔_}
+use Prim.Native.Nat.{ℕ, zero, suc, _+_, _*_, _≤_, _<_}
 use native.Mathlib.Omega.{arith}
-use lib.Dec.{T, ltb, eqb}
+use lib.Dec.{T, ltb}
 use lib.ListN.{length}
 use Rattle.search.specs.Problem.{Problem, Choices, State}
 use Rattle.search.specs.Selection.{Choice, nothing, chosen, select, finishes}
 use Rattle.search.specs.Step.{on, children₁, best₂, over₃, children₃, rest₃, dominated₄, children₄, dominated₅, children₅, dominated₆, rest₆, active₇, step}
 use Rattle.search.specs.Run.{held, Next, finish, halt, overflow, go, Outcome, finished, stopped, full, unfinished, unless, ifAllowed, goUnless, fitting, decide, next, follow, run}
-use Rattle.search.proofs.General.{Tree, Plan, Cut, taken, cap, over, kids, learnt, kids₃, others₃, kids₄, kids₅, others₆, move, ends, Verdict, stop, pause, refuse, onward, Result, done, paused, overfull, stuck, stopIf, allowedIf, refuseIf, kept, verdictOn, verdict, obey, search}
-use Rattle.search.proofs.Laws.{BoundLaws, Manner, least, stack, queue, Strict, Adds}
-use Rattle.search.proofs.PlainSelection.{lateBy, rankBy, waits, select-is-pick}
+use Rattle.search.proofs.General.{Tree, Plan, Cut, taken, over, kids, learnt, kids₃, others₃, kids₄, kids₅, others₆, move, Verdict, stop, pause, refuse, onward, Result, done, paused, overfull, stuck, stopIf, allowedIf, refuseIf, kept, verdictOn, verdict, obey, search}
+use Rattle.search.proofs.Laws.{Manner, ranked, queue, Adds}
+use Rattle.search.proofs.PlainSelection.{lateBy, rankBy, waits, lowRank, select-is-pick}
 
 module _ {N : Type 0} where
   abbrev pub tree : Problem N → Tree N
-  tree P = record { problem = P; price = λ u. u; withDead = λ b k. k }
+  tree P = record { problem = P; withDead = λ b k. k }
 
   abbrev pub planOf : Problem N → Choices N → Plan N
   planOf P C = record {
     late = lateBy (C .selection);
     rank = rankBy P (C .bound) (C .selection);
-    lone = eqb (C .selection) 2 || eqb (C .selection) 3;
-    early = true;
     rule2 = on 2 (C .rules);
     rule4 = on 4 (C .rules);
     rule8 = on 8 (C .rules);
@@ -68,38 +66,38 @@ pub adds : {N : Type 0} (P : Problem N) → Adds (tree P)
 adds P b k = omega arith
 
 -- How each selection lets a run end at a complete node; by cases, for a record's field cannot be split.
-module _ {N : Type 0} (P : Problem N) (bound : N → ℕ) (laws : BoundLaws (tree P) bound) where
-  -- under a least bound: b's bound is its cost, and it is at most the bound of x
-  cost-le : (b x : N) (v : ℕ) → T (P .complete b) → bound b ≤ bound x → bound x ≤ v → P .cost b ≤ v
-  cost-le b x v whole h k = let e : bound b ≡ P .cost b = laws .exact b whole in omega arith
-
-  -- under LIFO: b waits, so x waits
-  waits-whole : (b x : N) → T (P .complete b) → waits P b ≤ waits P x → T (P .complete x)
-  waits-whole b x = go (P .complete b) (P .complete x)
+module _ {N : Type 0} (P : Problem N) (bound : N → ℕ) where
+  -- a least bound: b ranks behind the incomplete nodes of its bound
+  low-goes : (b x : N) → T (P .complete b) → lowRank P bound b ≤ lowRank P bound x → T (P .complete x) ⊎ (bound b < bound x)
+  low-goes b x = go (P .complete b) (P .complete x)
     where
-      go : (y z : Bool) → T y → cond {A = ℕ} y 1 0 ≤ cond z 1 0 → T z
-      go true true t h = tt
-      go true false t h = omega arith
+      go : (y z : Bool) → T y → 2 * bound b + cond y 1 0 ≤ 2 * bound x + cond z 1 0 → T z ⊎ (bound b < bound x)
+      go true true t h = inl tt
+      go true false t h = inr (omega arith)
+      go false z t h = absurd t
+
+  -- LIFO: b waits, so x waits
+  waits-goes : (b x : N) → T (P .complete b) → waits P b ≤ waits P x → T (P .complete x) ⊎ (bound b < bound x)
+  waits-goes b x = go (P .complete b) (P .complete x)
+    where
+      go : (y z : Bool) → T y → cond {A = ℕ} y 1 0 ≤ cond z 1 0 → T z ⊎ (bound b < bound x)
+      go true true t h = inl tt
+      go true false t h = absurd (omega arith)
       go false z t h = absurd t
 
   manner-by : (k rules budget : ℕ) → k ≤ 3
       → Manner (tree P) (planOf P (record { selection = k; rules = rules; bound = bound; budget = budget })) bound
-  manner-by zero rules budget known = least tt (λ x y h. h) (λ b x v whole part h k. cost-le b x v whole h k)
-  manner-by (suc zero) rules budget known = least tt (λ x y h. h) (λ b x v whole part h k. cost-le b x v whole h k)
-  manner-by (suc (suc zero)) rules budget known = queue tt refl (λ x y. refl)
-  manner-by (suc (suc (suc zero))) rules budget known = stack tt waits-whole
+  manner-by zero rules budget known = ranked low-goes
+  manner-by (suc zero) rules budget known = ranked low-goes
+  manner-by (suc (suc zero)) rules budget known = queue refl (λ x y. refl)
+  manner-by (suc (suc (suc zero))) rules budget known = ranked waits-goes
   manner-by (suc (suc (suc (suc k)))) rules budget known = absurd (omega arith)
 
 module _ {N : Type 0} (P : Problem N) (C : Choices N) where
   pub step-is-move : (s : State N) (b : N) (rest : List N) → step P C s b rest ≡ move (tree P) (planOf P C) (cutOf C) s b rest
   unfolding step active₇ rest₆ dominated₆ children₅ dominated₅ children₄ dominated₄ rest₃ children₃ over₃ best₂ children₁
-      move others₆ kids₅ kids₄ others₃ kids₃ learnt kids over cap taken
+      move others₆ kids₅ kids₄ others₃ kids₃ learnt kids over taken
   step-is-move s b rest = refl
-
-  pub finishes-is-ends :
-      (s : State N) (b : N) (rest : List N) → finishes P C (s .best) b rest ≡ ends (tree P) (planOf P C) (cutOf C) s b rest
-  unfolding finishes ends cap
-  finishes-is-ends s b rest = refl
 
   pub held-is-kept : (capacity : ℕ) (s : State N) → held (C .rules) s ≡ kept (tree P) (planOf P C) (cutOf C) capacity s
   unfolding held kept
@@ -108,11 +106,11 @@ module _ {N : Type 0} (P : Problem N) (C : Choices N) where
   module _ (capacity : ℕ) where
     decide-is-verdictOn :
         (s : State N) (c : Choice N) → verdictOn (tree P) (planOf P C) (cutOf C) capacity s c ≡ verdictOf (decide P C capacity s c)
-    unfolding decide fitting verdictOn
+    unfolding decide finishes fitting verdictOn
     decide-is-verdictOn s nothing = refl
     decide-is-verdictOn s (chosen b rest) =
-        rw (← finishes-is-ends, ← step-is-move, ← held-is-kept)
-        (cases (finishes P C (s .best) b rest) (ltb (length (s .branched)) (C .budget)) (ltb capacity (length (held (C .rules) (step P C s b rest)))))
+        rw (← step-is-move, ← held-is-kept)
+        (cases (P .complete b) (ltb (length (s .branched)) (C .budget)) (ltb capacity (length (held (C .rules) (step P C s b rest)))))
       where
         cases :
             (f a o : Bool)
@@ -159,8 +157,5 @@ module _ {N : Type 0} (P : Problem N) (C : Choices N) where
           (e : State N) → run P C capacity fuel s ≡ unfinished e → search (tree P) (planOf P C) (cutOf C) capacity fuel s ≡ stuck e
       unfinished-stuck e q = search-is-run known fuel s ∙ ap resultOf q
 
-  pub strict : Strict (tree P) (planOf P C)
-  strict early u v h = h
-
-  pub plan-manner : C .selection ≤ 3 → BoundLaws (tree P) (C .bound) → Manner (tree P) (planOf P C) (C .bound)
-  plan-manner known laws = manner-by P (C .bound) laws (C .selection) (C .rules) (C .budget) known
+  pub plan-manner : C .selection ≤ 3 → Manner (tree P) (planOf P C) (C .bound)
+  plan-manner known = manner-by P (C .bound) (C .selection) (C .rules) (C .budget) known

@@ -1,13 +1,14 @@
 -- The four selections that document 01 writes are the selection by rank (`pick`), each at a side and a rank:
---   0: the earliest of the least bound      2 (FIFO): the earliest, all ranks 0
---   1: the latest of the least bound        3 (LIFO): the latest, an incomplete node of rank 0, a complete one of rank 1
+--   0, 1: the earliest and the latest, ranked by twice the bound, a complete node one behind the incomplete ones of its bound (request A.8)
+--   2 (FIFO): the earliest, all ranks 0
+--   3 (LIFO): the latest, an incomplete node of rank 0, a complete one of rank 1
 -- Each takes the earliest, or the latest, node that passes a test, and the test passes at just the nodes of some rank m below which
--- no node ranks: such a node is what `pick` chooses, if there is one.
+-- no node ranks: such a node is what `pick` chooses, if there is one; else a second test, at the next rank, finds one.
 use mathlib.Core.Path.{_≡_, refl, sym, subst}
-use mathlib.Core.Bool.{Bool, true, false, not, cond}
+use mathlib.Core.Bool.{Bool, true, false, not, _&&_, cond}
 use mathlib.Core.List.{List, [], _∷_, List·Memᴰ·tail, List·Memᴰ·cases-cons, List·Memᴰ·not-nil}
 use mathlib.Core.Logic.{_⊎_, inl, inr, _≢_}
-use Prim.Native.Nat.{ℕ, zero, suc, _≤_, _<_}
+use Prim.Native.Nat.{ℕ, zero, suc, _+_, _*_, _≤_, _<_}
 use native.Mathlib.Omega.{arith}
 use lib.Dec.{T, eqb, eqb→eq, not-T}
 use Rattle.lists.specs.Lists.{In, least}
@@ -15,7 +16,7 @@ use Rattle.lists.proofs.Tests.{tests, neq, to-true, to-false}
 use Rattle.lists.proofs.Members.{in-head}
 use Rattle.lists.proofs.Numbers.{least-le, least-in}
 use Rattle.search.specs.Problem.{Problem}
-use Rattle.search.specs.Selection.{Choice, nothing, chosen, behind, orElse, earliest, latest, selectBy}
+use Rattle.search.specs.Selection.{Choice, nothing, chosen, behind, orElse, earliest, latest, lowest, lowestOpen, selectBy}
 use Rattle.search.proofs.General.{beats, prefer, against, pick}
 use Rattle.search.proofs.Pick.{picked-of, picked-in}
 
@@ -30,11 +31,22 @@ lateBy (suc (suc (suc k))) = true
 abbrev pub waits : {N : Type 0} → Problem N → N → ℕ
 waits P x = cond (P .complete x) 1 0
 
+-- the bound; of equal bounds an incomplete node goes before a complete one (request A.8)
+abbrev pub lowRank : {N : Type 0} → Problem N → (N → ℕ) → N → ℕ
+lowRank P bound x = 2 * bound x + waits P x
+
 abbrev pub rankBy : {N : Type 0} → Problem N → (N → ℕ) → ℕ → N → ℕ
-rankBy P bound zero = bound
-rankBy P bound (suc zero) = bound
+rankBy P bound zero = lowRank P bound
+rankBy P bound (suc zero) = lowRank P bound
 rankBy P bound (suc (suc zero)) = λ x. 0
 rankBy P bound (suc (suc (suc k))) = waits P
+
+waits-le : {N : Type 0} (P : Problem N) (x : N) → waits P x ≤ 1
+waits-le P x = go (P .complete x)
+  where
+    go : (b : Bool) → cond {A = ℕ} b 1 0 ≤ 1
+    go true = omega arith
+    go false = omega arith
 
 -- What a test says of a rank, where no rank is below m: it passes at m and at nothing above.
 data Marks (m rank : ℕ) : Bool → Type 0 where
@@ -99,6 +111,13 @@ unfolding pick
 found-pick xs (found b rest r e) none = sym e
 found-pick {N} {late} {rank} xs (missed above) none = subst (λ (l : List N). nothing ≡ pick late rank l) (sym (none above)) refl
 
+-- a first choice stands if it found a node of rank m; else all rank above m, and a second one is asked
+else-pick :
+    {N : Type 0} {late : Bool} {rank : N → ℕ} {m : ℕ} (xs : List N) {c : Choice N} (other : Choice N) → Found late rank m xs c
+    → (Above rank m xs → other ≡ pick late rank xs) → orElse c other ≡ pick late rank xs
+else-pick xs other (found b rest r e) then = sym e
+else-pick xs other (missed above) then = then above
+
 module _ {N : Type 0} (rank : N → ℕ) (m : ℕ) (test : N → Bool) where
   earliest-found : (xs : List N) → ((x : N) → In x xs → Marks m (rank x) (test x)) → Found false rank m xs (earliest test xs)
   unfolding beats
@@ -129,25 +148,31 @@ module _ {N : Type 0} (rank : N → ℕ) (m : ℕ) (test : N → Bool) where
       go (fails h) (missed above) = missed (above-cons rank m x xs h above)
 
 module _ {N : Type 0} (P : Problem N) (bound : N → ℕ) where
-  -- 0 and 1: some node has the least bound
-  least-marks : (xs : List N) (x : N) → In x xs → Marks (least bound xs) (bound x) (eqb (bound x) (least bound xs))
-  least-marks xs x i = marks-eqb (least bound xs) (bound x) (least-le bound xs x i)
+  -- 0 and 1, where m is the least bound: an incomplete node of bound m has rank 2m, and every other ranks above it; ..
+  open-marks : (xs : List N) (x : N) → In x xs → Marks (2 * least bound xs) (lowRank P bound x) (lowestOpen P bound xs x)
+  open-marks xs x i = go (P .complete x) (marks-eqb (least bound xs) (bound x) (least-le bound xs x i))
+    where
+      go : {b : Bool} (c : Bool) → Marks (least bound xs) (bound x) b → Marks (2 * least bound xs) (2 * bound x + cond c 1 0) (b && not c)
+      go true (passes e) = fails (omega arith)
+      go false (passes e) = passes (omega arith)
+      go c (fails h) = fails (omega arith)
 
-  least-there : (xs : List N) → Above bound (least bound xs) xs → xs ≡ []
-  least-there [] above = refl
-  least-there (x ∷ xs) above =
+  -- .. where there is none, the nodes of bound m are those of rank 2m + 1, and there is one
+  low-marks : (xs : List N) → Above (lowRank P bound) (2 * least bound xs) xs → (x : N) → In x xs → Marks (2 * least bound xs + 1) (lowRank P bound x) (lowest bound xs x)
+  low-marks xs above x i = go (marks-eqb (least bound xs) (bound x) (least-le bound xs x i))
+    where
+      go : {b : Bool} → Marks (least bound xs) (bound x) b → Marks (2 * least bound xs + 1) (lowRank P bound x) b
+      go (passes e) = passes (omega (arith, waits-le P x, above x i))
+      go (fails h) = fails (omega arith)
+
+  low-there : (xs : List N) → Above (lowRank P bound) (2 * least bound xs + 1) xs → xs ≡ []
+  low-there [] above = refl
+  low-there (x ∷ xs) above =
       let (y, i, e) = least-in bound x xs in
-      let h : least bound (x ∷ xs) < bound y = above y i in
-      absurd (omega arith)
+      let h : 2 * least bound (x ∷ xs) + 1 < lowRank P bound y = above y i in
+      absurd (omega (arith, waits-le P y))
 
   -- 3: the latest of rank 0, or, if all have rank 1, the latest of them
-  waits-le : (x : N) → waits P x ≤ 1
-  waits-le x = go (P .complete x)
-    where
-      go : (b : Bool) → cond {A = ℕ} b 1 0 ≤ 1
-      go true = omega arith
-      go false = omega arith
-
   waits-marks : (x : N) → Marks 0 (waits P x) (not (P .complete x))
   waits-marks x = go (P .complete x)
     where
@@ -155,17 +180,17 @@ module _ {N : Type 0} (P : Problem N) (bound : N → ℕ) where
       go true = fails (omega arith)
       go false = passes refl
 
-  lifo : (xs : List N) {c : Choice N} → Found true (waits P) 0 xs c → orElse c (latest (λ x. true) xs) ≡ pick true (waits P) xs
-  lifo xs (found b rest r e) = sym e
-  lifo xs (missed above) =
-      found-pick xs (latest-found (waits P) 1 _ xs (λ x i. passes (omega (arith, waits-le x, above x i))))
-      (above-none (waits P) 1 waits-le xs)
-
   pub select-is-pick : (k : ℕ) → k ≤ 3 → (xs : List N) → selectBy P bound k xs ≡ pick (lateBy k) (rankBy P bound k) xs
   unfolding selectBy
-  select-is-pick zero h xs = found-pick xs (earliest-found bound _ _ xs (least-marks xs)) (least-there xs)
-  select-is-pick (suc zero) h xs = found-pick xs (latest-found bound _ _ xs (least-marks xs)) (least-there xs)
+  select-is-pick zero h xs =
+      else-pick xs _ (earliest-found (lowRank P bound) _ _ xs (open-marks xs))
+      (λ above. found-pick xs (earliest-found (lowRank P bound) _ _ xs (low-marks xs above)) (low-there xs))
+  select-is-pick (suc zero) h xs =
+      else-pick xs _ (latest-found (lowRank P bound) _ _ xs (open-marks xs))
+      (λ above. found-pick xs (latest-found (lowRank P bound) _ _ xs (low-marks xs above)) (low-there xs))
   select-is-pick (suc (suc zero)) h xs =
       found-pick xs (earliest-found (λ x. 0) 0 _ xs (λ x i. passes refl)) (above-none (λ x. 0) 0 (λ x. omega arith) xs)
-  select-is-pick (suc (suc (suc zero))) h xs = lifo xs (latest-found (waits P) 0 _ xs (λ x i. waits-marks x))
+  select-is-pick (suc (suc (suc zero))) h xs =
+      else-pick xs _ (latest-found (waits P) 0 _ xs (λ x i. waits-marks x))
+      (λ above. found-pick xs (latest-found (waits P) 1 _ xs (λ x i. passes (omega (arith, waits-le P x, above x i)))) (above-none (waits P) 1 (waits-le P) xs))
   select-is-pick (suc (suc (suc (suc k)))) h xs = absurd (omega arith)

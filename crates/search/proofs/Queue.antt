@@ -1,20 +1,20 @@
--- Under FIFO and LIFO a complete node is chosen only if all active nodes are complete. Under LIFO its rank says so. Under FIFO the
--- active nodes stand as a queue: sizes never fall along the list and differ by at most one, since the children of the earliest
--- node, one size larger, go to the end.
+-- Where a complete node is chosen, every active node is complete or has a greater bound (`all-complete`). Under a least bound and under LIFO
+-- the ranks say so. Under FIFO all active nodes are complete, for they stand as a queue: sizes never fall along the list and differ by
+-- at most one, since the children of the earliest node, one size larger, go to the end.
 use mathlib.Core.Path.{_≡_, sym, _∙_, subst}
 use mathlib.Core.Bool.{Bool, true, false}
 use mathlib.Core.List.{List, [], _∷_, _++_, List·Memᴰ·tail, List·Memᴰ·cases-cons, List·Memᴰ·not-nil, List·Memᴰ·append-cases}
 use mathlib.Core.Logic.{_⊎_, inl, inr}
 use mathlib.Core.Option.{Option}
-use Prim.Native.Nat.{ℕ, suc, _+_, _≤_}
+use Prim.Native.Nat.{ℕ, suc, _≤_, _<_}
 use native.Mathlib.Omega.{arith}
-use lib.Dec.{T, T-not}
+use lib.Dec.{T}
 use Rattle.lists.specs.Lists.{In, put, keep}
 use Rattle.lists.proofs.Members.{in-head, in-keep}
 use Rattle.search.specs.Problem.{State, start}
 use Rattle.search.specs.Selection.{Choice, chosen}
 use Rattle.search.proofs.General.{Tree, Plan, Cut, pick, kids, kids₃, others₃, kids₄, kids₅, others₆, move, Reached, here, then}
-use Rattle.search.proofs.Laws.{Sized, Manner, least, stack, queue}
+use Rattle.search.proofs.Laws.{Sized, Manner, ranked, queue}
 use Rattle.search.proofs.Pick.{picked-of, picked-in, pick-earliest}
 use Rattle.search.proofs.Verdict.{Moved, onward-moved}
 
@@ -89,14 +89,13 @@ module _ {N : Type 0} (t : Tree N) (p : Plan N) (c : Cut N) (size : N → ℕ) (
 
 pub all-complete :
     {N : Type 0} (t : Tree N) (p : Plan N) (c : Cut N) (pool : ℕ) (size : N → ℕ) (limit : ℕ) → Sized (t .problem) size limit
-    → Manner t p (c .bound) → T (p .lone) → (best₀ : Option N) (s : State N) → Reached t p c pool (start (t .problem) best₀) s
+    → {bound : N → ℕ} → Manner t p bound → (best₀ : Option N) (s : State N) → Reached t p c pool (start (t .problem) best₀) s
     → (b : N) (rest : List N) → pick (p .late) (p .rank) (s .active) ≡ chosen b rest → T (t .problem .complete b)
-    → (x : N) → In x (s .active) → T (t .problem .complete x)
-all-complete t p c pool size limit sized (least wide ranked cheap) lone best₀ s r b rest e whole x m = absurd (T-not (p .lone) wide lone)
-all-complete t p c pool size limit sized (stack l up) lone best₀ s r b rest e whole x m =
-    up b x whole (picked-of (p .rank) (p .late) (s .active) b rest e .least x m)
-all-complete {N} t p c pool size limit sized (queue l early level) lone best₀ s r b rest e whole x m =
-    go (List·Memᴰ·cases-cons (subst (λ (xs : List N). In x xs) front m))
+    → (x : N) → In x (s .active) → T (t .problem .complete x) ⊎ (bound b < bound x)
+all-complete t p c pool size limit sized (ranked goes) best₀ s r b rest e whole x m =
+    goes b x whole (picked-of (p .rank) (p .late) (s .active) b rest e .least x m)
+all-complete {N} t p c pool size limit sized (queue early level) best₀ s r b rest e whole x m =
+    inl (go (List·Memᴰ·cases-cons (subst (λ (xs : List N). In x xs) front m)))
   where
     front : s .active ≡ b ∷ rest
     front = first-chosen t p c size limit sized pool early level best₀ (s .active) b rest e

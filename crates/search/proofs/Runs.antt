@@ -1,18 +1,17 @@
--- Laws of runs: when a node ends a run, when a state stops and when it goes on; a run that is done is done the same with more fuel; and
--- the counts only grow along a run. `Fewer s e` says that the counts of s are no more than those of e, `DoneWithin` that a run is done
--- with such counts. The other way round, what a verdict says, is in `Verdict`.
+-- Laws of runs: when a state stops and when it goes on; a run that is done is done the same with more fuel; and the counts only grow
+-- along a run. `Fewer s e` says that the counts of s are no more than those of e, `DoneWithin` that a run is done with such counts. The
+-- other way round, what a verdict says, is in `Verdict`.
 use mathlib.Core.Path.{_≡_}
-use mathlib.Core.Bool.{false, not, _&&_, _||_}
+use mathlib.Core.Bool.{false}
 use mathlib.Core.List.{List, [], _∷_}
-use mathlib.Core.Logic.{_⊎_, inl, inr}
 use Prim.Native.Nat.{ℕ, zero, suc, _+_, _≤_}
 use native.Mathlib.Omega.{arith}
-use lib.Dec.{T, leb, ltb, le→leb, not-T}
+use lib.Dec.{T, ltb, not-T}
 use lib.ListN.{length, length-append}
-use Rattle.lists.proofs.Tests.{tests, and-both, or-left, or-right, to-true, to-false}
+use Rattle.lists.proofs.Tests.{tests, to-true, to-false}
 use Rattle.search.specs.Problem.{State}
-use Rattle.search.specs.Selection.{nothing, chosen, empty}
-use Rattle.search.proofs.General.{Tree, Plan, Cut, pick, cap, kids, move, ends, kept, Verdict, stop, pause, refuse, onward, verdict, verdictOn, done, obey, search, Reached}
+use Rattle.search.specs.Selection.{nothing, chosen}
+use Rattle.search.proofs.General.{Tree, Plan, Cut, pick, kids, move, kept, Verdict, stop, pause, refuse, onward, verdict, verdictOn, done, obey, search, Reached}
 use Rattle.search.proofs.Laws.{Adds}
 use Rattle.search.proofs.Verdict.{Moved, reached-keeps}
 
@@ -28,22 +27,6 @@ fewer-trans h k = omega arith
 abbrev pub DoneWithin : {N : Type 0} → Tree N → Plan N → Cut N → ℕ → ℕ → State N → State N → Type 0
 DoneWithin {N} t p c pool fuel s e = (d : State N) × (search t p c pool fuel s ≡ done d) × Fewer d e
 
-module _ {N : Type 0} (t : Tree N) (p : Plan N) (c : Cut N) (s : State N) (b : N) (rest : List N) where
-  pub bound-ends : T (p .early) → cap t p c (s .best) ≤ c .bound b → T (not (p .lone)) ⊎ (rest ≡ []) → T (ends t p c s b rest)
-  unfolding ends
-  bound-ends early le last =
-      or-left (p .early && leb (cap t p c (s .best)) (c .bound b) && (not (p .lone) || empty rest)) (t .problem .complete b)
-      (and-both (p .early && leb (cap t p c (s .best)) (c .bound b)) (not (p .lone) || empty rest)
-      (and-both (p .early) (leb (cap t p c (s .best)) (c .bound b)) early (le→leb (cap t p c (s .best)) (c .bound b) le)) (go last))
-    where
-      go : T (not (p .lone)) ⊎ (rest ≡ []) → T (not (p .lone) || empty rest)
-      go (inl h) = or-left (not (p .lone)) (empty rest) h
-      go (inr e) = or-right (not (p .lone)) (empty rest) (rw e tt)
-
-  pub whole-ends : T (t .problem .complete b) → T (ends t p c s b rest)
-  unfolding ends
-  whole-ends h = or-right (p .early && leb (cap t p c (s .best)) (c .bound b) && (not (p .lone) || empty rest)) (t .problem .complete b) h
-
 fits-passes : (pool n : ℕ) → n ≤ pool → ltb pool n ≡ false
 fits-passes pool n h = to-false (ltb pool n) (not-T (ltb pool n) (λ k. omega (arith, tests)))
 
@@ -54,17 +37,17 @@ module _ {N : Type 0} (t : Tree N) (p : Plan N) (c : Cut N) (pool : ℕ) where
   none-stops s e = rw e
 
   pub end-stops :
-      (s : State N) (b : N) (rest : List N) → pick (p .late) (p .rank) (s .active) ≡ chosen b rest → T (ends t p c s b rest)
+      (s : State N) (b : N) (rest : List N) → pick (p .late) (p .rank) (s .active) ≡ chosen b rest → T (t .problem .complete b)
       → verdict t p c pool s ≡ stop
   unfolding verdict verdictOn
-  end-stops s b rest e h = rw (e, to-true (ends t p c s b rest) h)
+  end-stops s b rest e h = rw (e, to-true (t .problem .complete b) h)
 
   pub moved-onward : {s s′ : State N} → Moved t p c pool s s′ → verdict t p c pool s ≡ onward s′
   unfolding verdict verdictOn
   moved-onward {s} {s′} m =
       rw (
         m .picks,
-        to-false (ends t p c s (m .b) (m .rest)) (m .goes),
+        to-false (t .problem .complete (m .b)) (m .goes),
         to-true (c .allows (length (s .branched))) (m .allowed),
         fits-passes pool (length (kept t p c pool (move t p c s (m .b) (m .rest)))) (m .fits),
         m .moves,

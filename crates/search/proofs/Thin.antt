@@ -83,9 +83,6 @@ module _ {N : Type 0} {P : N → Type 0} where
       go (inl e) again = inr (subst P (sym e) p)
       go (inr k) again = again k
 
-  pub thin-none : {xs : List N} → Thin P xs [] → xs ≡ []
-  thin-none nil = refl
-
   -- tests that eliminate
   put-less : {xs ys : List N} (b : Bool) (y : N) → P y → Thin P xs ys → Thin P xs (put b y ys)
   put-less true y p th = less y p th

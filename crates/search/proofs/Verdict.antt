@@ -1,25 +1,23 @@
--- What a verdict says. Onward: a node was chosen, it does not end the run, another step was allowed, it fits the pool, and the next
--- state is the step's. Stop: no node is active, or the chosen one ends the run: it is complete, or its bound says so. What every step
--- keeps, a run keeps.
+-- What a verdict says. Onward: a node was chosen, it is not complete, another step was allowed, it fits the pool, and the next state is
+-- the step's. Stop: no node is active, or the chosen one is complete. What every step keeps, a run keeps.
 use mathlib.Core.Path.{_≡_, refl, sym, subst}
-use mathlib.Core.Bool.{Bool, true, false, not, _&&_, _||_}
-use mathlib.Core.List.{List, [], _∷_}
+use mathlib.Core.Bool.{Bool, true, false, not}
+use mathlib.Core.List.{List}
 use mathlib.Core.Logic.{_⊎_, inl, inr}
 use Prim.Native.Nat.{ℕ, _≤_}
 use native.Mathlib.Omega.{arith}
-use lib.Dec.{T, leb, ltb, leb→le, nltb→le, T-not}
+use lib.Dec.{T, ltb, nltb→le}
 use lib.ListN.{length}
-use Rattle.lists.proofs.Tests.{and-left, and-right, or-cases, not-either}
 use Rattle.search.specs.Problem.{State}
-use Rattle.search.specs.Selection.{Choice, nothing, chosen, empty}
-use Rattle.search.proofs.General.{Tree, Plan, Cut, cap, pick, move, ends, kept, verdict, verdictOn, stop, onward, stopIf, allowedIf, refuseIf, Reached, here, then}
+use Rattle.search.specs.Selection.{Choice, nothing, chosen}
+use Rattle.search.proofs.General.{Tree, Plan, Cut, pick, move, kept, verdict, verdictOn, stop, onward, stopIf, allowedIf, refuseIf, Reached, here, then}
 
 pub record Moved {N : Type 0} (t : Tree N) (p : Plan N) (c : Cut N) (pool : ℕ) (s s′ : State N) : Type 0 where
   -- the branched node, and the other active nodes
   pub b : N
   pub rest : List N
   pub picks : pick (p .late) (p .rank) (s .active) ≡ chosen b rest
-  pub goes : T (not (ends t p c s b rest))
+  pub goes : T (not (t .problem .complete b))
   pub allowed : T (c .allows (length (s .branched)))
   pub fits : length (kept t p c pool (move t p c s b rest)) ≤ pool
   pub moves : s′ ≡ move t p c s b rest
@@ -37,43 +35,6 @@ module _ {N : Type 0} where
   stop-test false false f s h = absurd (let z : _≡_ {A = ℕ} 0 1 = cc in omega arith)
   stop-test false true true s h = absurd (let z : _≡_ {A = ℕ} 0 1 = cc in omega arith)
   stop-test false true false s h = absurd (let z : _≡_ {A = ℕ} 0 1 = cc in omega arith)
-
-only-empty : {N : Type 0} (rest : List N) → T (empty rest) → rest ≡ []
-only-empty [] h = refl
-only-empty (x ∷ xs) h = absurd h
-
-module _ {N : Type 0} (t : Tree N) (p : Plan N) (c : Cut N) (s : State N) (b : N) (rest : List N) where
-  pub ends-cases :
-      T (ends t p c s b rest)
-      → (T (p .early) × (cap t p c (s .best) ≤ c .bound b) × (T (not (p .lone)) ⊎ (rest ≡ []))) ⊎ T (t .problem .complete b)
-  unfolding ends
-  ends-cases h = go (or-cases (p .early && reaches && (not (p .lone) || empty rest)) (t .problem .complete b) h)
-    where
-      reaches : Bool
-      reaches = leb (cap t p c (s .best)) (c .bound b)
-
-      at : T (not (p .lone)) ⊎ T (empty rest) → T (not (p .lone)) ⊎ (rest ≡ [])
-      at (inl k) = inl k
-      at (inr k) = inr (only-empty rest k)
-
-      go :
-          T (p .early && reaches && (not (p .lone) || empty rest)) ⊎ T (t .problem .complete b)
-          → (T (p .early) × (cap t p c (s .best) ≤ c .bound b) × (T (not (p .lone)) ⊎ (rest ≡ []))) ⊎ T (t .problem .complete b)
-      go (inl k) =
-          let both : T (p .early && reaches) = and-left (p .early && reaches) (not (p .lone) || empty rest) k in
-          inl (
-            and-left (p .early) reaches both,
-            leb→le (cap t p c (s .best)) (c .bound b) (and-right (p .early) reaches both),
-            at (or-cases (not (p .lone)) (empty rest) (and-right (p .early && reaches) (not (p .lone) || empty rest) k)),
-          )
-      go (inr k) = inr k
-
-  -- a complete node ends the run: one at which the run goes on is not complete
-  pub goes-partial : T (not (ends t p c s b rest)) → T (t .problem .complete b) → ⊥
-  unfolding ends
-  goes-partial h =
-      T-not (t .problem .complete b)
-      (not-either (p .early && leb (cap t p c (s .best)) (c .bound b) && (not (p .lone) || empty rest)) (t .problem .complete b) h .1)
 
 module _ {N : Type 0} (t : Tree N) (p : Plan N) (c : Cut N) (pool : ℕ) (s : State N) where
   pub onward-moved : {s′ : State N} → verdict t p c pool s ≡ onward s′ → Moved t p c pool s s′
@@ -98,20 +59,20 @@ module _ {N : Type 0} (t : Tree N) (p : Plan N) (c : Cut N) (pool : ℕ) (s : St
           full : Bool
           full = ltb pool (length (kept t p c pool after))
 
-          tests : T (not (ends t p c s b rest)) × T (c .allows (length (s .branched))) × T (not full) × (s′ ≡ after)
-          tests = onward-tests (ends t p c s b rest) (c .allows (length (s .branched))) full after s′ h
+          tests : T (not (t .problem .complete b)) × T (c .allows (length (s .branched))) × T (not full) × (s′ ≡ after)
+          tests = onward-tests (t .problem .complete b) (c .allows (length (s .branched))) full after s′ h
 
   pub stop-cases :
       verdict t p c pool s ≡ stop
       → (pick (p .late) (p .rank) (s .active) ≡ nothing)
-      ⊎ ((b : N) × (rest : List N) × (pick (p .late) (p .rank) (s .active) ≡ chosen b rest) × T (ends t p c s b rest))
+      ⊎ ((b : N) × (rest : List N) × (pick (p .late) (p .rank) (s .active) ≡ chosen b rest) × T (t .problem .complete b))
   unfolding verdict verdictOn
   stop-cases h = go (pick (p .late) (p .rank) (s .active)) refl h
     where
       go :
           (ch : Choice N) → pick (p .late) (p .rank) (s .active) ≡ ch → verdictOn t p c pool s ch ≡ stop
           → (pick (p .late) (p .rank) (s .active) ≡ nothing)
-          ⊎ ((b : N) × (rest : List N) × (pick (p .late) (p .rank) (s .active) ≡ chosen b rest) × T (ends t p c s b rest))
+          ⊎ ((b : N) × (rest : List N) × (pick (p .late) (p .rank) (s .active) ≡ chosen b rest) × T (t .problem .complete b))
       go nothing e h = inl e
       go (chosen b rest) e h =
           let after : State N = move t p c s b rest in
@@ -119,13 +80,13 @@ module _ {N : Type 0} (t : Tree N) (p : Plan N) (c : Cut N) (pool : ℕ) (s : St
             b,
             rest,
             e,
-            stop-test (ends t p c s b rest) (c .allows (length (s .branched))) (ltb pool (length (kept t p c pool after))) after h,
+            stop-test (t .problem .complete b) (c .allows (length (s .branched))) (ltb pool (length (kept t p c pool after))) after h,
           )
 
 module _ {N : Type 0} (t : Tree N) (p : Plan N) (c : Cut N) (pool : ℕ) where
   pub reached-keeps :
       (Q : State N → Type 0)
-      → ((s : State N) (b : N) (rest : List N) → pick (p .late) (p .rank) (s .active) ≡ chosen b rest → T (not (ends t p c s b rest)) → Q s
+      → ((s : State N) (b : N) (rest : List N) → pick (p .late) (p .rank) (s .active) ≡ chosen b rest → T (not (t .problem .complete b)) → Q s
       → Q (move t p c s b rest))
       → {s s′ : State N} → Reached t p c pool s s′ → Q s → Q s′
   reached-keeps Q keeps here q = q

@@ -3,13 +3,13 @@
 -- definition is met here first.
 --
 -- A tree is given by tables: the children of node i, the complete nodes, the bounds (for a complete node its cost), and which nodes
--- dominate which. Each example says how the run ends and the state that then stands.
+-- dominate which. Of two orders the one with the lesser number is the smaller. Each example says how the run ends and the state that then stands.
 use mathlib.Core.Path.{_≡_, refl}
 use mathlib.Core.Bool.{_&&_}
 use mathlib.Core.List.{List, [], _∷_}
 use mathlib.Core.Option.{Option, none, some}
 use Prim.Native.Nat.{ℕ, _/_, _%_}
-use lib.Dec.{eqb}
+use lib.Dec.{ltb, eqb}
 use lib.ListN.{getD}
 use Rattle.lists.specs.Lists.{any}
 use Rattle.search.specs.Problem.{Problem, State, start}
@@ -33,6 +33,7 @@ outcomeWithin budget f selection rules capacity =
       complete = λ x. any (eqb x) (f .leaves);
       cost = λ x. getD (f .bounds) x 0;
       dominates = λ y z. any (λ k. eqb (k / 10) y && eqb (k % 10) z) (f .rivals);
+      smaller = ltb;
       above = 99;
     } in
     run P (record { selection = selection; rules = rules; bound = λ x. getD (f .bounds) x 0; budget = budget }) capacity 30 (start P none)
@@ -49,23 +50,37 @@ state active branched best generated eliminated most =
 twins : Free
 twins = record { kids = (1 ∷ 2 ∷ []) ∷ (3 ∷ []) ∷ (4 ∷ []) ∷ []; leaves = 3 ∷ 4 ∷ []; bounds = 5 ∷ 5 ∷ 5 ∷ 5 ∷ 5 ∷ []; rivals = [] }
 
--- FIFO, rule 1: nodes whose bound equals U stay active, and 4, as cheap as 3, does not replace it.
+-- FIFO, rule 1: nodes whose bound equals U stay active, and 4, as cheap as 3 but larger, does not replace it.
 equal-bounds-stay : outcomeOf twins 2 1 9 ≡ finished (state (3 ∷ 4 ∷ []) (0 ∷ 1 ∷ 2 ∷ []) (some 3) 5 0 2)
 unfolding outcomeWithin twins
 equal-bounds-stay = refl
 
--- Least bound, the earliest of equals: 1 is branched before 2, and 2 then ends the run.
-earliest-of-equals : outcomeOf twins 0 0 9 ≡ finished (state (2 ∷ 3 ∷ []) (0 ∷ 1 ∷ []) (some 3) 4 0 2)
+-- Least bound, the earliest of equals: 1 is branched before 2; then 2 before the complete 3, though no bound is below U (request A.8).
+earliest-of-equals : outcomeOf twins 0 0 9 ≡ finished (state (3 ∷ 4 ∷ []) (0 ∷ 1 ∷ 2 ∷ []) (some 3) 5 0 2)
 unfolding outcomeWithin twins
 earliest-of-equals = refl
 
--- Least bound, the latest of equals.
-latest-of-equals : outcomeOf twins 1 0 9 ≡ finished (state (1 ∷ 4 ∷ []) (0 ∷ 2 ∷ []) (some 4) 4 0 2)
+-- Least bound, the latest of equals: 2, then 1; 3, as cheap as 4 and smaller, replaces it (request A.8).
+latest-of-equals : outcomeOf twins 1 0 9 ≡ finished (state (4 ∷ 3 ∷ []) (0 ∷ 2 ∷ 1 ∷ []) (some 3) 5 0 2)
 unfolding outcomeWithin twins
 latest-of-equals = refl
 
+-- 1 has 3 and 2 has 4, which have the complete 5 and 6. Least bound: the complete 5 stands before 4, whose bound is as great, and yet 4 is
+-- branched first (request A.8).
+delayed : Free
+delayed = record {
+  kids = (1 ∷ 2 ∷ []) ∷ (3 ∷ []) ∷ (4 ∷ []) ∷ (5 ∷ []) ∷ (6 ∷ []) ∷ [];
+  leaves = 5 ∷ 6 ∷ [];
+  bounds = 1 ∷ 1 ∷ 2 ∷ 1 ∷ 3 ∷ 3 ∷ 3 ∷ [];
+  rivals = [];
+}
+
+complete-nodes-wait : outcomeOf delayed 0 0 9 ≡ finished (state (5 ∷ 6 ∷ []) (0 ∷ 1 ∷ 3 ∷ 2 ∷ 4 ∷ []) (some 5) 7 0 2)
+unfolding outcomeWithin delayed
+complete-nodes-wait = refl
+
 -- LIFO: behind the complete 4 the incomplete 1 is branched; the run ends when all are complete.
-complete-nodes-skipped : outcomeOf twins 3 0 9 ≡ finished (state (4 ∷ 3 ∷ []) (0 ∷ 2 ∷ 1 ∷ []) (some 4) 5 0 2)
+complete-nodes-skipped : outcomeOf twins 3 0 9 ≡ finished (state (4 ∷ 3 ∷ []) (0 ∷ 2 ∷ 1 ∷ []) (some 3) 5 0 2)
 unfolding outcomeWithin twins
 complete-nodes-skipped = refl
 
@@ -121,10 +136,15 @@ nothing-branched : outcomeWithin 0 twins 2 0 9 ≡ stopped (state (0 ∷ []) [] 
 unfolding outcomeWithin twins
 nothing-branched = refl
 
--- The finish test is asked first: least bound, where the third state ends the run by a bound, is finished with a budget of 2.
-finish-before-budget : outcomeWithin 2 twins 0 0 9 ≡ finished (state (2 ∷ 3 ∷ []) (0 ∷ 1 ∷ []) (some 3) 4 0 2)
+-- The finish test is asked first: least bound, where three branchings leave complete nodes alone, is finished with a budget of 3.
+finish-before-budget : outcomeWithin 3 twins 0 0 9 ≡ outcomeOf twins 0 0 9
 unfolding outcomeWithin twins
 finish-before-budget = refl
+
+-- With a budget of 2 it is stopped at 2, whose bound is U: no bound ends a run (request A.8).
+bound-ends-nothing : outcomeWithin 2 twins 0 0 9 ≡ stopped (state (2 ∷ 3 ∷ []) (0 ∷ 1 ∷ []) (some 3) 4 0 2)
+unfolding outcomeWithin twins
+bound-ends-nothing = refl
 
 -- The budget is asked before the pool: the step that fills four records is not looked at.
 budget-before-pool : outcomeWithin 2 rivals 0 4 4 ≡ stopped (state (2 ∷ 3 ∷ []) (0 ∷ 1 ∷ []) none 4 0 2)

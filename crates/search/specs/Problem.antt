@@ -15,6 +15,8 @@ pub record Problem (N : Type 0) : Type 0 where
   pub cost : N → ℕ
   -- y dominates z: `dominates y z`
   pub dominates : N → N → Bool
+  -- y's order is smaller than z's, stop by stop: `smaller y z` (request A.8)
+  pub smaller : N → N → Bool
   -- above every cost
   pub above : ℕ
 
@@ -34,7 +36,7 @@ pub record State (N : Type 0) : Type 0 where
   pub active : List N
   -- earliest branched first
   pub branched : List N
-  -- the cheapest order known, if there is one
+  -- the cheapest order known, of those that cost the same the smallest (request A.8), if there is one
   pub best : Option N
   pub generated : ℕ
   pub eliminated : ℕ

@@ -56,7 +56,7 @@ module _ {N : Type 0} (P : Problem N) (C : Choices N) (capacity : ℕ) where
   unfoldable pub decide : State N → Choice N → Next N
   decide s nothing = finish
   decide s (chosen b rest) =
-      unless (finishes P C (s .best) b rest) (ifAllowed (ltb (length (s .branched)) (C .budget)) (fitting (step P C s b rest)))
+      unless (finishes P b) (ifAllowed (ltb (length (s .branched)) (C .budget)) (fitting (step P C s b rest)))
 
   unfoldable pub next : State N → Next N
   next s = decide s (select P C (s .active))
@@ -77,7 +77,7 @@ module _ {N : Type 0} (P : Problem N) (C : Choices N) (capacity : ℕ) where
     pub b : N
     pub rest : List N
     pub selects : select P C (s .active) ≡ chosen b rest
-    pub goes : T (not (finishes P C (s .best) b rest))
+    pub goes : T (not (finishes P b))
     pub allows : length (s .branched) < C .budget
     pub fits : length (held (C .rules) (step P C s b rest)) ≤ capacity
     pub steps : s′ ≡ step P C s b rest
@@ -92,7 +92,7 @@ module _ {N : Type 0} (P : Problem N) (C : Choices N) (capacity : ℕ) where
     pub b : N
     pub rest : List N
     pub selects : select P C (s .active) ≡ chosen b rest
-    pub goes : T (not (finishes P C (s .best) b rest))
+    pub goes : T (not (finishes P b))
     pub spent : C .budget ≤ length (s .branched)
 
   -- The next step from s is allowed and does not fit: it would leave more nodes to keep than there are records.
@@ -100,6 +100,6 @@ module _ {N : Type 0} (P : Problem N) (C : Choices N) (capacity : ℕ) where
     pub b : N
     pub rest : List N
     pub selects : select P C (s .active) ≡ chosen b rest
-    pub goes : T (not (finishes P C (s .best) b rest))
+    pub goes : T (not (finishes P b))
     pub allows : length (s .branched) < C .budget
     pub outnumber : capacity < length (held (C .rules) (step P C s b rest))

@@ -1,11 +1,10 @@
--- The four selections and the finish test: document 01, "One run".
-use mathlib.Core.Bool.{Bool, true, false, not, _&&_, _||_, cond}
+-- The four selections and the finish test: document 01, "One run"; document 02, A.8.
+use mathlib.Core.Bool.{Bool, true, not, _&&_, cond}
 use mathlib.Core.List.{List, [], _∷_}
-use mathlib.Core.Option.{Option}
 use Prim.Native.Nat.{ℕ, zero, suc}
-use lib.Dec.{leb, eqb}
+use lib.Dec.{eqb}
 use Rattle.lists.specs.Lists.{least}
-use Rattle.search.specs.Problem.{Problem, Choices, upper}
+use Rattle.search.specs.Problem.{Problem, Choices}
 
 -- The node that is branched, and the other active nodes in their order.
 pub data Choice (N : Type 0) : Type 0 where
@@ -31,11 +30,19 @@ abbrev pub latest : {N : Type 0} → (N → Bool) → List N → Choice N
 latest test [] = nothing
 latest test (x ∷ xs) = orElse (behind x (latest test xs)) (cond (test x) (chosen x xs) nothing)
 
--- The node to branch, by selection. LLB: of the nodes with the least bound the earliest (0) or the latest (1). FIFO
--- (2): the earliest of all. LIFO (3): the latest that is not complete or, where every node is, the latest. Any other has cause 4.
+-- x is one of the nodes with the least bound; and it is one of those that are not complete
+abbrev pub lowest : {N : Type 0} → (N → ℕ) → List N → N → Bool
+lowest bound active x = eqb (bound x) (least bound active)
+
+abbrev pub lowestOpen : {N : Type 0} → Problem N → (N → ℕ) → List N → N → Bool
+lowestOpen P bound active x = lowest bound active x && not (P .complete x)
+
+-- The node to branch, by selection. LLB: of the nodes with the least bound the earliest (0) or the latest (1) that is not complete or, where
+-- each of them is, the earliest or the latest (request A.8). FIFO (2): the earliest of all. LIFO (3): the latest that is not complete or, where
+-- every node is, the latest. Any other has cause 4.
 unfoldable pub selectBy : {N : Type 0} → Problem N → (N → ℕ) → ℕ → List N → Choice N
-selectBy P bound zero active = earliest (λ x. eqb (bound x) (least bound active)) active
-selectBy P bound (suc zero) active = latest (λ x. eqb (bound x) (least bound active)) active
+selectBy P bound zero active = orElse (earliest (lowestOpen P bound active) active) (earliest (lowest bound active) active)
+selectBy P bound (suc zero) active = orElse (latest (lowestOpen P bound active) active) (latest (lowest bound active) active)
 selectBy P bound (suc (suc zero)) active = earliest (λ x. true) active
 selectBy P bound (suc (suc (suc zero))) active = orElse (latest (λ x. not (P .complete x)) active) (latest (λ x. true) active)
 selectBy P bound (suc (suc (suc (suc k)))) active = nothing
@@ -43,12 +50,6 @@ selectBy P bound (suc (suc (suc (suc k)))) active = nothing
 unfoldable pub select : {N : Type 0} → Problem N → Choices N → List N → Choice N
 select P C active = selectBy P (C .bound) (C .selection) active
 
-abbrev pub empty : {N : Type 0} → List N → Bool
-empty [] = true
-empty (x ∷ xs) = false
-
--- The finish test of the chosen node b. A complete b ends the run; so does a bound that is not below U, under FIFO and LIFO only
--- where no other node is active.
-unfoldable pub finishes : {N : Type 0} → Problem N → Choices N → Option N → N → List N → Bool
-finishes P C best b rest =
-    leb (upper P best) (C .bound b) && (not (eqb (C .selection) 2 || eqb (C .selection) 3) || empty rest) || P .complete b
+-- The finish test of the chosen node: that it is complete (request A.8). No bound ends a run.
+unfoldable pub finishes : {N : Type 0} → Problem N → N → Bool
+finishes P b = P .complete b

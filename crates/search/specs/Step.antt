@@ -1,8 +1,8 @@
--- One step in its seven parts, in their sequence: document 01, "One run". b is the chosen node, rest the other active nodes. No child is
+-- One step in its seven parts, in their sequence: document 01, "One run"; document 02, A.8. b is the chosen node, rest the other active nodes. No child is
 -- held against its siblings.
-use mathlib.Core.Bool.{Bool, true, false, not, _&&_}
+use mathlib.Core.Bool.{Bool, true, false, not, _&&_, _||_}
 use mathlib.Core.List.{List, [], _∷_, _++_}
-use mathlib.Core.Option.{Option, some}
+use mathlib.Core.Option.{Option, none, some}
 use Prim.Native.Nat.{ℕ, _+_, _/_, _%_, max}
 use lib.Dec.{ltb, eqb}
 use lib.ListN.{length}
@@ -20,14 +20,20 @@ survivors eliminates xs = keep (λ x. not (eliminates x)) xs
 abbrev pub lost : {N : Type 0} → (N → Bool) → List N → ℕ
 lost eliminates xs = length (keep eliminates xs)
 
--- the best order known after some children: a complete one takes its place where it is cheaper, and not where it costs the same
+-- the complete child c goes before the best order known: it is cheaper or, where it costs the same, smaller (request A.8); while none is known, it is
+-- cheaper than U
+abbrev pub better : {N : Type 0} → Problem N → N → Option N → Bool
+better P c none = ltb (P .cost c) (upper P none)
+better P c (some x) = ltb (P .cost c) (upper P (some x)) || eqb (P .cost c) (upper P (some x)) && P .smaller c x
+
+-- the best order known after some children: a complete one that goes before it takes its place
 abbrev pub replace : {N : Type 0} → Bool → N → Option N → Option N
 replace true c best = some c
 replace false c best = best
 
 abbrev pub learn : {N : Type 0} → Problem N → Option N → List N → Option N
 learn P best [] = best
-learn P best (c ∷ cs) = learn P (replace (P .complete c && ltb (P .cost c) (upper P best)) c best) cs
+learn P best (c ∷ cs) = learn P (replace (P .complete c && better P c best) c best) cs
 
 module _ {N : Type 0} (P : Problem N) (C : Choices N) (s : State N) (b : N) (rest : List N) where
   -- Part 1. b is active no more, which leaves rest. All its children are generated.

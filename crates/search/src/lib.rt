@@ -1,2 +1,2 @@
 // The written run over any problem (specs/), and the theorems about it (proofs/), which ask of a problem no more than laws of its children,
-// its bound and its dominance. No code, no table, no pool.
+// its bound, its dominance and its comparison of orders. No code, no table, no pool.

@@ -1,50 +1,52 @@
 -- Laws of choosing, by lanes' laws of nodes and blocks' laws of selections. Where there is a node, the least bound of the places is the floor
 -- of the nodes (`floor-least`). The place that a search ends at is where the node stands that its selection picks:
---   chosen-least, chosen-last-least    selections 0 and 1
 --   chosen-first                       selection 2
---   chosen-open, chosen-complete       selection 3, where some node is open (`isOpen`) and where none is
-use mathlib.Core.Path.{_≡_, refl, sym, subst}
+--   chosen-open, chosen-complete       selections 0, 1 and 3, where some node up to their limit is open and where none is (`over-shut`,
+--                                      `low-open`)
+use mathlib.Core.Path.{_≡_, refl, sym, _∙_, subst}
 use mathlib.Core.Bool.{Bool, true, false, not, _&&_}
 use mathlib.Core.List.{List}
 use Prim.Native.Nat.{ℕ, _≤_, _<_}
 use native.Mathlib.Omega.{arith}
 use borrow.Author.Tests.{eqb-true, eqb-false, not-true, not-false}
-use lib.Dec.{T, eqb}
+use lib.Dec.{T, leb, eqb, leb→le, le→leb, not-T}
 use lib.ListN.{length, getD}
 use Rattle.lists.specs.Lists.{least}
+use Rattle.lists.proofs.Tests.{tests, to-true, to-false}
 use Rattle.lists.proofs.Numbers.{least-is}
 use Rattle.stops.specs.Code.{emptyRecord}
 use Rattle.stops.specs.declared.node_record.Record.{Record}
-use Rattle.lanes.specs.Sizes.{gone, everyBound}
-use Rattle.lanes.specs.Code.{sized, isLive, liveOf}
+use Rattle.lanes.specs.Sizes.{everyBound}
+use Rattle.lanes.specs.Code.{sized, liveOf}
 use Rattle.lanes.proofs.LiveLaws.{live-in, in-live}
-use Rattle.blocks.specs.Code.{boundAt, Least, Earliest, Latest}
+use Rattle.blocks.specs.Code.{boundAt, Least, Before, Foremost}
 use Rattle.blocks.proofs.BlockLaws.{least-like}
-use Rattle.blocks.proofs.SelectLaws.{
-  live-below,
-  below-live,
-  select-least,
-  select-last-least,
-  select-first,
-  select-open,
-  select-complete,
-  least-met,
-}
-use Rattle.selection.specs.Code.{Chosen}
+use Rattle.blocks.proofs.SelectLaws.{below-live, Prefers, select-first, select-open, select-complete, least-met}
+use Rattle.selection.specs.Code.{isOpen, FirstOpen, Chosen}
 
--- a record is a node that is not complete, of n stops
-abbrev pub isOpen : ℕ → Record → Bool
-isOpen n x = isLive x && not (eqb (sized x .size) n)
+-- a record above the limit is not open, and one up to it is if it is not complete
+pub over-shut : (n limit : ℕ) (x : Record) → limit < x .bound → isOpen n limit x ≡ false
+over-shut n limit x h = rw (to-false (leb (x .bound) limit) (not-T (leb (x .bound) limit) (λ t. omega (arith, tests))))
 
-open-parts : (b c : Bool) → (b && not c) ≡ true → (b ≡ true) × (c ≡ false)
-open-parts true c e = (refl, not-true c e)
+pub low-open : (n limit : ℕ) (x : Record) → x .bound ≤ limit → isOpen n limit x ≡ not (eqb (sized x .size) n)
+low-open n limit x h = rw (to-true (leb (x .bound) limit) (le→leb (x .bound) limit h))
+
+-- so one up to it that is not open is complete
+shut-whole : (n limit : ℕ) (x : Record) → isOpen n limit x ≡ false → x .bound ≤ limit → sized x .size ≡ n
+shut-whole n limit x e h = eqb-true (sized x .size) n (not-false (eqb (sized x .size) n) (sym (low-open n limit x h) ∙ e))
+
+open-parts : (b c : Bool) → (b && not c) ≡ true → T b × (c ≡ false)
+open-parts true c e = (tt, not-true c e)
 open-parts false c e = absurd (subst T (sym e) tt)
 
--- a node that is not open is complete
-shut-whole : (n : ℕ) (x : Record) → isOpen n x ≡ false → x .bound < gone → sized x .size ≡ n
-shut-whole n x e h =
-    let live : isLive x ≡ true = below-live x h in
-    eqb-true (sized x .size) n (not-false (eqb (sized x .size) n) (rw live at e))
+-- the first open record of as good as the same places
+pub open-like :
+    {late : Bool} {Q R : ℕ → Type 0} {n limit : ℕ} {recs : List Record} {used r : ℕ} → ((i : ℕ) → Q i → R i) → ((i : ℕ) → R i → Q i)
+    → FirstOpen late Q n limit recs used r → FirstOpen late R n limit recs used r
+open-like wide narrow o = record {
+  found = λ h. let (q, e) = o .found h in (wide _ q, e);
+  before = λ j q b. o .before j (narrow j q) b;
+}
 
 module _ (recs : List Record) (used : ℕ) (fits : used ≤ length recs) where
   pub floor-least :
@@ -61,47 +63,36 @@ module _ (recs : List Record) (used : ℕ) (fits : used ≤ length recs) where
       (sym e)
       (λ y m. let (j, h, _, same) = live-in recs used y m in rw same (l .low j (omega arith, h)))
 
-  -- 0 and 1: the first and the last place with the least bound
-  pub chosen-least : (n m r : ℕ) → Least (λ (i : ℕ). i < used) (boundAt recs) m → m < gone → Earliest recs used m r → Chosen n recs used 0 r
-  chosen-least n m r l live found = record {
-    inside = found .inside;
-    live = below-live (getD recs r emptyRecord) (omega (arith, found .within));
-    picks = λ P complete. select-least recs used fits m r l live found P;
-  }
-
-  pub chosen-last-least : (n m r : ℕ) → Least (λ (i : ℕ). i < used) (boundAt recs) m → m < gone → Latest recs used m r → Chosen n recs used 1 r
-  chosen-last-least n m r l live found = record {
-    inside = found .inside;
-    live = below-live (getD recs r emptyRecord) (omega (arith, found .within));
-    picks = λ P complete. select-last-least recs used fits m r l live found P;
-  }
-
   -- 2: the first node
-  pub chosen-first : (n r : ℕ) → Earliest recs used everyBound r → Chosen n recs used 2 r
+  pub chosen-first : (n r : ℕ) → Foremost false recs used everyBound r → Chosen n recs used 2 r
   chosen-first n r found = record {
     inside = found .inside;
     live = below-live (getD recs r emptyRecord) (omega (arith, found .within));
     picks = λ P complete. select-first recs used fits r found P;
   }
 
-  -- 3: the last that is open; if none is, the last
-  pub chosen-open :
-      (n r : ℕ) → r < used → isOpen n (getD recs r emptyRecord) ≡ true
-      → ((j : ℕ) → r < j → j < used → isOpen n (getD recs j emptyRecord) ≡ false) → Chosen n recs used 3 r
-  chosen-open n r h e behind =
-      let x : Record = getD recs r emptyRecord in
-      let (live, left) = open-parts (isLive x) (eqb (sized x .size) n) e in
-      record {
-        inside = h;
-        live = live;
-        picks = select-open recs used fits n r h (live-below x live) (eqb-false (sized x .size) n left)
-            (λ j k m. shut-whole n (getD recs j emptyRecord) (behind j k m));
-      }
+  -- 0, 1 and 3: the first up to the limit that is open; if none is, the first
+  module _ (n : ℕ) {k limit : ℕ} {late : Bool} (p : Prefers recs used k late limit) where
+    pub chosen-open :
+        (r : ℕ) → r < used → isOpen n limit (getD recs r emptyRecord) ≡ true
+        → ((j : ℕ) → j < used → Before late j r → isOpen n limit (getD recs j emptyRecord) ≡ false) → Chosen n recs used k r
+    chosen-open r h e before =
+        let x : Record = getD recs r emptyRecord in
+        let (within, left) = open-parts (leb (x .bound) limit) (eqb (sized x .size) n) e in
+        let low : x .bound ≤ limit = leb→le (x .bound) limit within in
+        record {
+          inside = h;
+          live = below-live x (omega (arith, p .live));
+          picks = λ P complete.
+              select-open recs used fits p n P complete r h low (eqb-false (sized x .size) n left)
+              (λ j inside b. shut-whole n limit (getD recs j emptyRecord) (before j inside b));
+        }
 
-  pub chosen-complete :
-      (n r : ℕ) → Latest recs used everyBound r → ((j : ℕ) → j < used → isOpen n (getD recs j emptyRecord) ≡ false) → Chosen n recs used 3 r
-  chosen-complete n r found all = record {
-    inside = found .inside;
-    live = below-live (getD recs r emptyRecord) (omega (arith, found .within));
-    picks = select-complete recs used fits n r found (λ j m. shut-whole n (getD recs j emptyRecord) (all j m));
-  }
+    pub chosen-complete :
+        (r : ℕ) → Foremost late recs used limit r → ((j : ℕ) → j < used → isOpen n limit (getD recs j emptyRecord) ≡ false) → Chosen n recs used k r
+    chosen-complete r found all = record {
+      inside = found .inside;
+      live = below-live (getD recs r emptyRecord) (omega (arith, found .within, p .live));
+      picks = λ P complete.
+          select-complete recs used fits p n P complete r found (λ j inside. shut-whole n limit (getD recs j emptyRecord) (all j inside));
+    }

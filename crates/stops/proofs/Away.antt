@@ -11,18 +11,19 @@ use Prim.Native.Nat.{ℕ, suc, _+_, _≤_}
 use native.Mathlib.Omega.{arith}
 use lib.Dec.{T, eqb, leb, leb→le}
 use Rattle.sizes.specs.Sizes.{mostStops, places}
-use Rattle.lists.specs.Lists.{sum, least, same, from}
+use Rattle.lists.specs.Lists.{sum, least, from}
 use Rattle.lists.proofs.Tests.{neq, cond-zero}
 use Rattle.lists.proofs.Map.{map-same}
 use Rattle.lists.proofs.Numbers.{sum-const, least-small}
-use Rattle.orders.specs.Orders.{Node, setOf, left, last, complete, Partial, Order}
+use Rattle.orders.specs.Orders.{Node, left, last, complete, Partial, Order}
 use Rattle.orders.proofs.Tree.{complete-left}
 use Rattle.orders.proofs.Order.{order-partial, order-complete}
 use Rattle.stops.specs.Tables.{entry, charge, flying, counted, inRows, rows}
 use Rattle.stops.specs.Legs.{Legs, legs, pathFrom, path, cost}
-use Rattle.stops.specs.Bounds.{isClose, plain, cheapestInto, remainder, close, boundBy, dominates}
+use Rattle.stops.specs.Bounds.{isClose, plain, cheapestInto, remainder, close, boundBy}
 use Rattle.stops.specs.Stops.{day, dayOn}
 use Rattle.stops.specs.Away.{closeAway, dayAway, dayAwayOn}
+use Rattle.stops.proofs.Paths.{dominates-same}
 use Rattle.stops.proofs.LegTable.{leg-in-rows, leg-flying, counted-home}
 use Rattle.stops.proofs.Charges.{path-pays, plain-pays, close-pays, cost-pays}
 
@@ -119,9 +120,8 @@ module _ (n : ℕ) (some : 1 ≤ n) (few : n ≤ mostStops) (table : List ℕ) w
   pub away-dominates :
       (y z : Node) → Partial n y → Partial n z
       → dayOn n (rows n true table) .dominates y z ≡ dayAwayOn n (rows n false table) .dominates y z
-  unfolding dayOn day dayAwayOn dayAway dominates
-  away-dominates y z p q =
-      ap₂ (λ (a b : ℕ). not (same y z) && same (setOf n y) (setOf n z) && eqb (last y) (last z) && leb a b) (away-path y p) (away-path z q)
+  unfolding dayOn day dayAwayOn dayAway
+  away-dominates y z p q = dominates-same n awayward homeward y z (away-path y p) (away-path z q)
 
   pub away-cost : (x : Node) → Order n x → dayOn n (rows n true table) .cost x ≡ dayAwayOn n (rows n false table) .cost x
   unfolding dayOn day dayAwayOn dayAway

@@ -8,28 +8,29 @@
 --   day-path-pays, day-plain-pays, day-close-pays, day-cost-pays    the planner's, against that of the legs alone
 --   uncharged-rows      where there are no charges, the two are one
 --   diagonal-path, diagonal-bound, diagonal-dominates, diagonal-cost    with any other costs on the diagonal of the rows, a day is the same
-use mathlib.Core.Path.{_≡_, refl, sym, subst, ap₂}
-use mathlib.Core.Bool.{Bool, true, false, not, _&&_, cond}
+use mathlib.Core.Path.{_≡_, refl, sym, subst}
+use mathlib.Core.Bool.{Bool, true, false, _&&_, cond}
 use mathlib.Core.List.{List, [], _∷_, List·Memᴰ·tail, List·Memᴰ·cases-cons}
 use mathlib.Core.Logic.{_⊎_, inl, inr, _≢_}
 use Prim.Native.Nat.{ℕ, suc, _+_, _≤_}
 use native.Mathlib.Omega.{arith}
 use lib.Dec.{T, T-not, eqb, leb, leb→le}
 use Rattle.sizes.specs.Sizes.{mostStops, places}
-use Rattle.lists.specs.Lists.{In, sum, least, without, same, from, Distinct, more}
+use Rattle.lists.specs.Lists.{In, sum, least, without, from, Distinct, more}
 use Rattle.lists.proofs.Tests.{and-right, neq, cond-zero}
 use Rattle.lists.proofs.Map.{map-same}
 use Rattle.lists.proofs.Members.{in-head, in-keep}
 use Rattle.lists.proofs.Numbers.{least-adds, sum-adds, sum-const}
-use Rattle.orders.specs.Orders.{Node, flown, setOf, left, last, complete, Partial, Order}
+use Rattle.orders.specs.Orders.{Node, flown, left, last, complete, Partial, Order}
 use Rattle.orders.proofs.Sets.{in-flown, in-left, last-in}
 use Rattle.orders.proofs.Tree.{complete-left, left-complete, last-flown}
 use Rattle.orders.proofs.Partial.{partial-sum}
 use Rattle.orders.proofs.Order.{order-partial, order-complete, order-sum}
 use Rattle.stops.specs.Tables.{entry, charge, flying, counted, inRows, rows, legRows, landing}
 use Rattle.stops.specs.Legs.{Legs, rowLeg, legs, pathFrom, path, cost}
-use Rattle.stops.specs.Bounds.{isClose, plain, cheapestInto, remainder, close, boundBy, dominates}
+use Rattle.stops.specs.Bounds.{isClose, plain, cheapestInto, remainder, close, boundBy}
 use Rattle.stops.specs.Stops.{day, dayOn}
+use Rattle.stops.proofs.Paths.{dominates-same}
 use Rattle.stops.proofs.LegTable.{leg-in-rows}
 
 module _
@@ -233,9 +234,8 @@ module _
 
   pub diagonal-dominates :
       (y z : Node) → Partial n y → Partial n z → dayOn n (inRows n costs) .dominates y z ≡ dayOn n (inRows n g) .dominates y z
-  unfolding dayOn day dominates
-  diagonal-dominates y z p q =
-      ap₂ (λ (a b : ℕ). not (same y z) && same (setOf n y) (setOf n z) && eqb (last y) (last z) && leb a b) (diagonal-path y p) (diagonal-path z q)
+  unfolding dayOn day
+  diagonal-dominates y z p q = dominates-same n (legs (inRows n costs)) (legs (inRows n g)) y z (diagonal-path y p) (diagonal-path z q)
 
   pub diagonal-cost : (x : Node) → Order n x → dayOn n (inRows n costs) .cost x ≡ dayOn n (inRows n g) .cost x
   diagonal-cost x o = omega (arith, rows-cost n some few costs g (λ j. 0) nothing-added x o, sum-const 0 (from 0 (suc n)))

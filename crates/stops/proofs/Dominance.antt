@@ -1,50 +1,71 @@
--- Laws of `recDominates`, one for each of its tests: the first that decides.
-use mathlib.Core.Path.{_≡_}
-use mathlib.Core.Bool.{true, false, not}
-use Prim.Native.Nat.{_≤_, _<_}
-use lib.Dec.{eqb}
-use borrow.Author.Tests.{eq-eqb, ne-eqb, le-leb, lt-leb}
-use Rattle.stops.specs.Code.{lastStop, recDominates}
+-- Laws of `recDominates`.
+--   Dominates, dominates-parts, parts-dominate    what it asks of two records, one by one
+--   refused, path-dearer                          where one of these fails, so does the test; a dearer path fails
+--   path-cheaper, paths-agree                     of records of one size, set and last stop, the path costs tell, or the orders do
+use mathlib.Core.Path.{_≡_, sym}
+use mathlib.Core.Bool.{true, false, _&&_, _||_}
+use mathlib.Core.Logic.{_⊎_, inl, inr}
+use Prim.Native.Nat.{_<_}
+use native.Mathlib.Omega.{arith}
+use lib.Dec.{T, ltb, eqb, eqb→eq, not-T}
+use Rattle.lists.proofs.Tests.{and-parts, parts-and, to-true, to-false, same-tests, equal-eqb, tied-cases, cases-tied}
+use Rattle.stops.specs.Code.{lastStop, recSmaller, recDominates}
 use Rattle.stops.specs.declared.node_record.Record.{Record}
 
+-- the cheaper path or, where both cost the same, the smaller order (request A.8)
+abbrev pub Precedes : Record → Record → Type 0
+Precedes y z = (y .path < z .path) ⊎ ((y .path ≡ z .path) × T (recSmaller y z))
+
+pub record Dominates (y z : Record) : Type 0 where
+  pub size : y .size ≡ z .size
+  pub set : y .set ≡ z .set
+  pub last : lastStop y ≡ lastStop z
+  pub precedes : Precedes y z
+
 module _ (y z : Record) where
-  pub sizes-differ : (y .size ≡ z .size → ⊥) → false ≡ recDominates y z
+  pub dominates-parts : T (recDominates y z) → Dominates y z
   unfolding recDominates
-  sizes-differ h = simp (ne-eqb (y .size) (z .size) h)
+  dominates-parts t =
+      let (s, m, l, p) =
+      and-parts (eqb (y .size) (z .size)) (eqb (y .set) (z .set)) (eqb (lastStop y) (lastStop z))
+      (ltb (y .path) (z .path) || eqb (y .path) (z .path) && recSmaller y z) t in
+      record {
+        size = eqb→eq (y .size) (z .size) s;
+        set = eqb→eq (y .set) (z .set) m;
+        last = eqb→eq (lastStop y) (lastStop z) l;
+        precedes = tied-cases (y .path) (z .path) (recSmaller y z) p;
+      }
 
-  pub sets-differ : y .size ≡ z .size → (y .set ≡ z .set → ⊥) → false ≡ recDominates y z
+  pub parts-dominate : Dominates y z → T (recDominates y z)
   unfolding recDominates
-  sets-differ a h = simp (eq-eqb (y .size) (z .size) a, ne-eqb (y .set) (z .set) h)
+  parts-dominate d =
+      parts-and (eqb (y .size) (z .size)) (eqb (y .set) (z .set)) (eqb (lastStop y) (lastStop z))
+      (ltb (y .path) (z .path) || eqb (y .path) (z .path) && recSmaller y z)
+      (equal-eqb (y .size) (z .size) (d .size))
+      (equal-eqb (y .set) (z .set) (d .set))
+      (equal-eqb (lastStop y) (lastStop z) (d .last))
+      (cases-tied (y .path) (z .path) (recSmaller y z) (d .precedes))
 
-  pub path-dearer : y .size ≡ z .size → y .set ≡ z .set → z .path < y .path → false ≡ recDominates y z
-  unfolding recDominates
-  path-dearer a b h = simp (eq-eqb (y .size) (z .size) a, eq-eqb (y .set) (z .set) b, lt-leb (y .path) (z .path) h)
+  pub refused : (Dominates y z → ⊥) → false ≡ recDominates y z
+  refused h = sym (to-false (recDominates y z) (not-T (recDominates y z) (λ t. h (dominates-parts t))))
 
-  module _ (a : y .size ≡ z .size) (b : y .set ≡ z .set) (c : y .path ≤ z .path) where
-    pub lasts-differ : (lastStop y ≡ lastStop z → ⊥) → false ≡ recDominates y z
-    unfolding recDominates
-    lasts-differ h =
-        simp (eq-eqb (y .size) (z .size) a, eq-eqb (y .set) (z .set) b, le-leb (y .path) (z .path) c, ne-eqb (lastStop y) (lastStop z) h)
+  pub path-dearer : z .path < y .path → Dominates y z → ⊥
+  path-dearer h d = go (d .precedes)
+    where
+      go : Precedes y z → ⊥
+      go (inl l) = omega arith
+      go (inr (e, s)) = omega arith
 
-    module _ (e : lastStop y ≡ lastStop z) where
-      pub firsts-differ : (y .first ≡ z .first → ⊥) → true ≡ recDominates y z
-      unfolding recDominates
-      firsts-differ h =
-          simp (
-            eq-eqb (y .size) (z .size) a,
-            eq-eqb (y .set) (z .set) b,
-            le-leb (y .path) (z .path) c,
-            eq-eqb (lastStop y) (lastStop z) e,
-            ne-eqb (y .first) (z .first) h,
-          )
+  module _ (a : y .size ≡ z .size) (b : y .set ≡ z .set) (e : lastStop y ≡ lastStop z) where
+    dominate : Precedes y z → T (recDominates y z)
+    dominate p = parts-dominate (record { size = a; set = b; last = e; precedes = p })
 
-      pub firsts-agree : y .first ≡ z .first → not (eqb (y .second) (z .second)) ≡ recDominates y z
-      unfolding recDominates
-      firsts-agree h =
-          simp (
-            eq-eqb (y .size) (z .size) a,
-            eq-eqb (y .set) (z .set) b,
-            le-leb (y .path) (z .path) c,
-            eq-eqb (lastStop y) (lastStop z) e,
-            eq-eqb (y .first) (z .first) h,
-          )
+    pub path-cheaper : y .path < z .path → true ≡ recDominates y z
+    path-cheaper h = sym (to-true (recDominates y z) (dominate (inl h)))
+
+    pub paths-agree : y .path ≡ z .path → recSmaller y z ≡ recDominates y z
+    paths-agree h = same-tests (recSmaller y z) (recDominates y z) (λ s. dominate (inr (h, s))) (λ t. go (dominates-parts t .precedes))
+      where
+        go : Precedes y z → T (recSmaller y z)
+        go (inl l) = absurd (omega arith)
+        go (inr (f, s)) = s

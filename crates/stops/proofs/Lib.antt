@@ -1,4 +1,5 @@
 pub mod Digits
+pub mod WordsBefore
 pub mod Dominance
 pub mod Paths
 pub mod Ahead

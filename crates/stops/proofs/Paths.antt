@@ -1,9 +1,10 @@
 -- Laws of path costs, and of the cost of an order.
 --   path-extend               what one more stop does to one
+--   dominates-same            of the legs only the path costs tell which node dominates which
 --   path-small, cost-small    how large path cost and cost can be where no leg is above m (`Within`)
 --   Spent, spent-none, spent-more, spent-whole    the cost of an order, added up leg by leg
 --   partial-reckonable           what adding it up asks (`Reckonable`) holds of partial orders
-use mathlib.Core.Path.{_≡_}
+use mathlib.Core.Path.{_≡_, refl}
 use mathlib.Core.List.{List, [], _∷_, _++_}
 use Prim.Native.Nat.{ℕ, suc, _+_, _*_, _≤_, _<_}
 use native.Mathlib.Numerals.{add-one}
@@ -15,6 +16,7 @@ use Rattle.orders.specs.Orders.{Node, lastFrom, last, extend, Partial}
 use Rattle.orders.proofs.Sets.{size-left}
 use Rattle.orders.proofs.Partial.{partial-size}
 use Rattle.stops.specs.Legs.{Legs, pathFrom, path, cost}
+use Rattle.stops.specs.Bounds.{dominates}
 use Rattle.stops.specs.Code.{Within, Cheap, Reckonable}
 use Rattle.stops.specs.Examples
 
@@ -29,6 +31,10 @@ module _ (L : Legs) where
 
   pub path-extend : (x : Node) (s : ℕ) → path L (extend x s) ≡ path L x + L .leg (last x) s
   path-extend x s = omega (arith, path-append x (s ∷ []))
+
+pub dominates-same : (n : ℕ) (L M : Legs) (y z : Node) → path L y ≡ path M y → path L z ≡ path M z → dominates n L y z ≡ dominates n M y z
+unfolding dominates
+dominates-same n L M y z p q = rw (p, q) refl
 
 module _ (m : ℕ) (L : Legs) (w : Within m L) where
   pathFrom-small : (place : ℕ) (x : Node) → pathFrom L place x ≤ length x * m

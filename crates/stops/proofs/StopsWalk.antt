@@ -7,20 +7,20 @@
 --   further-small, path-small, ahead-small    what a stop adds, a path cost, and what a bound adds
 --   order-below                               every order is cheaper than "above every cost"
 use mathlib.Core.Path.{_≡_, refl}
-use mathlib.Core.Bool.{Bool, true, false, not, cond}
+use mathlib.Core.Bool.{Bool, true, false, not, _&&_, _||_, cond}
 use mathlib.Core.List.{List, [], _∷_}
-use mathlib.Core.Logic.{_⊎_, inl, inr}
+use mathlib.Core.Logic.{_⊎_, inl, inr, _≢_}
 use Prim.Native.Nat.{ℕ, suc, _+_, _*_, _≤_, _<_}
 use native.Mathlib.Omega.{arith}
-use lib.Dec.{T, T-not, leb, eqb, leb→le, le→leb, eqb→eq, eqb-refl}
+use lib.Dec.{T, T-not, ltb, eqb, eqb→eq}
 use lib.ListN.{length}
 use Rattle.sizes.specs.Sizes.{mostStops, dearest, aboveEveryCost}
 use Rattle.lists.specs.Lists.{same}
-use Rattle.lists.proofs.Tests.{and-parts, parts-and, either}
+use Rattle.lists.proofs.Tests.{and-parts, parts-and, either, equal-eqb, compared, tied-cases, cases-tied}
 use Rattle.lists.proofs.Same.{same-equal, same-refl}
-use Rattle.search.specs.Selection.{empty}
-use Rattle.orders.specs.Orders.{Node, setOf, left, last, extend, Order}
+use Rattle.orders.specs.Orders.{Node, setOf, left, last, smaller, extend, Order}
 use Rattle.orders.proofs.Sets.{last-extend}
+use Rattle.orders.proofs.Smaller.{one-way, total}
 use Rattle.orders.proofs.Tree.{complete-empty}
 use Rattle.orders.proofs.Order.{order-length}
 use Rattle.days.proofs.Walk.{Alike, Walk, walk-closer}
@@ -39,37 +39,63 @@ module _ (n : ℕ) (L : Legs) where
     where
       go :
           (b : Bool) (rest : List ℕ)
-          → cond b (cond (empty rest) (cost L x) (path L x + remainder L (last x) rest)) (cond (empty rest) (cost L x) (path L x))
+          → cond b (cond (same rest []) (cost L x) (path L x + remainder L (last x) rest)) (cond (same rest []) (cost L x) (path L x))
           ≡ path L x + aheadBy b L (last x) rest
       go true [] = refl
       go true (r ∷ rs) = refl
       go false [] = refl
       go false (r ∷ rs) = omega arith
 
+  -- the last part of dominance: of two nodes of one set and one last stop, w goes first
+  abbrev First : Node → Node → Type 0
+  First w x = (path L w < path L x) ⊎ ((path L w ≡ path L x) × T (smaller w x))
+
+  dominates-parts : (w x : Node) → T (dominates n L w x) → T (not (same w x)) × (setOf n w ≡ setOf n x) × (last w ≡ last x) × First w x
+  unfolding dominates
+  dominates-parts w x h =
+      let (d, s, l, p) =
+      and-parts (not (same w x)) (same (setOf n w) (setOf n x)) (eqb (last w) (last x))
+      (ltb (path L w) (path L x) || eqb (path L w) (path L x) && smaller w x) h in
+      (d, same-equal (setOf n w) (setOf n x) s, eqb→eq (last w) (last x) l, tied-cases (path L w) (path L x) (smaller w x) p)
+
+  parts-dominate : (w x : Node) → T (not (same w x)) → setOf n w ≡ setOf n x → last w ≡ last x → First w x → T (dominates n L w x)
+  unfolding dominates
+  parts-dominate w x d s l p =
+      parts-and (not (same w x)) (same (setOf n w) (setOf n x)) (eqb (last w) (last x))
+      (ltb (path L w) (path L x) || eqb (path L w) (path L x) && smaller w x) d
+      (rw s (same-refl (setOf n x)))
+      (equal-eqb (last w) (last x) l)
+      (cases-tied (path L w) (path L x) (smaller w x) p)
+
   dominator-alike : (w x : Node) → T (dominates n L w x) → Alike n (day n L) (reckoning L) w x
-  unfolding dominates day reckoning
+  unfolding day reckoning
   dominator-alike w x h =
-      let (d, s, l, p) = and-parts (not (same w x)) (same (setOf n w) (setOf n x)) (eqb (last w) (last x)) (leb (path L w) (path L x)) h in
-      record { stops = same-equal (setOf n w) (setOf n x) s; place = eqb→eq (last w) (last x) l; cheaper = leb→le (path L w) (path L x) p }
+      let (d, s, l, p) = dominates-parts w x h in
+      record { stops = s; place = l; cheaper = cheaper p; tie = tie p }
+    where
+      cheaper : First w x → path L w ≤ path L x
+      cheaper (inl k) = omega arith
+      cheaper (inr (e, k)) = omega arith
+
+      tie : First w x → path L w ≡ path L x → T (smaller x w) → ⊥
+      tie (inl k) e r = omega arith
+      tie (inr (f, k)) e r = one-way w x k r
 
   alike-dominates : (w x : Node) → Alike n (day n L) (reckoning L) w x → (w ≡ x) ⊎ T (dominates n L w x)
-  unfolding dominates day reckoning
-  alike-dominates w x a = go (either (same w x))
+  unfolding day reckoning
+  alike-dominates w x a = go (either (same w x)) (total w x) (compared (path L w) (path L x))
     where
-      go : T (same w x) ⊎ T (not (same w x)) → (w ≡ x) ⊎ T (dominates n L w x)
-      go (inl h) = inl (same-equal w x h)
-      go (inr h) =
-          inr
-          (parts-and (not (same w x)) (same (setOf n w) (setOf n x)) (eqb (last w) (last x)) (leb (path L w) (path L x)) h
-          (rw (a .stops) (same-refl (setOf n x)))
-          (rw (a .place) (eqb-refl (last x)))
-          (le→leb (path L w) (path L x) (a .cheaper)))
+      go :
+          T (same w x) ⊎ T (not (same w x)) → (w ≡ x) ⊎ (T (smaller w x) ⊎ T (smaller x w)) → (path L w ≡ path L x) ⊎ (path L w ≢ path L x)
+          → (w ≡ x) ⊎ T (dominates n L w x)
+      go (inl h) t c = inl (same-equal w x h)
+      go (inr h) (inl e) c = inl e
+      go (inr h) (inr t) (inr c) = inr (parts-dominate w x h (a .stops) (a .place) (inl (omega (arith, a .cheaper, c))))
+      go (inr h) (inr (inl k)) (inl e) = inr (parts-dominate w x h (a .stops) (a .place) (inr (e, k)))
+      go (inr h) (inr (inr k)) (inl e) = absurd (a .tie e k)
 
   never-itself : (x : Node) → T (dominates n L x x) → ⊥
-  unfolding dominates
-  never-itself x h =
-      let (d, s, l, p) = and-parts (not (same x x)) (same (setOf n x) (setOf n x)) (eqb (last x) (last x)) (leb (path L x) (path L x)) h in
-      T-not (same x x) d (same-refl x)
+  never-itself x h = T-not (same x x) (dominates-parts x x h .0) (same-refl x)
 
   pub stops-walk : Walk n 3 (day n L) (reckoning L)
   unfolding day reckoning path last cost ahead

@@ -1,10 +1,10 @@
--- The two lower bounds and dominance: document 01, "Nodes"; document 02, A.5.
+-- The two lower bounds and dominance: document 01, "Nodes"; document 02, A.5 and A.8.
 use mathlib.Core.Bool.{Bool, not, _&&_, _||_, cond}
 use mathlib.Core.List.{List, _∷_}
 use Prim.Native.Nat.{ℕ, _+_}
-use lib.Dec.{leb, eqb}
+use lib.Dec.{leb, ltb, eqb}
 use Rattle.lists.specs.Lists.{sum, least, without, same}
-use Rattle.orders.specs.Orders.{Node, setOf, left, last, complete}
+use Rattle.orders.specs.Orders.{Node, setOf, left, last, smaller, complete}
 use Rattle.stops.specs.Legs.{Legs, path, cost}
 
 -- plain: the path cost, and the leg home where no stop is left
@@ -34,6 +34,8 @@ isClose bound = eqb bound 1 || eqb bound 3
 unfoldable pub boundBy : ℕ → ℕ → Legs → Node → ℕ
 boundBy bound n L x = cond (isClose bound) (close n L x) (plain n L x)
 
--- y dominates z: two nodes, one set, one last stop, and y's path is not dearer
+-- y dominates z: two nodes, one set, one last stop, and y's path is the cheaper or, where both cost the same, y's order the smaller (request A.8)
 unfoldable pub dominates : ℕ → Legs → Node → Node → Bool
-dominates n L y z = not (same y z) && same (setOf n y) (setOf n z) && eqb (last y) (last z) && leb (path L y) (path L z)
+dominates n L y z =
+    not (same y z) && same (setOf n y) (setOf n z) && eqb (last y) (last z)
+    && (ltb (path L y) (path L z) || eqb (path L y) (path L z) && smaller y z)

@@ -4,6 +4,8 @@
 --   First set r           r is the first stop of a set
 --   extended x s leg      x with stop s and its leg added; its bound is not yet known
 --   lastStop x            the last stop flown; 0 for e, and for words that are no node's
+--   digitsBefore k a b    of k digits of two words, lowest first: where they first differ, a has the lesser
+--   recSmaller y z        y's order is smaller than z's (request A.8), on records; wordsBefore: the same on the words of two orders
 --   recDominates y z      dominance, on records
 --   ahead k L place rest  what bound k adds to the path cost at a place, with the stops of rest to come
 --   reckonOn rows         the day of the planner's rows as a walk from stop to stop
@@ -14,7 +16,7 @@
 --   Wide x s leg          what `extended` asks, so that no word overflows
 --   emptyRecord           six zeros, e's record before it has a bound
 use mathlib.Core.Path.{_≡_}
-use mathlib.Core.Bool.{Bool, not, _&&_, cond}
+use mathlib.Core.Bool.{Bool, false, _&&_, _||_, cond}
 use mathlib.Core.List.{List, [], _∷_, map}
 use Prim.Native.Nat.{ℕ, zero, suc, _+_, _*_, _-_, _^_, _/_, _%_, _≤_, _<_}
 use lib.Count.{ones}
@@ -76,10 +78,23 @@ pub record Wide (x : Record) (stop leg : ℕ) : Type 0 where
   pub first-small : x .size < wordStops → x .first < stopBase ^ x .size
   pub second-small : wordStops ≤ x .size → x .second < stopBase ^ (x .size - wordStops)
 
+-- the first stop is the lowest digit, so that the comparison goes from there up
+unfoldable pub digitsBefore : ℕ → ℕ → ℕ → Bool
+digitsBefore zero a b = false
+digitsBefore (suc k) a b =
+    ltb (a % stopBase) (b % stopBase) || eqb (a % stopBase) (b % stopBase) && digitsBefore k (a / stopBase) (b / stopBase)
+
+-- the second words tell where the first are equal
+unfoldable pub wordsBefore : ℕ → ℕ → ℕ → ℕ → Bool
+wordsBefore a₁ a₂ b₁ b₂ = cond (eqb a₁ b₁) (digitsBefore wordStops a₂ b₂) (digitsBefore wordStops a₁ b₁)
+
+unfoldable pub recSmaller : Record → Record → Bool
+recSmaller y z = wordsBefore (y .first) (y .second) (z .first) (z .second)
+
 unfoldable pub recDominates : Record → Record → Bool
 recDominates y z =
-    eqb (y .size) (z .size) && eqb (y .set) (z .set) && leb (y .path) (z .path) && eqb (lastStop y) (lastStop z)
-    && not (eqb (y .first) (z .first) && eqb (y .second) (z .second))
+    eqb (y .size) (z .size) && eqb (y .set) (z .set) && eqb (lastStop y) (lastStop z)
+    && (ltb (y .path) (z .path) || eqb (y .path) (z .path) && recSmaller y z)
 
 -- the leg home where no stop is to come; else nothing (plain) or the remainder (close)
 abbrev pub aheadBy : Bool → Legs → ℕ → List ℕ → ℕ

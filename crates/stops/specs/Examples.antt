@@ -56,10 +56,17 @@ dearer-does-not : dominates 3 legsT (2 ∷ 1 ∷ 3 ∷ []) (1 ∷ 2 ∷ 3 ∷ []
 unfolding legsT
 dearer-does-not = refl
 
--- Equal paths with one set and last stop dominate each other.
-equals-dominate : dominates 3 (record { leg = λ r s. 1; home = λ s. 1 }) (1 ∷ 2 ∷ 3 ∷ []) (2 ∷ 1 ∷ 3 ∷ []) ≡ true
-unfolding legsT
-equals-dominate = refl
+-- Of equal paths with one set and last stop the smaller order dominates, and the larger does not (request A.8).
+evenLegs : Legs
+evenLegs = record { leg = λ r s. 1; home = λ s. 1 }
+
+smaller-dominates : dominates 3 evenLegs (1 ∷ 2 ∷ 3 ∷ []) (2 ∷ 1 ∷ 3 ∷ []) ≡ true
+unfolding legsT evenLegs
+smaller-dominates = refl
+
+larger-does-not : dominates 3 evenLegs (2 ∷ 1 ∷ 3 ∷ []) (1 ∷ 2 ∷ 3 ∷ []) ≡ false
+unfolding legsT evenLegs
+larger-does-not = refl
 
 -- 12 and 21 have one set, and 12 has the cheaper path, but their last stops differ.
 last-stops-differ : dominates 3 legsT (1 ∷ 2 ∷ []) (2 ∷ 1 ∷ []) ≡ false

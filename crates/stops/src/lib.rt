@@ -4,5 +4,6 @@ pub mod bound;
 pub mod cost;
 pub mod legs;
 pub mod node_record;
+pub mod order_words;
 pub mod sets;
 pub mod table;

@@ -2,6 +2,7 @@
 ghost use mathlib.Core.Path.{_≡_};
 ghost use Prim.Native.Nat.{_+_, _-_, _<_};
 ghost use Rattle.stops.specs.Code.{Wide, extended, lastStop, emptyRecord, recDominates};
+use crate::order_words::words_before;
 use sizes::MOST_STOPS;
 use sizes::STOP_BASE;
 use sizes::STOP_BITS;
@@ -68,7 +69,8 @@ impl Record {
         0
     }
 
-    // Whether this node dominates another: two nodes of one set and one last stop, and this one's path is no dearer.
+    // Whether this node dominates another: two nodes of one set and one last stop, and this one's path is the cheaper or, where both cost
+    // the same, its order the smaller (request A.8).
     pub fn dominates(self, other: Record) -> bool
         ensures { λ r. ⌜ r ≡ recDominates self other ⌝ }
     {
@@ -84,9 +86,9 @@ impl Record {
         if self.last() != other.last() {
             return false;
         }
-        if self.first != other.first {
+        if self.path < other.path {
             return true;
         }
-        self.second != other.second
+        words_before(self.first, self.second, other.first, other.second)
     }
 }

@@ -1,5 +1,5 @@
-// Full enumeration: the least cost over all n! orders, or those that respect the day's pairs (request A.6), from the table directly. Nothing of the
-// planner is used.
+// Full enumeration: of all n! orders, or those that respect the day's pairs (request A.6), the least cost and the smallest order that has it (A.8), from
+// the table directly. Nothing of the planner is used.
 ghost use mathlib.Core.Path.{_≡_};
 ghost use Prim.Native.Nat.{_≤_, _<_};
 ghost use lib.ListN.{length};
@@ -200,7 +200,7 @@ fn digit(k: u64, n: usize) -> u8
     (below(k, n as u64) + 1) as u8
 }
 
-// Sequence k of n numbers from 1 to n, and zeros: the digits of k to the base n.
+// Sequence k of n numbers from 1 to n, and zeros: the digits of k to the base n, the lowest last, so that the sequences ascend stop by stop.
 pub fn sequence(n: usize, k: u64) -> [u8; ORDER_PLACES]
     requires { ⌜ (1 ≤ n) × (n ≤ 6) ⌝ }
     ensures { λ r. ⌜ orderPlaces ≡ length r ⌝ }
@@ -209,16 +209,11 @@ pub fn sequence(n: usize, k: u64) -> [u8; ORDER_PLACES]
     let mut rest = k;
     let mut i = 0;
     while i < n {
-        x[i] = digit(rest, n);
+        x[n - 1 - i] = digit(rest, n);
         rest = rest / n as u64;
         i += 1;
     }
     x
-}
-
-// The lesser of two numbers.
-fn lesser(a: u64, b: u64) -> u64 {
-    if a < b { a } else { b }
 }
 
 // The cost of sequence k if it is an order that respects the pairs, and else a number above every cost.
@@ -232,16 +227,36 @@ fn price(table: &[u32], day: Day, k: u64) -> u64
     NO_COST
 }
 
-// The least cost over all orders that respect the pairs.
-pub fn least(table: &[u32], day: Day) -> u64
+// The least cost, and the smallest of the orders that cost it.
+pub struct Optimum {
+    pub cost: u64,
+    pub order: [u8; ORDER_PLACES],
+}
+
+// Sequence b in place of a, if it is cheaper.
+fn cheaper(table: &[u32], day: Day, a: u64, b: u64) -> u64
     requires { ⌜ (1 ≤ day .n) × (day .n ≤ 6) ⌝ }
 {
+    if price(table, day, b) < price(table, day, a) {
+        return b;
+    }
+    a
+}
+
+// The least cost over all orders that respect the pairs, and the smallest of the orders that cost it (request A.8): the first of them.
+pub fn best(table: &[u32], day: Day) -> Optimum
+    requires { ⌜ (1 ≤ day .n) × (day .n ≤ 6) ⌝ }
+    ensures { λ r. ⌜ orderPlaces ≡ length (r .order) ⌝ }
+{
     let end = sequences(day.n);
-    let mut known = NO_COST;
+    let mut known = 0u64;
     let mut k = 0u64;
     while k < end {
-        known = lesser(known, price(table, day, k));
+        known = cheaper(table, day, known, k);
         k += 1;
     }
-    known
+    Optimum {
+        cost: price(table, day, known),
+        order: sequence(day.n, known),
+    }
 }

@@ -1,10 +1,12 @@
-// What a report is held against: the least cost, the table, and its own counts.
+// What a report is held against: the best order, the table, and its own counts.
 ghost use Prim.Native.Nat.{_≤_};
 ghost use Rattle.sizes.specs.Sizes.{mostStops};
 use crate::enumerate::Day;
+use crate::enumerate::Optimum;
 use crate::enumerate::allowed;
 use crate::enumerate::cost_of;
 use answer::Report;
+use check::same;
 use first_answer::FirstOrder;
 use sizes::ORDER_PLACES;
 
@@ -55,23 +57,30 @@ pub fn priced(table: &[u32], day: Day, cost: u64, x: &[u8; ORDER_PLACES]) -> boo
 }
 
 // A first order is right if it is an order that respects the pairs, its cost is the one given, and that is not below the least.
-pub fn first_right(table: &[u32], day: Day, least: u64, r: FirstOrder) -> bool
+pub fn first_right(table: &[u32], day: Day, best: Optimum, r: FirstOrder) -> bool
     requires { ⌜ day .n ≤ mostStops ⌝ }
 {
     if r.number != 0 {
         return false;
     }
     let cost = r.cost as u64;
-    if cost < least {
+    if cost < best.cost {
         return false;
     }
     let order = r.order;
     priced(table, day, cost, &order)
 }
 
-// A finished report is right if its cost is the least and that of its order; a full one if it has no cost and no order. Neither has a mark
-// or a floor.
-pub fn judged(table: &[u32], day: Day, least: u64, r: Report) -> Verdict
+// Whether a report has the smallest of the cheapest orders (request A.8).
+fn is_smallest(best: Optimum, r: Report) -> bool {
+    let x = r.order;
+    let y = best.order;
+    same(&x, &y)
+}
+
+// A finished report is right if its cost is the least and that of its order, which is the smallest of that cost; a full one if it has no cost and
+// no order. Neither has a mark or a floor.
+pub fn judged(table: &[u32], day: Day, best: Optimum, r: Report) -> Verdict
     requires { ⌜ day .n ≤ mostStops ⌝ }
 {
     if !adds_up(r.generated, r.branched, r.eliminated, r.active) {
@@ -87,7 +96,10 @@ pub fn judged(table: &[u32], day: Day, least: u64, r: Report) -> Verdict
     let cost = r.cost as u64;
     let order = r.order;
     if number == 0 {
-        if cost != least {
+        if cost != best.cost {
+            return Verdict::Differs;
+        }
+        if !is_smallest(best, r) {
             return Verdict::Differs;
         }
         if priced(table, day, cost, &order) {

@@ -1,5 +1,5 @@
 // Random tables under every choice, with pairs (request A.6) for half of the tables, without a starting order, with one, and with the unit's first order, each report held against full
-// enumeration; those of the first two kinds also within half of their branchings. The tables, and so what is printed, are the same in
+// enumeration; those of the first two kinds also within half of their branchings, or just enough. The tables, and so what is printed, are the same in
 // every run.
 ghost use Prim.Native.Nat.{_≤_};
 ghost use Rattle.sizes.specs.Sizes.{mostStops};
@@ -11,13 +11,14 @@ mod tables;
 mod tally;
 
 use crate::enumerate::Day;
-use crate::enumerate::least;
+use crate::enumerate::Optimum;
+use crate::enumerate::best;
 use crate::enumerate::pair_bytes;
 use crate::enumerate::pairs_in;
 use crate::judge::Verdict;
 use crate::judge::first_right;
 use crate::judge::judged;
-use crate::stopped::half_of;
+use crate::stopped::budget_of;
 use crate::stopped::halved;
 use crate::tables::TABLES;
 use crate::tables::day_of;
@@ -54,7 +55,7 @@ const RULES: u32 = 16;
 
 const CHOICES: u32 = 128;
 
-// The jobs without a starting order and with one that is drawn: the whole runs, and those within half of their branchings.
+// The jobs without a starting order and with one that is drawn: the whole runs, and those within a budget.
 struct Typed {
     whole: Tally,
     half: Halves,
@@ -112,7 +113,7 @@ fn planned(
 fn one(
     table: &[u32],
     day: Day,
-    least: u64,
+    best: Optimum,
     choice: u32,
     start: &[u8],
     pool: &mut [u32],
@@ -121,14 +122,14 @@ fn one(
     requires { ⌜ day .n ≤ mostStops ⌝ }
 {
     let r = planned(day, choice, table, start, NO_BUDGET, pool);
-    counted(t, judged(table, day, least, r), summed(t.sum, r))
+    counted(t, judged(table, day, best, r), summed(t.sum, r))
 }
 
-// One job, planned and judged twice: whole, and within half of its branchings.
+// One job, planned and judged twice: whole, and within a budget.
 fn one_twice(
     table: &[u32],
     day: Day,
-    least: u64,
+    best: Optimum,
     choice: u32,
     start: &[u8],
     pool: &mut [u32],
@@ -137,9 +138,10 @@ fn one_twice(
     requires { ⌜ day .n ≤ mostStops ⌝ }
 {
     let r = planned(day, choice, table, start, NO_BUDGET, pool);
-    let q = planned(day, choice, table, start, half_of(r), pool);
-    let verdict = judged(table, day, least, r);
-    let ending = halved(table, day, least, r, q);
+    let budget = budget_of(r, choice);
+    let q = planned(day, choice, table, start, budget, pool);
+    let verdict = judged(table, day, best, r);
+    let ending = halved(table, day, best, budget, r, q);
     let whole = t.whole;
     let half = t.half;
     Typed {
@@ -149,13 +151,13 @@ fn one_twice(
 }
 
 // All choices over one table, from one starting order or none.
-fn jobs(table: &[u32], day: Day, least: u64, start: &[u8], pool: &mut [u32], t: Tally) -> Tally
+fn jobs(table: &[u32], day: Day, best: Optimum, start: &[u8], pool: &mut [u32], t: Tally) -> Tally
     requires { ⌜ day .n ≤ mostStops ⌝ }
 {
     let mut tally = t;
     let mut choice = 0u32;
     while choice < CHOICES {
-        tally = one(table, day, least, choice, start, pool, tally);
+        tally = one(table, day, best, choice, start, pool, tally);
         choice += 1;
     }
     tally
@@ -165,7 +167,7 @@ fn jobs(table: &[u32], day: Day, least: u64, start: &[u8], pool: &mut [u32], t: 
 fn jobs_twice(
     table: &[u32],
     day: Day,
-    least: u64,
+    best: Optimum,
     start: &[u8],
     pool: &mut [u32],
     t: Typed,
@@ -175,32 +177,32 @@ fn jobs_twice(
     let mut typed = t;
     let mut choice = 0u32;
     while choice < CHOICES {
-        typed = one_twice(table, day, least, choice, start, pool, typed);
+        typed = one_twice(table, day, best, choice, start, pool, typed);
         choice += 1;
     }
     typed
 }
 
 // The jobs over one table, without a starting order and with one.
-fn both(table: &[u32], day: Day, least: u64, start: &[u8], pool: &mut [u32], t: Typed) -> Typed
+fn both(table: &[u32], day: Day, best: Optimum, start: &[u8], pool: &mut [u32], t: Typed) -> Typed
     requires { ⌜ day .n ≤ mostStops ⌝ }
 {
-    let without = jobs_twice(table, day, least, &start[..0], pool, t);
-    jobs_twice(table, day, least, start, pool, without)
+    let without = jobs_twice(table, day, best, &start[..0], pool, t);
+    jobs_twice(table, day, best, start, pool, without)
 }
 
 // The jobs over one table from the unit's first order, if that is right.
-fn from_first(table: &[u32], day: Day, least: u64, pool: &mut [u32], t: Tally) -> Tally
+fn from_first(table: &[u32], day: Day, best: Optimum, pool: &mut [u32], t: Tally) -> Tally
     requires { ⌜ day .n ≤ mostStops ⌝ }
 {
     let pairs = pairs_in(day);
     let end = pair_bytes(day.paired);
     let first = first_order(day.n as u32, plain_for(day), table, &pairs[..end]);
-    if !first_right(table, day, least, first) {
+    if !first_right(table, day, best, first) {
         return counted(t, Verdict::Differs, t.sum);
     }
     let start = first.order;
-    jobs(table, day, least, &start[..day.n], pool, t)
+    jobs(table, day, best, &start[..day.n], pool, t)
 }
 
 // The jobs over table k, each kind behind those over the tables before it.
@@ -210,9 +212,9 @@ fn trial(k: u64, pool: &mut [u32], t: Tallies) -> Tallies {
     let size = size_of(n);
     let table = table_of(k, n);
     let start = start_of(day, next(k));
-    let cost = least(&table[..size], day);
-    let typed = both(&table[..size], day, cost, &start[..n], pool, t.typed);
-    let first = from_first(&table[..size], day, cost, pool, t.first);
+    let optimum = best(&table[..size], day);
+    let typed = both(&table[..size], day, optimum, &start[..n], pool, t.typed);
+    let first = from_first(&table[..size], day, optimum, pool, t.first);
     Tallies { typed, first }
 }
 

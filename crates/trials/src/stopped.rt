@@ -1,7 +1,8 @@
-// What a report of a run within half of its branchings is held against: the least cost, the table, and the report of the whole run.
+// What a report of a run within a budget is held against: the best order, the table, and the report of the whole run.
 ghost use Prim.Native.Nat.{_≤_};
 ghost use Rattle.sizes.specs.Sizes.{mostStops};
 use crate::enumerate::Day;
+use crate::enumerate::Optimum;
 use crate::judge::Verdict;
 use crate::judge::adds_up;
 use crate::judge::judged;
@@ -20,19 +21,27 @@ pub enum Ending {
     Differs,
 }
 
-// Half of a run's branchings: fewer than the run makes, unless it makes none.
-pub fn half_of(whole: Report) -> u64 {
+// One choice in so many gets all branchings of a run that finished, which suffice; the others get half of a run's, which are fewer than it made.
+const ENOUGH_IN: u32 = 8;
+
+pub fn budget_of(whole: Report, choice: u32) -> u64 {
+    if whole.number != 0 {
+        return whole.branched / 2;
+    }
+    if choice % ENOUGH_IN == 0 {
+        return whole.branched;
+    }
     whole.branched / 2
 }
 
 // What a stopped report shows is right if it is an order with its cost, which is not below the least, or zeros alone.
-fn shown(table: &[u32], day: Day, least: u64, r: Report) -> Ending
+fn shown(table: &[u32], day: Day, best: Optimum, r: Report) -> Ending
     requires { ⌜ day .n ≤ mostStops ⌝ }
 {
     let cost = r.cost as u64;
     let order = r.order;
     if order[0] != 0 {
-        if cost < least {
+        if cost < best.cost {
             return Ending::Differs;
         }
         if priced(table, day, cost, &order) {
@@ -51,7 +60,7 @@ fn shown(table: &[u32], day: Day, least: u64, r: Report) -> Ending
 
 // A stopped report is right if it has the mark, its branchings are the budget's, its counts add up, no order costs less than its floor, and
 // what it shows is right.
-fn stopped(table: &[u32], day: Day, least: u64, budget: u64, r: Report) -> Ending
+fn stopped(table: &[u32], day: Day, best: Optimum, budget: u64, r: Report) -> Ending
     requires { ⌜ day .n ≤ mostStops ⌝ }
 {
     if r.number != 0 {
@@ -66,10 +75,10 @@ fn stopped(table: &[u32], day: Day, least: u64, budget: u64, r: Report) -> Endin
     if !adds_up(r.generated, r.branched, r.eliminated, r.active) {
         return Ending::Differs;
     }
-    if least < r.floor as u64 {
+    if best.cost < r.floor as u64 {
         return Ending::Differs;
     }
-    shown(table, day, least, r)
+    shown(table, day, best, r)
 }
 
 // Whether two reports have the same counts.
@@ -111,14 +120,21 @@ fn same_report(a: Report, b: Report) -> bool {
     same_counts(a, b)
 }
 
-// The budget stops every run that branches. One that does not is finished, with the same report.
-pub fn halved(table: &[u32], day: Day, least: u64, whole: Report, r: Report) -> Ending
+// A budget below the run's branchings stops it. Within all of them it is finished, with the same report.
+pub fn halved(
+    table: &[u32],
+    day: Day,
+    best: Optimum,
+    budget: u64,
+    whole: Report,
+    r: Report,
+) -> Ending
     requires { ⌜ day .n ≤ mostStops ⌝ }
 {
-    if whole.branched != 0 {
-        return stopped(table, day, least, half_of(whole), r);
+    if budget < whole.branched {
+        return stopped(table, day, best, budget, r);
     }
-    let verdict = judged(table, day, least, r);
+    let verdict = judged(table, day, best, r);
     let Verdict::Best = verdict else {
         return Ending::Differs;
     };

@@ -16,7 +16,7 @@ pub struct Tally {
     pub sum: u64,
 }
 
-// Of jobs planned within half of their branchings: the same, with marks and floors in the checksum.
+// Of jobs planned within a budget: the same, with marks and floors in the checksum.
 pub struct Halves {
     pub with_order: u64,
     pub with_none: u64,
@@ -35,7 +35,7 @@ pub fn none() -> Tally {
     }
 }
 
-// The same for jobs within half of their branchings.
+// The same for jobs within a budget.
 pub fn no_halves() -> Halves {
     Halves {
         with_order: 0,
@@ -87,7 +87,7 @@ pub fn counted(t: Tally, v: Verdict, sum: u64) -> Tally {
     }
 }
 
-// The same for a job within half of its branchings.
+// The same for a job within a budget.
 pub fn counted_half(t: Halves, e: Ending, sum: u64) -> Halves {
     let mut q = t;
     q.sum = sum;
@@ -122,20 +122,20 @@ pub fn tell(t: Tally, words: &[u8]) {
     );
     line(
         t.best,
-        b" finished, at the least cost over all orders that respect the pairs\n",
+        b" finished, with the smallest of the cheapest orders that respect the pairs\n",
     );
     line(t.full, b" filled the pool\n");
     line(t.differed, b" differed\n");
     line(t.sum, b" is the checksum over all costs and counts\n");
 }
 
-// What the jobs within half of their branchings say.
+// What the jobs within a budget say.
 pub fn tell_halves(t: Halves) {
     let stopped = wrapping_add_u64(t.with_order, t.with_none);
     let right = wrapping_add_u64(stopped, t.finished);
     line(
         wrapping_add_u64(right, t.differed),
-        b" jobs planned within half of their branchings\n",
+        b" jobs planned within half of their branchings, one in eight within all of them\n",
     );
     line(t.with_order, b" stopped with an order known\n");
     line(t.with_none, b" stopped with none\n");

@@ -24,10 +24,10 @@ earliest-requires c κs =
     (blocked, (small, (omega arith, some-live (records (start .args .w .now)) (start .args .p .used) (start .pre .0 .0) (start .pre .0 .1))))
 
 returns : tie.Need-returns
-returns c = rw (c .before .match .keys1) (c .least-bound .ensures (c .before .before .before .before .args .n))
+returns c = rw (c .before .match .keys1) (c .least-bound .ensures)
 
 returns-2 : tie.Need-returns-2
-returns-2 c = rw (c .before .match .keys2) (c .least-bound2 .ensures (c .before .before .before .before .args .n))
+returns-2 c = rw (c .before .match .keys2) (c .least-bound2 .ensures)
 
 returns-3 : tie.Need-returns-3
 returns-3 c =

@@ -1,11 +1,17 @@
--- `least_bound` meets its contract: the least bound is met, so the first and the last place up to it have it.
+-- `least_bound` meets its contract: the least bound is met, and the foremost place up to it is open, or the first open one is taken, or there
+-- is none.
+use mathlib.Core.Path.{sym, _∙_}
+use mathlib.Core.Bool.{cond}
 use Prim.Native.Nat.{ℕ, _≤_, _<_}
 use native.Mathlib.Omega.{arith}
+use borrow.Author.Needs.{needs}
+use lib.ListN.{getD}
+use Rattle.stops.specs.Code.{emptyRecord}
 use Rattle.records.specs.Code.{records}
 use Rattle.lanes.specs.Sizes.{gone}
 use Rattle.blocks.specs.Code.{Least, boundAt}
-use Rattle.blocks.proofs.SelectLaws.{some-live, least-met}
-use Rattle.selection.proofs.ChooseLaws.{chosen-least, chosen-last-least}
+use Rattle.blocks.proofs.SelectLaws.{Prefers, prefers-least, some-live, least-met}
+use Rattle.selection.proofs.ChooseLaws.{over-shut, chosen-open, chosen-complete}
 use Rattle.selection.proofs.least_bound.Statement.{statement}
 use Rattle.selection.proofs.least_bound.Tie as tie
 
@@ -30,45 +36,55 @@ met :
 met c =
     least-met (records (entry c .args .w .now)) (entry c .args .p .used) (entry c .pre .0 .0 .inside) (c .least .result) (low c) (entry c .pre .1)
 
-latest-requires : tie.Need-latest-requires
-latest-requires c κs =
-    let start = entry (c .before) in
-    let (live, (i, (inside, at))) = met (c .before) in
-    (start .pre .0 .0, (start .pre .0 .1, (omega arith, (i, (inside, omega arith)))))
+-- up to the least bound, the selection prefers open nodes
+prefers :
+    (c : tie.After-least)
+    → let a = entry c .args in Prefers (records (a .w .now)) (a .p .used) (cond (a .late) 1 0) (a .late) (c .least .result)
+prefers c = prefers-least (entry c .args .late) (c .least .result) (low c) (met c .0)
 
-earliest-requires : tie.Need-earliest-requires
-earliest-requires c κs =
-    let start = entry (c .before) in
-    let (live, (i, (inside, at))) = met (c .before) in
-    (start .pre .0 .0, (start .pre .0 .1, (omega arith, (i, (inside, omega arith)))))
+foremost-requires : tie.Need-foremost-requires
+foremost-requires c κs =
+    let (live, (i, (inside, at))) = met c in
+    (entry c .pre .0 .0, (entry c .pre .0 .1, (omega arith, (i, (inside, omega arith)))))
 
 returns : tie.Need-returns
-returns c n =
+returns c =
     let found = c .before .before in
-    let start = entry found in
-    rw (c .before .if1 .taken)
-    (chosen-last-least (records (start .args .w .now)) (start .args .p .used) (start .pre .0 .0 .inside) n (found .least .result)
-    (c .latest .result)
-    (low found)
-    (met found .0)
-    (c .latest .ensures))
+    let limit = found .before in
+    let a = entry limit .args in
+    let recs = records (a .w .now) in
+    chosen-open recs (a .p .used) (entry limit .pre .0 .0 .inside) (a .n) (prefers limit) (found .foremost .result) (found .foremost .ensures .inside)
+    (sym (c .before .open .ensures) ∙ c .if1 .taken)
+    (λ j inside b. over-shut (a .n) (limit .least .result) (getD recs j emptyRecord) (found .foremost .ensures .before j inside b))
 
 returns-2 : tie.Need-returns-2
-returns-2 c n =
-    let found = c .before .before in
-    let start = entry found in
-    rw (c .before .if1 .left)
-    (chosen-least (records (start .args .w .now)) (start .args .p .used) (start .pre .0 .0 .inside) n (found .least .result) (c .earliest .result)
-    (low found)
-    (met found .0)
-    (c .earliest .ensures))
+returns-2 c =
+    let first = c .before .before in
+    let limit = first .before .before .before .before in
+    let a = entry limit .args in
+    let inside : first .first-open .result < a .p .used = omega (arith, c .if2 .taken) in
+    chosen-open (records (a .w .now)) (a .p .used) (entry limit .pre .0 .0 .inside) (a .n) (prefers limit) (first .first-open .result) inside
+    (first .first-open .ensures .found inside .1)
+    (λ j h b. first .first-open .ensures .before j h (λ k. b))
+
+returns-3 : tie.Need-returns-3
+returns-3 c =
+    let first = c .before .before in
+    let found = first .before .before .before in
+    let limit = found .before in
+    let a = entry limit .args in
+    chosen-complete (records (a .w .now)) (a .p .used) (entry limit .pre .0 .0 .inside) (a .n) (prefers limit) (found .foremost .result)
+    (found .foremost .ensures)
+    (λ j inside. first .first-open .ensures .before j inside (λ h. absurd (omega (arith, c .if2 .left))))
 
 pub least-bound-spec : {M : Type 1} → statement M
 least-bound-spec =
     tie.close
     (tie.spec
     least-requires
-    latest-requires
+    foremost-requires
+    (λ c κs. search needs)
     returns
-    earliest-requires
-    returns-2)
+    (λ c κs. search needs)
+    returns-2
+    returns-3)

@@ -41,8 +41,8 @@ returns c =
     let a = start .args in
     let recs = records (a .w .now) in
     let low =
-    least-block (a .used) (2 ^ a .shift) (a .k) (boundAt recs) _ _ (c .least-in .result) (start .pre .0 .wide)
-    (starts (c .before .before)) (ends (c .before)) (c .least-in .ensures) in (
+    least-block (a .used) (2 ^ a .shift) (a .k) _ _ (start .pre .0 .wide) (starts (c .before .before)) (ends (c .before)) (boundAt recs)
+    (c .least-in .result) (c .least-in .ensures) in (
       blocked-set recs (a .used) (2 ^ a .shift) (a .index .now) (a .k) _ (start .pre .0) (start .pre .1 .0) low,
       same-set (a .index .now) (a .k) _ (start .pre .1 .0),
     )

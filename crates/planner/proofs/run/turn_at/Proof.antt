@@ -17,7 +17,7 @@ abbrev entry : tie.After-sized-at → tie.Start
 entry c = c .before .before .before .before .before
 
 abbrev loaded : tie.After-finishes → tie.After-sized-at
-loaded c = c .before .before .before
+loaded c = c .before
 
 abbrev goes : tie.After-struct-known2 → tie.Else1
 goes c = c .before .before
@@ -79,7 +79,7 @@ turn-at-spec =
     tie.close
     (tie.spec
     (λ c κs. let p = c .before .before .before .before .pre .0 in turn-loads (p .1 .2) (p .0))
-    (λ c κs. entry (c .before .before) .pre .0 .1 .2 .selects)
+    (λ c κs. search needs)
     (λ c. search needs)
     returns
     (λ c. search needs)
