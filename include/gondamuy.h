@@ -2,7 +2,7 @@
  * C on x86-64 Linux. Link with libgondamuy.a. docs/HOSTS.md has the same for people, with examples.
  *
  * NUMBER 0 ALONE DOES NOT SAY "CHEAPEST". A search that its budget stopped comes back with number 0 and mark 1, and a
- * cheaper order may be left. The order is a cheapest one where number and mark are both 0: gondamuy_is_finished.
+ * cheaper order may be left. The order is the cheapest where number and mark are both 0: gondamuy_is_finished.
  * A JOB FILE HAS NO PAIRS. Who plans what was read from one hands its pairs in beside it, or plans without them
  * (request A.6).
  *
@@ -26,8 +26,8 @@
 extern "C" {
 #endif
 
-/* Raised with every change of a call, of a struct or of what a number means. */
-#define GONDAMUY_VERSION 7
+/* Raised with every change of a call, of a struct, of what a number means or of what comes back. */
+#define GONDAMUY_VERSION 8
 
 /* Sizes. */
 #define GONDAMUY_MOST_STOPS 16                                         /* stops of a day at most */
@@ -47,8 +47,9 @@ extern "C" {
 
 /* Which waiting (active) node is branched next. */
 enum gondamuy_selection {
-    GONDAMUY_SELECTION_LEAST_BOUND_EARLIEST = 0, /* the least bound, the earliest generated on ties (LLB) */
-    GONDAMUY_SELECTION_LEAST_BOUND_LATEST = 1,   /* the least bound, the latest generated on ties (LLB) */
+    /* the least bound (LLB); on ties nodes that are not complete first, of these the earliest or the latest generated */
+    GONDAMUY_SELECTION_LEAST_BOUND_EARLIEST = 0,
+    GONDAMUY_SELECTION_LEAST_BOUND_LATEST = 1,
     GONDAMUY_SELECTION_FIFO = 2,                 /* the earliest generated */
     GONDAMUY_SELECTION_LIFO = 3                  /* the latest generated that is not complete: depth first */
 };
@@ -157,7 +158,8 @@ struct gondamuy_record {
     uint32_t second;    /* the others */
 };
 
-/* Puts the stops 1 to job.n into the cheapest order that respects the pairs, within a budget of branchings.
+/* Puts the stops 1 to job.n into the cheapest order that respects the pairs, within a budget of branchings. Of several
+ * cheapest orders it is the smallest in comparison stop by stop (request A.8), whatever the search.
  *
  * table: (n+1)*(n+1) numbers, row by row; home is place 0. Row i has the leg from place i to each other place, at most
  * GONDAMUY_DEAREST_LEG, and on the diagonal the landing charge of place i, at most GONDAMUY_DEAREST_CHARGE, 0 for none
@@ -175,7 +177,7 @@ struct gondamuy_record {
  *
  * What comes back and what the pool then holds, by number and mark. Of several refusals the first in the sequence 1, 2,
  * 3, 4, 5, 11, 6 is returned. A start that names each stop once is held to the pairs only where 11 lets these pass.
- *   0, mark 0  Finished: a cheapest order, its cost, and the counts of the search. The pool holds the nodes that were
+ *   0, mark 0  Finished: that order, its cost, and the counts of the search. The pool holds the nodes that were
  *              left: the active ones, report.active records, earliest generated first; with rule 4 behind them the
  *              branched ones, report.branched records, earliest branched first; zeros behind.
  *   0, mark 1  Stopped: the budget was spent before the search finished, and report.branched is the budget. Every order

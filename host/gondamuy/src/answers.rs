@@ -36,7 +36,7 @@ pub struct Counts {
 #[derive(Clone, Copy, Debug, PartialEq, Eq)]
 #[must_use = "the search may have been stopped, with no plan"]
 pub enum Planned {
-    /// The search finished: a cheapest order of those that respect the pairs.
+    /// The search finished: a cheapest order of those that respect the pairs, of several the smallest.
     Finished(Plan),
     /// The budget was spent before that: what is known up to there.
     Stopped(Stopped),
@@ -81,7 +81,8 @@ fn flown(order: &[u8; ORDER_PLACES]) -> &[u8] {
     &order[..stops]
 }
 
-/// A cheapest order of the stops: no order that respects the pairs costs less.
+/// A cheapest order of the stops: no order that respects the pairs costs less, and none that costs the same is smaller
+/// in comparison stop by stop (request A.8).
 #[derive(Clone, Copy, Debug, PartialEq, Eq)]
 #[must_use]
 pub struct Plan {

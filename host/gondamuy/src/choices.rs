@@ -8,9 +8,9 @@ use crate::{raw, Refusal};
 #[derive(Clone, Copy, Debug, PartialEq, Eq, Hash)]
 #[repr(u32)]
 pub enum Selection {
-    /// 0: the least bound, the earliest generated on ties.
+    /// 0: the least bound; on ties nodes that are not complete first, of these the earliest generated.
     LeastBoundEarliest = 0,
-    /// 1: the least bound, the latest generated on ties.
+    /// 1: the least bound; on ties nodes that are not complete first, of these the latest generated.
     LeastBoundLatest = 1,
     /// 2: the earliest generated.
     Fifo = 2,

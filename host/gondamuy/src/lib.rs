@@ -44,7 +44,8 @@ pub use sizes::*;
 
 /// Puts the stops 1 to n into the cheapest order that respects the pairs, within a budget of branchings. **Only
 /// [`Planned::Finished`] is a cheapest order**; a search whose budget was spent before it finished is
-/// [`Planned::Stopped`].
+/// [`Planned::Stopped`]. Of several cheapest orders it is the smallest in comparison stop by stop (request A.8),
+/// whatever the search; the known order of a stopped search need not be.
 ///
 /// `table` has (n+1) squared numbers, row by row: legs, and landing charges on the diagonal (below); `start` is a
 /// starting order or empty; `pairs` are [`MOST_PAIRS`] at most, or none (below); `budget` is how many nodes may be
@@ -69,7 +70,7 @@ pub use sizes::*;
 /// assert_eq!((refused.refusal, refused.counts.branched), (Refusal::Full, 0));
 /// // From a cheapest order, one record is enough.
 /// let started = plan(job, &table, &[1, 2, 3], &[], NO_BUDGET, &mut pool)?.finished()?;
-/// assert_eq!((started.cost, started.counts.branched), (13, 2));
+/// assert_eq!((started.cost, started.counts.branched), (13, 3));
 /// # Ok::<(), Box<dyn std::error::Error>>(())
 /// ```
 ///

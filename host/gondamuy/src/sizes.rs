@@ -1,7 +1,7 @@
 //! The sizes of documents 01 and 02 by name.
 
-/// Raised with every change of a call, of a struct or of what a number means, as `GONDAMUY_VERSION` is.
-pub const VERSION: u32 = 7;
+/// Raised with every change of a call, of a struct, of what a number means or of what comes back, as `GONDAMUY_VERSION` is.
+pub const VERSION: u32 = 8;
 
 /// Stops of a day at most.
 pub const MOST_STOPS: usize = 16;

@@ -52,12 +52,13 @@ fn close_of_table_t() {
     assert_eq!(pool.map(|record| record.path), [4, 7, 9]);
 }
 
-/// A starting order costs no leg home either: 1 2 3 costs what the empty node's bound is, and no branching is made.
+/// A starting order costs no leg home either: 1 2 3 costs what the empty node's bound is, and all that is branched is
+/// what leads to it again.
 #[test]
 fn a_starting_order_costs_its_path() {
     let job = Job { selection: Selection::Lifo, rules: Rules::UPPER_COST, bound: Bound::CloseAway, ..FIFO_PLAIN };
     let plan = finished(job, &T, &[1, 2, 3], &mut [Record::default(); 1]);
-    assert_eq!((plan.cost, plan.counts.branched), (7, 0));
+    assert_eq!((plan.cost, plan.order(), plan.counts.branched), (7, &[1, 2, 3][..], 3));
     let Planned::Stopped(known) = plan_records(job, &T, &[1, 3, 2], &[], 0, &mut [Record::default(); 1]).unwrap()
     else {
         panic!()
@@ -94,14 +95,18 @@ fn another_order() {
     }
 }
 
-/// Sixteen flights of 1,100,000: the flight home, as dear as they are, is not counted.
+/// Sixteen flights of 1,100,000: the flight home, as dear as they are, is not counted. All orders tie, so a budget ends
+/// the search.
 #[test]
 fn the_dearest_day() {
     let table = charged(&level(16, DEAREST_LEG), &[DEAREST_CHARGE; 17]);
     assert_eq!(first_order(16, Bound::PlainAway, &table, &[]).unwrap().cost, 17_600_000);
     let job = Job { n: 16, selection: Selection::LeastBoundLatest, bound: Bound::CloseAway, ..FIFO_PLAIN };
-    let plan = finished(job, &table, &[], &mut [Record::default(); 121]);
-    assert_eq!((plan.cost, plan.counts.branched), (17_600_000, 16));
+    let Planned::Stopped(after) = plan_records(job, &table, &[], &[], 16, &mut [Record::default(); 121]).unwrap()
+    else {
+        panic!()
+    };
+    assert_eq!((after.known.unwrap().cost, after.floor), (17_600_000, 17_600_000));
 }
 
 const CASE_A: raw::Job = raw::Job { n: 3, selection: 0, rules: 1, bound: 1 };

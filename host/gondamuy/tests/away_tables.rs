@@ -107,7 +107,7 @@ fn held_to_all_orders() {
     assert!(other_orders > 1_000 && saved > 5_000, "{other_orders} {saved}");
 }
 
-/// Two searches that both end away come out at one cost, and under FIFO and LIFO close is at least as close as plain.
+/// Two searches that both end away come out at one order, and under FIFO and LIFO close is at least as close as plain.
 #[test]
 fn close_is_no_more_work_than_plain() {
     let mut random = Random(114);
@@ -117,7 +117,7 @@ fn close_is_no_more_work_than_plain() {
         job.selection |= 2;
         let [close, plain] = [3, 2].map(|bound| planned(&Job { bound, ..job.clone() }, NO_BUDGET, 2_100).0);
         assert!(close.is_finished() && plain.is_finished(), "{job:?}");
-        assert_eq!(close.cost, plain.cost, "{job:?}");
+        assert_eq!((close.cost, close.order), (plain.cost, plain.order), "{job:?}");
         assert!(close.branched <= plain.branched && close.generated <= plain.generated, "{job:?}");
         assert!(close.most <= plain.most, "{job:?}");
         fewer += (close.branched < plain.branched) as u32;

@@ -50,7 +50,7 @@ fn case_b_after_five_branchings() {
     );
 }
 
-/// The ninth branching leaves an order that costs the floor, and more than one active node: stopped, though off by 0.
+/// The ninth branching leaves an order that costs the floor, and a node that is not complete: stopped, though off by 0.
 #[test]
 fn case_b_to_its_finish() {
     let mut pool = [Record::default(); 6];
@@ -84,14 +84,21 @@ fn a_free_order_is_known() {
     assert_eq!((known.cost, known.order()), (0, &[1, 2][..]));
 }
 
-/// An order that costs what the empty node's bound is needs no branching, and is a plan within every budget.
+/// An order that costs what the empty node's bound is, is known to be cheapest and is no plan: a smaller one may cost
+/// the same, as it does here, and is found by the fifth branching.
 #[test]
-fn finished_at_once() {
-    let mut pool = [Record::default(); 1];
-    for budget in [0, 1, NO_BUDGET] {
-        let plan = plan_records(CASE_B, &[0; 16], &[2, 3, 1], &[], budget, &mut pool).unwrap().finished().unwrap();
-        assert_eq!((plan.cost, plan.order(), plan.counts), (0, &[2, 3, 1][..], counts([0, 1, 0, 1, 1])));
+fn known_to_be_cheapest() {
+    let mut pool = [Record::default(); 6];
+    for (budget, order) in [(0, [2, 3, 1]), (4, [2, 3, 1]), (5, [1, 2, 3]), (9, [1, 2, 3])] {
+        let answer = stopped(CASE_B, &[0; 16], &[2, 3, 1], budget, &mut pool);
+        assert_eq!(
+            (answer.floor, answer.far_off(), answer.known.unwrap().order()),
+            (0, Some(0), &order[..]),
+            "{budget}"
+        );
     }
+    let plan = plan_records(CASE_B, &[0; 16], &[2, 3, 1], &[], NO_BUDGET, &mut pool).unwrap().finished().unwrap();
+    assert_eq!((plan.cost, plan.order(), plan.counts), (0, &[1, 2, 3][..], counts([10, 16, 0, 6, 6])));
 }
 
 /// Number 0 is not enough: only number and mark together are read as finished.

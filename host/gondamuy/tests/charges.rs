@@ -71,15 +71,15 @@ fn the_nearest_stop_is_landed_at() {
 }
 
 /// Seventeen flights of 1,100,000. All close bounds are equal, and the latest of equals leads straight to an order;
-/// under plain the latest generated does.
+/// under plain the latest generated does. All orders tie, so a budget ends the search.
 #[test]
 fn the_dearest_day() {
     let table = charged(&level(16, DEAREST_LEG), &[DEAREST_CHARGE; 17]);
     assert_eq!(first_order(16, Bound::Close, &table, &[]).unwrap().cost, 18_700_000);
     let job = gondamuy::Job { n: 16, selection: Selection::LeastBoundLatest, bound: Bound::Close, ..FIFO_PLAIN };
     let mut pool = [Record::default(); 121];
-    let plan = finished(job, &table, &mut pool);
-    assert_eq!((plan.cost, plan.counts.branched), (18_700_000, 16));
+    let Planned::Stopped(after) = plan_records(job, &table, &[], &[], 16, &mut pool).unwrap() else { panic!() };
+    assert_eq!((after.known.unwrap().cost, after.floor), (18_700_000, 18_700_000));
     let job = gondamuy::Job { n: 16, selection: Selection::Lifo, ..FIFO_PLAIN };
     let Planned::Stopped(after) = plan_records(job, &table, &[], &[], 16, &mut pool).unwrap() else { panic!() };
     assert_eq!((after.known.unwrap().cost, after.floor), (18_700_000, 1_100_000));

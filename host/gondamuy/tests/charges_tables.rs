@@ -112,18 +112,19 @@ fn close_searches_take_the_same_steps() {
 }
 
 /// A plain bound has the landings flown so far and no others: with all legs 1 stop 2 is then the cheaper one to begin
-/// with, and both orders cost the same; in table T the cheapest order is found after more branchings.
+/// with, so that 2 1 is found before 1 2, which costs the same; in table T the cheapest order is found after more
+/// branchings.
 #[test]
 fn plain_searches_may_take_others() {
-    let found = |n: u32, table: &[u32]| {
+    let found = |n: u32, table: &[u32], budget| {
         let job =
             Job { n, table: table.to_vec(), selection: 0, rules: 1, bound: 0, start: Vec::new(), pairs: Vec::new() };
-        let (report, _) = planned(&job, NO_BUDGET, 10);
+        let (report, _) = planned(&job, budget, 10);
         (report.cost, report.order[..n as usize].to_vec(), report.branched)
     };
-    let legs = level(2, 1);
-    assert_eq!(found(2, &legs), (3, vec![1, 2], 3));
-    assert_eq!(found(2, &charged(&legs, &[0, 5, 1])), (3 + 6, vec![2, 1], 3));
-    assert_eq!(found(3, &T), (13, vec![1, 2, 3], 7));
-    assert_eq!(found(3, &charged(&T, &[2, 10, 20, 40])), (13 + 72, vec![1, 2, 3], 10));
+    let (legs, landings) = (level(2, 1), charged(&level(2, 1), &[0, 5, 1]));
+    assert_eq!([2, NO_BUDGET].map(|budget| found(2, &legs, budget)), [(3, vec![1, 2], 2), (3, vec![1, 2], 3)]);
+    assert_eq!([2, NO_BUDGET].map(|budget| found(2, &landings, budget)), [(9, vec![2, 1], 2), (9, vec![1, 2], 3)]);
+    assert_eq!(found(3, &T, NO_BUDGET), (13, vec![1, 2, 3], 8));
+    assert_eq!(found(3, &charged(&T, &[2, 10, 20, 40]), NO_BUDGET), (13 + 72, vec![1, 2, 3], 10));
 }

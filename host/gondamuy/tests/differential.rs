@@ -1,7 +1,7 @@
 //! The proved planner against the second planner: every field of the report and every word of the pool, over random
-//! jobs of many kinds, half of them with landing charges (request A.4), half of them for days that end away (request
-//! A.5) and half of them with pairs (request A.6), without a starting order and with one, at times the first order of
-//! request A.1. Most are planned without a budget and, in the same pool, within one (request A.3), and then the two
+//! jobs of many kinds, half of them with legs of 0 to 2 at most, so that many orders tie (request A.8), half of them with
+//! landing charges (request A.4), half of them for days that end away (request A.5) and half of them with pairs (request
+//! A.6), without a starting order and with one, at times the first order of request A.1. Most are planned without a budget and, in the same pool, within one (request A.3), and then the two
 //! reports are held to each other as well; `large_jobs_within_a_budget` has those that are planned within one alone.
 //! Test file `refusals` has the jobs that are refused before a search.
 
@@ -119,24 +119,31 @@ fn up_to_sixteen_stops() {
     let mut random = Random(2);
     for n in 7..=16 {
         for round in 0..6 {
-            let most = random.pick(&[1, 9, 1_000, 1_000_000]);
+            let most = random.pick(&[1, 2, 1_000, 1_000_000]);
             let mut job = random_job(&mut random, n, most);
             job.bound |= 1;
             // Small pools: such jobs end soon, with an order or full. Depth first
-            // they need not, where the pool holds all that waits on the way down,
-            // unless the branched nodes are kept too. With pairs fewer wait.
+            // they need not, nor with the latest of ties, where the pool holds all
+            // that waits on the way down, unless the branched nodes are kept too.
+            // With pairs fewer wait.
             let records = [1, 17, 40, 90, 200, 400][round];
             let waiting = n * (n - 1) / if job.pairs.is_empty() { 2 } else { 4 };
-            if job.selection == 3 && n > 8 && records > waiting {
+            if job.selection % 2 == 1 && n > 8 && records > waiting {
                 job.rules |= 4;
             }
             both(&mut random, &job, records * RECORD_WORDS);
-            // All legs equal, the latest of ties: straight down to an order.
+            // All legs equal, the latest of ties: straight down to an order, and
+            // then to others that tie.
             job.table = random.maybe_charged(n, level(n, 7));
             job.selection = 1;
             job.rules = random.below(16) as u32;
-            let found = both(&mut random, &job, 400 * RECORD_WORDS);
-            assert!(found.without.is_finished(), "{job:?}");
+            let pool = random.words(400 * RECORD_WORDS);
+            for (budget, down) in [(n as u64 - 1, false), (n as u64, true)] {
+                let (report, _) = compare(&job, budget, &pool);
+                let known = down || !job.start.is_empty();
+                assert_eq!((report.mark, report.order[0] != 0), (STOPPED, known), "{budget} {job:?}");
+            }
+            compare(&job, 300, &pool);
         }
     }
 }
@@ -148,7 +155,7 @@ fn large_jobs_within_a_budget() {
     let mut stopped = 0;
     for round in 0..300 {
         let n = 10 + round % 7;
-        let most = random.pick(&[1, 9, 1_000, 1_000_000]);
+        let most = random.pick(&[1, 2, 1_000, 1_000_000]);
         let job = random_job(&mut random, n, most);
         let budget = random.pick(&[0, 1, 2, 15, 16, 17, 40, 100]);
         let records = random.pick(&[100, 2_000]);

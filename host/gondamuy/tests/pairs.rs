@@ -126,7 +126,8 @@ fn exchanges_that_are_not_made() {
 }
 
 /// Eight pairs, each drop with the number below its pick-up, and the last of ties: straight down to the only order that
-/// takes the highest allowed stop each time. Landings and the end of the day are paid as ever.
+/// takes the highest allowed stop each time. Landings and the end of the day are paid as ever. All orders tie, so a
+/// budget ends the search.
 #[test]
 fn sixteen_stops_in_eight_pairs() {
     let pairs: Vec<Pair> = (1..=8).map(|k| pair(2 * k, 2 * k - 1)).collect();
@@ -135,8 +136,10 @@ fn sixteen_stops_in_eight_pairs() {
     let told: Vec<u8> = (1..=16).rev().collect();
     for (bound, cost) in [(Bound::Close, 17 * 12), (Bound::CloseAway, 16 * 12)] {
         let job = Job { n: 16, selection: Selection::LeastBoundLatest, rules: Rules::UPPER_COST, bound };
-        let plan = finished(job, &table, &[], &pairs, &mut [Record::default(); 100]);
-        assert_eq!((plan.cost, plan.order(), plan.counts.branched), (cost, &told[..], 16));
+        let planned = plan_records(job, &table, &[], &pairs, 16, &mut [Record::default(); 100]).unwrap();
+        let after = planned.finished().unwrap_err();
+        let known = after.known.unwrap();
+        assert_eq!((known.cost, known.order(), after.floor), (cost, &told[..], cost));
         let first = first_order(16, bound, &table, &pairs).unwrap();
         let lowest: Vec<u8> = (1..=8).flat_map(|k| [2 * k, 2 * k - 1]).collect();
         assert_eq!((first.cost, first.order()), (cost, &lowest[..]));
@@ -183,7 +186,7 @@ fn longer_files() {
     for length in 0..=16 {
         let number = if length % 2 == 0 { 0 } else { 11 };
         assert_eq!(raw::first_order(16, 1, &table, &stops[..length]).number, number, "{length}");
-        let report = raw::plan(job, &table, &[], &stops[..length], NO_BUDGET, &mut [0; 126 * 6]);
+        let report = raw::plan(job, &table, &[], &stops[..length], 0, &mut [0; 126 * 6]);
         assert_eq!(report.number, number, "{length}");
     }
     for length in [17, 18, 32, 256, 1_000] {

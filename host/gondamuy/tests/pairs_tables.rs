@@ -2,10 +2,10 @@
 //! charges and half of them for days that end away. The same library plans each of them several times:
 //!
 //! - with its pairs and without, for 10,000 days: with them the order respects them and is the cheapest of all that do,
-//!   and costs as much as without where the order found without respects them;
+//!   and is the same as without where the order found without respects them;
 //! - with its pairs in another sequence: the same, to the last word of the pool, for 10,000 days, within a budget or
 //!   none, and for their first orders;
-//! - with its pairs under other choices, for 10,000 days that end at the same place: the same cost.
+//! - with its pairs under other choices, for 10,000 days that end at the same place: the same cost and order.
 
 mod common;
 
@@ -44,7 +44,7 @@ fn held_to_the_orders_that_respect_them() {
         assert!(respects(&job.pairs, &order(&with)), "{job:?}");
         assert_eq!((with.cost, with.cost), (least_cost(&job), order_cost(&job, &order(&with))), "{job:?}");
         if respects(&job.pairs, &order(&without)) {
-            assert_eq!(with.cost, without.cost, "{job:?}");
+            assert_eq!((with.cost, with.order), (without.cost, without.order), "{job:?}");
         }
         assert!(without.cost <= with.cost, "{job:?}");
         dearer += (without.cost < with.cost) as u32;
@@ -77,7 +77,7 @@ fn their_sequence_plays_no_part() {
 }
 
 #[test]
-fn one_cost_under_all_choices() {
+fn one_order_under_all_choices() {
     let mut random = Random(123);
     for _ in 0..10_000 {
         let job = paired_job(&mut random, 6);
@@ -85,6 +85,7 @@ fn one_cost_under_all_choices() {
         let bound = job.bound & 2 | close;
         let start = random.order_with(job.n as usize, &job.pairs);
         let other = Job { selection, rules, bound, start, ..job.clone() };
-        assert_eq!(finished(&job).cost, finished(&other).cost, "{job:?} {other:?}");
+        let [one, two] = [&job, &other].map(finished);
+        assert_eq!((one.cost, one.order), (two.cost, two.order), "{job:?} {other:?}");
     }
 }

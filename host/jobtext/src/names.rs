@@ -4,8 +4,8 @@
 pub type Named = (u32, &'static str, &'static str);
 
 pub const SELECTIONS: [Named; 4] = [
-    (0, "LLB-FIFO", "least bound first, the earliest generated on ties"),
-    (1, "LLB-LIFO", "least bound first, the latest generated on ties"),
+    (0, "LLB-FIFO", "least bound first, the earliest incomplete node on ties"),
+    (1, "LLB-LIFO", "least bound first, the latest incomplete node on ties"),
     (2, "FIFO", "earliest generated first"),
     (3, "LIFO", "latest generated first"),
 ];

@@ -63,7 +63,7 @@ fn charges_are_shown_apart() {
 fn no_charges_are_not_shown() {
     let shown = text(&job([0, 0, 0]));
     let told = "stops 2\ntable\n0 3 4\n5 0 6\n7 8 0\n\
-                selection LLB-FIFO # least bound first, the earliest generated on ties\n\
+                selection LLB-FIFO # least bound first, the earliest incomplete node on ties\n\
                 rules none # no node is eliminated\nbound plain # the path cost\nstart none\n";
     assert_eq!(shown, told);
     let wide = Job { table: vec![0, 12, 345, 0], n: 1, ..job([0; 3]) };

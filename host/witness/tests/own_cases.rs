@@ -1,5 +1,6 @@
-//! The cases of `crates/answer/specs/OwnCases.antt`, number for number: what
-//! is proved there of the definitions, this planner finds by itself.
+//! The cases of `crates/answer/specs/OwnCases.antt`, and those of `TieCases.antt`
+//! that have every word of the pool, number for number: what is proved there of
+//! the definitions, this planner finds by itself.
 
 mod common;
 
@@ -45,7 +46,7 @@ fn rule_4_fills() {
 }
 
 #[test]
-fn rule_8_keeps_later() {
+fn rule_8_keeps_smaller() {
     let nodes = [[3, 7, 3, 4, 33, 0], [3, 7, 3, 4, 288, 0], [3, 7, 3, 4, 528, 0]];
     let job = Job::new(3, &level(3, 1), [3, 8, 1], &[]);
     expect(job, 5, (0, 4, &[1, 2, 3], [10, 16, 3, 3, 5]), &nodes);
@@ -94,4 +95,29 @@ fn all_rules_started() {
     ];
     let job = Job::new(3, &T, [0, 15, 0], &[1, 2, 3]);
     expect(job, 9, (0, 13, &[1, 2, 3], [8, 14, 5, 1, 4]), &nodes);
+}
+
+/// Four stops: 143 and 413 cost the same, and 143 is branched first.
+const TIED_PATHS: [u32; 25] = [0, 1, 3, 3, 2, 1, 0, 2, 1, 1, 1, 1, 0, 3, 3, 1, 1, 1, 0, 3, 3, 1, 2, 2, 0];
+
+#[test]
+fn smaller_eliminates() {
+    let nodes = [
+        [4, 15, 5, 6, 4656, 0],
+        [0, 0, 0, 5, 0, 0],
+        [1, 1, 1, 5, 0, 0],
+        [2, 9, 2, 6, 48, 0],
+        [3, 13, 4, 6, 560, 0],
+        [1, 8, 2, 6, 3, 0],
+        [2, 9, 3, 6, 3, 0],
+    ];
+    let job = Job::new(4, &TIED_PATHS, [1, 5, 1], &[]);
+    expect(job, 10, (0, 6, &[1, 4, 3, 2], [6, 16, 9, 1, 7]), &nodes);
+}
+
+#[test]
+fn larger_spares() {
+    let (report, _) = Job::new(4, &level(4, 1), [3, 4, 0], &[]).run(65);
+    assert_eq!((report.number, report.cost, &report.order[..4]), (0, 5, &[1, 2, 3, 4][..]));
+    assert_eq!(report.counts(), [41, 65, 0, 24, 24]);
 }

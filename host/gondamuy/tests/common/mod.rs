@@ -90,11 +90,19 @@ pub fn order_cost(job: &Job, order: &[u8]) -> u32 {
     places.windows(2).map(|pair| job.table[pair[0] * side + pair[1]] + job.table[pair[1] * (side + 1)]).sum()
 }
 
-/// The least that one of all n! orders costs, of those that respect the pairs.
-pub fn least_cost(job: &Job) -> u32 {
+/// Of all n! orders those that respect the pairs and cost the least, the smallest first.
+pub fn cheapest_orders(job: &Job) -> Vec<Vec<u8>> {
     let stops = |order: Vec<usize>| order.into_iter().map(|stop| stop as u8).collect::<Vec<u8>>();
     let allowed = all_orders(job.n as usize).into_iter().map(stops).filter(|order| respects(&job.pairs, order));
-    allowed.map(|order| order_cost(job, &order)).min().unwrap()
+    let mut orders: Vec<(u32, Vec<u8>)> = allowed.map(|order| (order_cost(job, &order), order)).collect();
+    orders.sort();
+    let least = orders[0].0;
+    orders.into_iter().filter(|(cost, _)| *cost == least).map(|(_, order)| order).collect()
+}
+
+/// The least that one of all n! orders costs, of those that respect the pairs.
+pub fn least_cost(job: &Job) -> u32 {
+    order_cost(job, &cheapest_orders(job)[0])
 }
 
 /// As `random_job`, over 1 to 16 stops and legs of every size.
