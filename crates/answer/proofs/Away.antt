@@ -6,6 +6,7 @@ use mathlib.Core.Logic.{inl, inr}
 use Prim.Native.Nat.{ℕ, zero, suc, _≤_}
 use native.Mathlib.Omega.{arith}
 use borrow.Author.Tests.{le-ltb}
+use Rattle.lists.specs.Lists.{In}
 use Rattle.orders.specs.Orders.{Node, Order}
 use Rattle.orders.proofs.Order.{partial-order}
 use Rattle.orders.specs.Pairs.{pairsOf}
@@ -20,7 +21,7 @@ use Rattle.answer.specs.Call.{Call, callOf, Answer}
 use Rattle.answer.specs.Checks.{noSuchBound, cause₄, cause}
 use Rattle.answer.specs.Answer.{dayOf, problemOf, answer}
 use Rattle.answer.specs.Ends.{orderIn, AllowedOrder}
-use Rattle.answer.specs.Demands.{written, OneTable, EndAlike, AsClose}
+use Rattle.answer.specs.Demands.{written, OneTable, EndAlike, AsClose, allowedOrders, Cheapest}
 use Rattle.answer.specs.OnDay.{answerOn}
 use Rattle.answer.specs.Away.{homeDayOf, awayDayOf, EndsAway, LetsBoundsPass, FiguresAway, AnswersAway, BoundExactAway, ComparedEndAlike, CheapestWithoutLegHome, NoDearerAway, LegsHomeUnread}
 use Rattle.answer.proofs.Passes.{choices-pass, passes}
@@ -79,14 +80,21 @@ compared-end-alike a b favours = go (favours .bound)
     go (inr h) = closer-ends (a .job .bound) (b .job .bound) (h .1)
 
 pub cheapest-without-leg-home : CheapestWithoutLegHome written
-cheapest-without-leg-home c a e ends h =
-    let passed : cause c ≡ 0 = number-0-passes c (subst (λ (x : Answer). x .report .number ≡ 0) e (h .0)) in
-    let best = cheapest-of-all c a e h in
-    record {
-      is-allowed = best .has-order .is-allowed;
-      cost-is = best .has-order .cost-is-its ∙ own-cost c passed ends (orderIn c (a .report)) (best .has-order .is-allowed .order);
-      least = λ y m. subst (λ (v : ℕ). a .report .cost ≤ v) (own-cost c passed ends y (in-ordersWith (c .job .n) (pairsOf (c .pairs)) y m .order)) (best .least y m);
-    }
+cheapest-without-leg-home c a e ends h = record {
+  is-allowed = best .has-order .is-allowed;
+  cost-is = best .has-order .cost-is-its ∙ own-cost c passed ends (orderIn c (a .report)) (best .has-order .is-allowed .order);
+  least = λ y m. subst (λ (v : ℕ). a .report .cost ≤ v) (costs y m) (best .least y m);
+  smallest = λ y m same. best .smallest y m (costs y m ∙ same);
+}
+  where
+    best : Cheapest c (a .report)
+    best = cheapest-of-all c a e h
+
+    passed : cause c ≡ 0
+    passed = number-0-passes c (subst (λ (x : Answer). x .report .number ≡ 0) e (h .0))
+
+    costs : (y : Node) → In y (allowedOrders c) → dayOf c .cost y ≡ homeDayOf c .path y
+    costs y m = own-cost c passed ends y (in-ordersWith (c .job .n) (pairsOf (c .pairs)) y m .order)
 
 -- an order that ends at home costs its path and its leg home
 home-path-below : (c : Call) (x : Node) → homeDayOf c .path x ≤ homeDayOf c .cost x

@@ -29,10 +29,10 @@ use Rattle.answer.proofs.Known.{known-order, best-known}
 use Rattle.answer.proofs.Budget.{stopped-as-written, order-shows}
 
 -- a's job with another budget and another pool
-abbrev alongside : Call → ℕ → List ℕ → Call
+abbrev pub alongside : Call → ℕ → List ℕ → Call
 alongside a budget pool = record { job = a .job; table = a .table; start = a .start; pairs = a .pairs; budget = budget; pool = pool }
 
-same-call : (a b : Call) → OneJob a b → b ≡ alongside a (b .budget) (b .pool)
+pub same-call : (a b : Call) → OneJob a b → b ≡ alongside a (b .budget) (b .pool)
 same-call a b one = λ i. record {
   job = sym (one .job) i;
   table = sym (one .table) i;
@@ -43,7 +43,7 @@ same-call a b one = λ i. record {
 }
 
 -- A report with this as the order known shows an order.
-abbrev Shows : Option Node → Type 0
+abbrev pub Shows : Option Node → Type 0
 Shows best = getD (padded orderPlaces (stopsOf best)) 0 0 ≢ 0
 
 pub no-dearer-than-start : NoDearerThanStart written
@@ -66,7 +66,7 @@ module _ (a : Call) (k : ℕ) (longer : a .budget ≤ k) (pool : List ℕ) where
 
   -- two stopped runs: the state of b comes after that of a
   module _ (f : ComesTo a BudgetIsSpent) (g : ComesTo b BudgetIsSpent) where
-    after : Steps (problemOf b) (choicesOf b) (recordsIn pool) (f .state) (g .state)
+    pub after : Steps (problemOf b) (choicesOf b) (recordsIn pool) (f .state) (g .state)
     unfolding problemOf choicesOf choices dayOf
     after = stopped-after (problemOf a) (choicesOf a) (recordsIn (a .pool)) k longer (given (a .start)) (f .steps) (g .steps) (g .there)
 

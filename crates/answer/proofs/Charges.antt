@@ -1,5 +1,5 @@
 -- Request A.4 of the written run, a theorem for each type of specs/Charges.
-use mathlib.Core.Path.{_≡_, refl, ap, _∙_, subst}
+use mathlib.Core.Path.{_≡_, refl, sym, ap, _∙_, subst}
 use mathlib.Core.Bool.{Bool, false, not}
 use mathlib.Core.List.{List}
 use mathlib.Core.Logic.{_⊎_, inl, inr, _≢_}
@@ -13,6 +13,7 @@ use Rattle.lists.specs.Lists.{In, any, from, padded}
 use Rattle.lists.proofs.Tests.{compared, to-false}
 use Rattle.lists.proofs.Elements.{getD-small}
 use Rattle.lists.proofs.Members.{any-in, in-from}
+use Rattle.orders.specs.Orders.{Node}
 use Rattle.orders.specs.Pairs.{pairsOf}
 use Rattle.orders.proofs.Pairs.{in-ordersWith}
 use Rattle.stops.specs.Tables.{entry, charge, flying, counted, rows}
@@ -25,7 +26,7 @@ use Rattle.answer.specs.Answer.{dayOf, reportWith, respond, answer}
 use Rattle.answer.specs.declared.Report.{Report}
 use Rattle.answer.specs.Ends.{orderIn, HasOrder, Ended, planned, halted, filled, refused}
 use Rattle.answer.specs.Budget.{ShowsOrder}
-use Rattle.answer.specs.Demands.{written}
+use Rattle.answer.specs.Demands.{written, allowedOrders, Cheapest}
 use Rattle.answer.specs.Charges.{legDayOf, landingAt, landings, everyLanding, LetsPass, PathPays, OrderPays, PlainPays, ClosePays, DiagonalUnflown, OrderShownPays, CheapestByLegs}
 use Rattle.answer.proofs.Passes.{legs-pass, charges-pass, passes}
 use Rattle.answer.proofs.Demand1.{call-ends}
@@ -142,14 +143,21 @@ order-shown-pays c a e shows =
     let (passed, has) = shown-has c a e shows in
     has .cost-is-its ∙ order-pays c passed (orderIn c (a .report)) (has .is-allowed .order)
 
+-- Every order pays the same landings, so by the legs alone the orders compare as they do by what they cost.
 pub cheapest-by-legs : CheapestByLegs written
-cheapest-by-legs c a e h y m =
-    let passed : cause c ≡ 0 = number-0-passes c (subst (λ (x : Answer). x .report .number ≡ 0) e (h .0)) in
-    let best = cheapest-of-all c a e h in
-    omega (
-      arith,
-      best .least y m,
-      best .has-order .cost-is-its,
-      order-pays c passed (orderIn c (a .report)) (best .has-order .is-allowed .order),
-      order-pays c passed y (in-ordersWith (c .job .n) (pairsOf (c .pairs)) y m .order),
-    )
+cheapest-by-legs c a e h = record {
+  least = λ y m. omega (arith, best .least y m, shown, pays y m);
+  smallest = λ y m same. best .smallest y m (pays y m ∙ ap (λ (v : ℕ). v + everyLanding c) same ∙ sym shown);
+}
+  where
+    best : Cheapest c (a .report)
+    best = cheapest-of-all c a e h
+
+    passed : cause c ≡ 0
+    passed = number-0-passes c (subst (λ (x : Answer). x .report .number ≡ 0) e (h .0))
+
+    shown : a .report .cost ≡ legDayOf c .cost (orderIn c (a .report)) + everyLanding c
+    shown = best .has-order .cost-is-its ∙ order-pays c passed (orderIn c (a .report)) (best .has-order .is-allowed .order)
+
+    pays : (y : Node) → In y (allowedOrders c) → dayOf c .cost y ≡ legDayOf c .cost y + everyLanding c
+    pays y m = order-pays c passed y (in-ordersWith (c .job .n) (pairsOf (c .pairs)) y m .order)

@@ -3,7 +3,6 @@
 -- assumed of the calls.
 --   Solved, solved    the state of a finished run knows an order; none is cheaper, and none that costs the same is smaller
 use mathlib.Core.Path.{_≡_, refl, sym, _∙_, ap, subst}
-use mathlib.Core.Logic.{_⊎_, inl, inr}
 use mathlib.Core.Option.{Option, some}
 use Prim.Native.Nat.{ℕ, _-_, _≤_}
 use lib.Dec.{T}
@@ -13,8 +12,8 @@ use Rattle.search.proofs.Laws.{Le}
 use Rattle.search.proofs.Plain.{tree, planOf, cutOf}
 use Rattle.search.proofs.Optimal.{ended-known, ended-least}
 use Rattle.lists.specs.Lists.{In}
-use Rattle.orders.specs.Orders.{Node, smaller, size, Order}
-use Rattle.orders.proofs.Smaller.{total}
+use Rattle.orders.specs.Orders.{Node, size, Order}
+use Rattle.orders.proofs.Smaller.{not-larger}
 use Rattle.orders.proofs.Order.{order-complete}
 use Rattle.orders.proofs.Orders.{orders-in, in-orders, distinct-orders, length-orders}
 use Rattle.orders.specs.Pairs.{pairsOf}
@@ -53,7 +52,8 @@ solved c f =
       first = λ y a.
           subst (λ (b : Option Node). Le (problemOf c) b (some y)) known
           (ended-least (tree (problemOf c)) (planOf (problemOf c) (choicesOf c)) (cutOf (choicesOf c)) (recordsIn (c .pool)) (size (c .job .n)) (c .job .n)
-          (call-lawful c ok) (bound-laws c ok) (given (c .start)) (start-known c ok) (call-manner c ok) (f .state) (state-reached c ok steps) (finish-stops c ok (f .state) end) y (order-complete (c .job .n) y (a .order))
+          (call-lawful c ok) (bound-laws c ok) (given (c .start)) (start-known c ok) (call-manner c ok)
+          (f .state) (state-reached c ok steps) (finish-stops c ok (f .state) end) y (order-complete (c .job .n) y (a .order))
           (allowed-leads (call-pairing c ok) (problemOf c) (λ z. refl) y a));
     }
 
@@ -65,16 +65,11 @@ solved-report c s v =
     (record {
       has-order = order-reported c 0 0 0 (v .x) s (v .allowed);
       least = λ y m. v .first y (listed y m) .0;
-      smallest = λ y m e. subst (λ (x : Node). (x ≡ y) ⊎ T (smaller x y)) (sym (padded-front (c .job .n) (v .x) (v .allowed .order))) (not-larger y (v .first y (listed y m) .1 (sym e)) (total (v .x) y));
+      smallest = λ y m e. rw (padded-front (c .job .n) (v .x) (v .allowed .order)) (not-larger (v .x) y (v .first y (listed y m) .1 (sym e)));
     })
   where
     listed : (y : Node) → In y (allowedOrders c) → AllowedOrder c y
     listed y m = in-ordersWith (c .job .n) (pairsOf (c .pairs)) y m
-
-    not-larger : (y : Node) → (T (smaller y (v .x)) → ⊥) → (v .x ≡ y) ⊎ (T (smaller (v .x) y) ⊎ T (smaller y (v .x))) → (v .x ≡ y) ⊎ T (smaller (v .x) y)
-    not-larger y h (inl e) = inl e
-    not-larger y h (inr (inl k)) = inr k
-    not-larger y h (inr (inr k)) = absurd (h k)
 
 pub answer-cheapest : (c : Call) → Finishes (answer c .report) → Cheapest c (answer c .report)
 unfolding ending

@@ -19,7 +19,7 @@ use Rattle.search.specs.Step.{step}
 use Rattle.search.specs.Run.{Steps, none as noStep, more as oneMore}
 use Rattle.search.proofs.Mapped.{Maps, ValidBest, ValidState}
 use Rattle.search.proofs.MappedRun.{steps-valid, start-valid}
-use Rattle.orders.specs.Orders.{Node, stops, flown, left, complete, count}
+use Rattle.orders.specs.Orders.{Node, stops, flown, complete, count}
 use Rattle.orders.specs.Pairs.{Pair, pairsOf, before, respects, Allowed}
 use Rattle.orders.proofs.Sets.{stops-in, in-flown}
 use Rattle.orders.proofs.Order.{distinct-count, order-complete}

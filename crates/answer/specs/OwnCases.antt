@@ -1,6 +1,6 @@
--- Cases of our own, beside document 01's: rules 4, 8, 10 and 15 on tables with ties, a refusal by 7 under rule 4, and case i's table under FIFO, each
+-- Cases of our own, beside document 01's: rules 8, 10 and 15 on tables with ties, a refusal by 7 under rule 4, and case i's table under FIFO, each
 -- with the whole report and every word of the pool at the end (`own-cases-hold`); and each cause at its edge. They were worked out by hand and by the
--- second planner (host/witness). Further cases of ties are in `TieCases`.
+-- second planner (host/witness). Further cases of ties, rule 4 among them, are in `TieCases`.
 use mathlib.Core.Path.{_≡_, refl}
 use mathlib.Core.Bool.{cond}
 use mathlib.Core.List.{List, [], _∷_, _++_, map}
@@ -87,7 +87,7 @@ holds-rule-8-keeps-smaller : Holds rule-8-keeps-smaller
 unfolding rule-8-keeps-smaller ones computed
 holds-rule-8-keeps-smaller = refl
 
--- Selection 1, rules 2 and 8, plain, six records: a child falls to an equal active node that is smaller, or eliminates one that is larger.
+-- Selection 1, rules 2 and 8, plain, six records: three complete children fall to equal active ones that are smaller, and eliminate nothing.
 rules-2-and-8 : Case
 rules-2-and-8 =
     answers (call 3 (ones 3) 1 10 0 [] 6)

@@ -1,16 +1,20 @@
 -- What request A.8 says of equal costs, a type for each sentence, as in `Demands`; proofs/ has a theorem for each. That a finished run's order is the
 -- smallest of the cheapest is a part of `Cheapest` there.
---   OneOrder       finished runs agree in the order
---   EqualStart     a starting order of equal cost changes nothing but the order that a stopped run shows
+--   OneOrder               finished runs agree in the order
+--   LargerBudgetSmaller    of two stopped runs of one job, the larger budget's order is, where it costs the same, the same or smaller
+--   EqualStart             a starting order of equal cost changes nothing but the order that a stopped run shows
 use mathlib.Core.Path.{_≡_}
 use mathlib.Core.List.{List, []}
-use mathlib.Core.Logic.{_≢_}
-use Prim.Native.Nat.{ℕ}
+use mathlib.Core.Logic.{_⊎_, _≢_}
+use Prim.Native.Nat.{ℕ, _≤_}
+use lib.Dec.{T}
+use Rattle.orders.specs.Orders.{smaller}
 use Rattle.answer.specs.Call.{Call, callOf, Answer}
 use Rattle.answer.specs.Checks.{cause}
 use Rattle.answer.specs.Answer.{dayOf}
-use Rattle.answer.specs.Ends.{Finishes}
+use Rattle.answer.specs.Ends.{Finishes, orderIn}
 use Rattle.answer.specs.Demands.{Planner, OneTable, EndAlike, SamePairs}
+use Rattle.answer.specs.Budget.{ShowsOrder, OneJob}
 
 -- Two runs over one table and with the same pairs that finish, both ending at home or both away, report one order, whatever their choices, starting
 -- orders, budgets and pools.
@@ -18,6 +22,13 @@ abbrev pub OneOrder : Planner → Type 0
 OneOrder P =
     (a b : Call) (x y : Answer) → P a x → P b y → OneTable a b → EndAlike a b → SamePairs a b → Finishes (x .report) → Finishes (y .report)
     → x .report .order ≡ y .report .order
+
+-- Of two stopped runs of one job, the larger budget's order is, where it costs the same, the same or smaller.
+abbrev pub LargerBudgetSmaller : Planner → Type 0
+LargerBudgetSmaller P =
+    (a b : Call) (x y : Answer) → P a x → P b y → OneJob a b → a .budget ≤ b .budget → x .report .mark ≡ 1 → y .report .mark ≡ 1
+    → ShowsOrder (x .report) → x .report .cost ≡ y .report .cost
+    → (orderIn b (y .report) ≡ orderIn a (x .report)) ⊎ T (smaller (orderIn b (y .report)) (orderIn a (x .report)))
 
 -- the call with another starting order
 abbrev pub startedFrom : List ℕ → Call → Call

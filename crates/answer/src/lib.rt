@@ -12,8 +12,8 @@ pub struct Job {
     pub bound: u32,
 }
 
-// What the planner answers: the number of a refusal, or 0; and the counts of the run. Number 0 alone does not say that the order is a cheapest
-// one: with mark 0 it is, with mark 1 the budget stopped the run, and the order is the best that was known (request A.3).
+// What the planner answers: the number of a refusal, or 0; and the counts of the run. Number 0 alone does not say that the order is the
+// smallest of the cheapest: with mark 0 it is, with mark 1 the budget stopped the run, and the order is the best that was known (request A.3).
 #[repr(C)]
 pub struct Report {
     pub number: u32,

@@ -2,7 +2,7 @@
 --   Least                the least of some numbers, or the bound of gone records
 --   inBlock, Blocked     the places of a block; the minima of all blocks are right (BlockedBut: of all but one)
 --   Same                 an index is the same but for the minima
---   Before, Foremost     which of two places comes first, from the front or from the end; the first place with a bound up to a limit
+--   Before, Foremost     which of two places comes first, from the front or from the end; the first, from there, with a bound up to a limit
 use mathlib.Core.Path.{_≡_}
 use mathlib.Core.Bool.{Bool, true, false}
 use mathlib.Core.List.{List}

@@ -1,5 +1,5 @@
 -- Part 2 of a step: what children do to U and its order (`src/best.rt`).
---   ahead, ahead-dearer, ahead-cheaper, ahead-tied    whether a complete child goes before what is known
+--   replaces, replaces-dearer, replaces-cheaper, replaces-tied    whether a complete child goes before what is known
 --   learn-keeps, learn-replaces            of one child
 --   learn-none, learn-more                 of a list without a complete child, and of one child in front of a list
 --   Learning, learning-starts, learning-again, learning-ends    the invariant of the loop over the children in their slots
@@ -41,42 +41,42 @@ learn-none d a (x ∷ xs) h t o best =
 
 -- the complete child x goes before what a stands for: it is cheaper than U or, where it costs the same, its order is the smaller (request A.8)
 module _ (a : Best) (x : Record) where
-  unfoldable pub ahead : Bool
-  ahead = ltb (x .bound) (a .upper) || eqb (x .bound) (a .upper) && wordsBefore (x .first) (x .second) (a .first) (a .second)
+  unfoldable pub replaces : Bool
+  replaces = ltb (x .bound) (a .upper) || eqb (x .bound) (a .upper) && wordsBefore (x .first) (x .second) (a .first) (a .second)
 
-  pub ahead-dearer : a .upper < x .bound → ahead ≡ false
-  unfolding ahead
-  ahead-dearer h = simp (le-ltb (x .bound) (a .upper) (omega arith), ne-eqb (x .bound) (a .upper) (omega arith))
+  pub replaces-dearer : a .upper < x .bound → replaces ≡ false
+  unfolding replaces
+  replaces-dearer h = simp (le-ltb (x .bound) (a .upper) (omega arith), ne-eqb (x .bound) (a .upper) (omega arith))
 
-  pub ahead-cheaper : x .bound < a .upper → ahead ≡ true
-  unfolding ahead
-  ahead-cheaper h = simp (lt-ltb (x .bound) (a .upper) h)
+  pub replaces-cheaper : x .bound < a .upper → replaces ≡ true
+  unfolding replaces
+  replaces-cheaper h = simp (lt-ltb (x .bound) (a .upper) h)
 
-  pub ahead-tied :
-      {b c : Bool} → x .bound ≡ a .upper → b ≡ wordsBefore (x .first) (x .second) (a .first) (a .second) → b ≡ c → ahead ≡ c
-  unfolding ahead
-  ahead-tied h e f = rw (le-ltb (x .bound) (a .upper) (omega arith), eq-eqb (x .bound) (a .upper) h) (sym e ∙ f)
+  pub replaces-tied :
+      {b c : Bool} → x .bound ≡ a .upper → b ≡ wordsBefore (x .first) (x .second) (a .first) (a .second) → b ≡ c → replaces ≡ c
+  unfolding replaces
+  replaces-tied h e f = rw (le-ltb (x .bound) (a .upper) (omega arith), eq-eqb (x .bound) (a .upper) h) (sym e ∙ f)
 
   -- while none is known, no order is smaller than its words, which are zeros
-  better-ahead : (d : Setting) (t : Table) (o : Option Record) → IsBest a o → better (recProblem d t) x o ≡ ahead
-  unfolding recProblem recSmaller ahead
-  better-ahead d t none (u, f, s) =
+  better-replaces : (d : Setting) (t : Table) (o : Option Record) → IsBest a o → better (recProblem d t) x o ≡ replaces
+  unfolding recProblem recSmaller replaces
+  better-replaces d t none (u, f, s) =
       rw (u, f, s, none-before-zeros (x .first) (x .second), and-false (eqb (x .bound) aboveEveryCost), or-false (ltb (x .bound) aboveEveryCost)) refl
-  better-ahead d t (some y) (u, f, s) = rw (u, f, s) refl
+  better-replaces d t (some y) (u, f, s) = rw (u, f, s) refl
 
-  pub learn-keeps : (d : Setting) → ahead ≡ false → Learnt d a (x ∷ []) a
+  pub learn-keeps : (d : Setting) → replaces ≡ false → Learnt d a (x ∷ []) a
   unfolding recProblem
-  learn-keeps d e t o best = rw (better-ahead d t o best, e) (go (eqb (x .size) (d .n)))
+  learn-keeps d e t o best = rw (better-replaces d t o best, e) (go (eqb (x .size) (d .n)))
     where
       go : (b : Bool) → IsBest a (replace (b && false) x o)
       go true = best
       go false = best
 
   pub learn-replaces :
-      (d : Setting) → x .size ≡ d .n → ahead ≡ true
+      (d : Setting) → x .size ≡ d .n → replaces ≡ true
       → Learnt d a (x ∷ []) (record { upper = x .bound; first = x .first; second = x .second })
   unfolding recProblem
-  learn-replaces d whole e t o best = rw (eq-eqb (x .size) (d .n) whole, better-ahead d t o best, e) (refl, refl, refl)
+  learn-replaces d whole e t o best = rw (eq-eqb (x .size) (d .n) whole, better-replaces d t o best, e) (refl, refl, refl)
 
 learn-more :
     (d : Setting) (a b c : Best) (x : Record) (xs : List Record) → Learnt d a (x ∷ []) b → Learnt d b xs c → Learnt d a (x ∷ xs) c

@@ -106,13 +106,16 @@ ordered a b = go (either (leb a b))
     go (inr h) = inr (nleb→lt a b h)
 
 -- of two numbers the lesser goes first and, of equal ones, what another test says
-pub tied-cases : (a b : ℕ) (c : Bool) → T (ltb a b || eqb a b && c) → (a < b) ⊎ ((a ≡ b) × T c)
+abbrev pub Tied : ℕ → ℕ → Bool → Type 0
+Tied a b c = (a < b) ⊎ ((a ≡ b) × T c)
+
+pub tied-cases : (a b : ℕ) (c : Bool) → T (ltb a b || eqb a b && c) → Tied a b c
 tied-cases a b c h = go (or-cases (ltb a b) (eqb a b && c) h)
   where
-    go : T (ltb a b) ⊎ T (eqb a b && c) → (a < b) ⊎ ((a ≡ b) × T c)
+    go : T (ltb a b) ⊎ T (eqb a b && c) → Tied a b c
     go (inl k) = inl (ltb→lt a b k)
     go (inr k) = inr (eqb→eq a b (and-left (eqb a b) c k), and-right (eqb a b) c k)
 
-pub cases-tied : (a b : ℕ) (c : Bool) → (a < b) ⊎ ((a ≡ b) × T c) → T (ltb a b || eqb a b && c)
+pub cases-tied : (a b : ℕ) (c : Bool) → Tied a b c → T (ltb a b || eqb a b && c)
 cases-tied a b c (inl k) = or-left (ltb a b) (eqb a b && c) (lt→ltb a b k)
 cases-tied a b c (inr (e, k)) = or-right (ltb a b) (eqb a b && c) (and-both (eqb a b) c (equal-eqb a b e) k)

@@ -5,7 +5,7 @@ use Rattle.answer.specs.Budget.{MarkedIff, StoppedAsWritten, OtherwiseZero, Exa
 use Rattle.answer.specs.Charges.{OrderShownPays, CheapestByLegs}
 use Rattle.answer.specs.Away.{AnswersAway, CheapestWithoutLegHome, NoDearerAway, LegsHomeUnread}
 use Rattle.answer.specs.Pairs.{InSequence, RefusedAsByFive, SomeActive, SequencePlaysNoPart}
-use Rattle.answer.specs.Ties.{OneOrder, EqualStart}
+use Rattle.answer.specs.Ties.{OneOrder, LargerBudgetSmaller, EqualStart}
 use Rattle.answer.specs.AsBefore.{NoPairsAsBefore, EndsHomeAsBefore, UnchargedByLegs, AsDocument01, AcceptedBefore}
 use Rattle.answer.specs.Document01.{FinishedIff, BranchedAreSteps, ContentsPlayNoPart}
 use Rattle.answer.proofs.Demand1.{call-answered, call-ends, one-answer, refusals-fixed}
@@ -19,7 +19,7 @@ use Rattle.answer.proofs.Charges.{order-shown-pays, cheapest-by-legs}
 use Rattle.answer.proofs.Away.{answers-away, cheapest-without-leg-home, no-dearer-away, legs-home-unread}
 use Rattle.answer.proofs.Active.{some-active}
 use Rattle.answer.proofs.Pairs.{in-sequence, refused-as-by-five, sequence-plays-no-part}
-use Rattle.answer.proofs.Ties.{one-order, equal-start}
+use Rattle.answer.proofs.Ties.{one-order, larger-budget-smaller, equal-start}
 use Rattle.answer.proofs.AsBefore.{no-pairs-as-before, ends-home-as-before, uncharged-by-legs, as-document-01, accepted-before}
 use Rattle.planner.specs.Demands.{returned}
 
@@ -155,6 +155,9 @@ returned-as-before = accepted-before
 -- request A.8
 pub returned-one-order : OneOrder returned
 returned-one-order = one-order
+
+pub returned-larger-smaller : LargerBudgetSmaller returned
+returned-larger-smaller = larger-budget-smaller
 
 pub returned-equal-start : EqualStart returned
 returned-equal-start = equal-start

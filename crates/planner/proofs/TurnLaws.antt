@@ -169,8 +169,8 @@ module _
         omega (arith, length-map (s .branched) f, running .shows .generated, running .shows .eliminated)
 
     -- What comes next of S under Q and D is what comes next of s under P and C, mapped (next-shown). So it is enough to follow the turn
-    -- on records, as the code does: the selection picks b at place i (shown-selects), the finish test on b is the code's
-    -- (shown-finishes), and so is the budget's; then the step is `stepOf`. Only what `step` requires asks for the nodes behind the records: b is a
+    -- on records, as the code does: the selection picks b at place i (shown-selects), the finish test on b is the code's,
+    -- and so is the budget's; then the step is `stepOf`. Only what `step` requires asks for the nodes behind the records: b is a
     -- partial order's, no active bound is above U under rule 1, and the counts are small.
     next-shown : next Q D capacity S ≡ mapNext f (next P C capacity s)
     unfolding recordsOf
@@ -208,13 +208,9 @@ module _
       abbrev ends : Record → Bool
       ends x = eqb (x .size) (d .n)
 
-      shown-finishes : finishes Q b ≡ ends b
-      unfolding finishes recProblem
-      shown-finishes = refl
-
       shown-next : next Q D capacity S ≡ unless (ends b) (ifAllowed (ltb (r .branched) (d .budget)) (fitting Q D capacity (stepOf d t b rest S)))
-      unfolding next decide stepOf recChoices
-      shown-next = rw (shown-selects, shown-finishes, running .shows .branched)
+      unfolding next decide finishes stepOf recProblem recChoices
+      shown-next = rw (shown-selects, running .shows .branched)
 
       -- The four answers, by the finish test's result on the record that was loaded, the budget and what the step gave.
       module _ {x : Record} (at : x ≡ nodeAt w i) {q : Bool} (tested : q ≡ ends x) where

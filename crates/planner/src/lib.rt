@@ -39,8 +39,8 @@ fn cause_of(job: Job, table: &[u32], start: &[u8], pairs: &[u8], pool: &[u32]) -
 }
 
 // Puts the stops 1 to n into the cheapest order that respects the pairs, with as many branchings as the budget has at most. The report and the pool's
-// words are what document 01's run with the budget of request A.3 and the pairs of request A.6 gives, over all inputs. An order is a cheapest one where
-// number and mark are both 0.
+// words are what document 01's run with the budget of request A.3, the pairs of request A.6 and the tie rule of request A.8 gives, over all inputs. Where
+// number and mark are both 0, the order is the smallest of the cheapest.
 pub fn plan(
     job: Job,
     table: &[u32],

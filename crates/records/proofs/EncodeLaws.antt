@@ -3,16 +3,17 @@
 --   encode-smaller      of nodes of one length, the order of a record is smaller just if the node's is
 --   encode-dominates    dominance of records is dominance of nodes
 use mathlib.Core.Path.{_≡_, refl, ap, sym, _∙_, subst}
-use mathlib.Core.Logic.{_⊎_, inl, inr, _≢_}
+use mathlib.Core.Bool.{Bool}
+use mathlib.Core.Logic.{_⊎_, inl, inr}
 use Prim.Native.Nat.{ℕ, _+_, _-_, _^_, _≤_}
 use native.Mathlib.Omega.{arith}
 use lib.Dec.{T}
 use Rattle.sizes.specs.Sizes.{mostStops}
 use Rattle.lists.specs.Lists.{In}
-use Rattle.lists.proofs.Tests.{same-tests, compared}
+use Rattle.lists.proofs.Tests.{same-tests, Tied}
 use Rattle.orders.specs.Orders.{Node, setOf, left, mask, last, smaller, size, extend, Partial}
 use Rattle.orders.proofs.Partial.{partial-size}
-use Rattle.orders.proofs.Smaller.{one-way, irreflexive, total}
+use Rattle.orders.proofs.Smaller.{irreflexive, tied-le, le-tied}
 use Rattle.days.specs.Days.{Day}
 use Rattle.days.specs.Code.{Reckoning}
 use Rattle.days.proofs.Walk.{Alike, Walk, alike-size}
@@ -64,21 +65,21 @@ module _
     dominates-alike : Dominates w′ x′ → Alike n D R w x × (w ≡ x → ⊥)
     unfolding w′ x′ encode
     dominates-alike d =
-        let (cheaper, tie, differs) = go (d .precedes) in (
+        let first : Tied (D .path w) (D .path x) (smaller w x) =
+        subst (λ (less : Bool). Tied (D .path w) (D .path x) less) (smaller-same (d .size)) (d .precedes) in
+        let (low, tie) = tied-le (D .path w) (D .path x) w x first in (
           record {
             stops = sym (stops-set n few w) ∙ ap stopsIn (d .set) ∙ stops-set n few x;
             place = sym (last-place w p) ∙ d .last ∙ last-place x q;
-            cheaper = cheaper;
+            cheaper = low;
             tie = tie;
           },
-          differs,
+          λ e. never-first (subst (λ (y : Node). Tied (D .path y) (D .path x) (smaller y x)) e first),
         )
       where
-        go : Precedes w′ x′ → (D .path w ≤ D .path x) × (D .path w ≡ D .path x → T (smaller x w) → ⊥) × (w ≡ x → ⊥)
-        go (inl l) = (omega arith, λ e h. omega arith, λ e. let f : D .path w ≡ D .path x = ap (D .path) e in omega arith)
-        go (inr (e, s)) =
-            let less : T (smaller w x) = subst T (smaller-same (d .size)) s in
-            (omega arith, λ f h. one-way w x less h, λ f. irreflexive x (subst (λ (y : Node). T (smaller y x)) f less))
+        never-first : Tied (D .path x) (D .path x) (smaller x x) → ⊥
+        never-first (inl l) = omega arith
+        never-first (inr (e, s)) = irreflexive x s
 
     -- and what is like x and not x dominates
     alike-dominates : Alike n D R w x → (w ≡ x → ⊥) → Dominates w′ x′
@@ -87,14 +88,12 @@ module _
       size = alike-size a;
       set = ap mask (a .stops);
       last = last-place w p ∙ a .place ∙ sym (last-place x q);
-      precedes = go (compared (D .path w) (D .path x)) (total w x);
+      precedes = go (le-tied (D .path w) (D .path x) w x (a .cheaper) (a .tie));
     }
       where
-        go : (D .path w ≡ D .path x) ⊎ (D .path w ≢ D .path x) → (w ≡ x) ⊎ (T (smaller w x) ⊎ T (smaller x w)) → Precedes w′ x′
-        go (inr h) k = inl (omega (arith, a .cheaper))
-        go (inl e) (inl h) = absurd (differs h)
-        go (inl e) (inr (inl h)) = inr (e, subst T (sym (smaller-same (alike-size a))) h)
-        go (inl e) (inr (inr h)) = absurd (a .tie e h)
+        go : (w ≡ x) ⊎ Tied (D .path w) (D .path x) (smaller w x) → Precedes w′ x′
+        go (inl e) = absurd (differs e)
+        go (inr first) = subst (λ (less : Bool). Tied (D .path w) (D .path x) less) (sym (smaller-same (alike-size a))) first
 
     pub encode-dominates : recDominates (encode n D k w) (encode n D k x) ≡ D .dominates w x
     unfolding w′ x′

@@ -4,6 +4,7 @@
 --   stepped-adds                     a step branches one node
 --   steps-within, halts-exactly      no state has more branchings than the budget; where the budget stops a run, there are exactly as many
 --   best-never-dearer                once an order is known, one is known that costs no more
+--   best-never-worse                 and where it costs the same, it is no larger (request A.8)
 --   halts-active                     where the budget stops a run, a node is active
 --   least-never-falls                the least bound among active nodes does not fall
 --   larger-same                      a run that is not stopped ends the same under a larger budget
@@ -22,13 +23,14 @@ use Rattle.lists.proofs.Tests.{tests, ordered}
 use Rattle.lists.proofs.Numbers.{least-le, least-in}
 use Rattle.search.specs.Problem.{Problem, Choices, State, upper, start}
 use Rattle.search.specs.Selection.{Choice, nothing, chosen, select, finishes}
-use Rattle.search.specs.Step.{children₁, best₂, over₃, children₃, rest₃, dominated₄, children₄, dominated₅, children₅, dominated₆, rest₆, active₇, step}
+use Rattle.search.specs.Step.{learn, children₁, best₂, over₃, children₃, rest₃, dominated₄, children₄, dominated₅, children₅, dominated₆, rest₆, active₇, step}
 use Rattle.search.specs.Run.{Next, finish, halt, overflow, go, stopped, unless, ifAllowed, fitting, decide, next, follow, run, Stepped, Steps, none, more, Halts}
 use Rattle.search.proofs.General.{move}
 use Rattle.search.proofs.Pick.{Picked, picked-of, picked-in, rest-in}
 use Rattle.search.proofs.Verdict.{reached-keeps}
-use Rattle.search.proofs.Values.{better-cost}
-use Rattle.search.proofs.Learn.{learn-keeps}
+use Rattle.search.proofs.Laws.{Le, Ties}
+use Rattle.search.proofs.Values.{better-cost, le-refl, le-trans}
+use Rattle.search.proofs.Learn.{learn-keeps, learn-le}
 use Rattle.search.proofs.Move.{next-active}
 use Rattle.search.proofs.PlainSelection.{select-is-pick}
 use Rattle.search.proofs.Plain.{tree, planOf, cutOf}
@@ -64,6 +66,14 @@ module _ {N : Type 0} (P : Problem N) (C : Choices N) (capacity : ℕ) where
       (learn-keeps P (λ o. (y : N) × (o ≡ some y) × (P .cost y ≤ P .cost x)) (s′ .best) (P .children (h .b)) (best-never-dearer r x q)
       (λ o c m whole first h.
       (let k : upper P o ≡ P .cost (h .0) = ap (upper P) (h .1) in (c, refl, omega (arith, better-cost P c o first)))))
+
+  pub best-never-worse : Ties P → {s e : State N} → Steps P C capacity s e → Le P (e .best) (s .best)
+  unfolding step best₂ children₁
+  best-never-worse ties {s} none = le-refl ties (s .best)
+  best-never-worse ties {s} (more {s′} r h) =
+      rw (h .steps)
+      (le-trans ties (learn P (s′ .best) (P .children (h .b))) (s′ .best) (s .best) (learn-le ties (s′ .best) (P .children (h .b)))
+      (best-never-worse ties r))
 
   module _ (known : C .selection ≤ 3) where
     pub halts-active : {e : State N} (h : Halts P C capacity e) → In (h .b) (e .active)

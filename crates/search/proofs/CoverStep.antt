@@ -1,5 +1,5 @@
 -- A step keeps the covers and the rest of what holds of a run's states (`Covered` and `Sound` of `Cover`).
--- Ties with rule 4 need no order among equal nodes, since a branched node covers as well as an active one.
+-- Rule 4 needs no care of its own, since a branched node covers as well as an active one.
 use mathlib.Core.Path.{_≡_, refl}
 use mathlib.Core.Bool.{Bool, not}
 use mathlib.Core.List.{List}

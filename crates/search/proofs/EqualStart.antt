@@ -1,7 +1,8 @@
 -- Two runs that start with orders of one cost (request A.8): they make the same steps and differ in the order known alone.
 --   learn-upper              U after some children depends on U before them, and not on its order
 --   withBest, Twins          a state with another order known; two states that differ in an order of equal cost
---   step-twin, run-twins     a step and a run of such states
+--   step-twin                a step of such states
+--   TwinOutcome, run-twins   the outcomes of their runs
 use mathlib.Core.Path.{_≡_, refl, ap, sym, _∙_, subst}
 use mathlib.Core.Bool.{Bool, true, false, not, _&&_, cond}
 use mathlib.Core.List.{List, [], _∷_, _++_}
@@ -31,7 +32,7 @@ module _ {N : Type 0} (P : Problem N) where
       go true false low high = let h : upper P best ≤ P .cost c = high tt in omega arith
       go false better low high = refl
 
-  pub learn-upper : (a b : Option N) (cs : List N) → upper P a ≡ upper P b → upper P (learn P a cs) ≡ upper P (learn P b cs)
+  learn-upper : (a b : Option N) (cs : List N) → upper P a ≡ upper P b → upper P (learn P a cs) ≡ upper P (learn P b cs)
   learn-upper a b [] e = e
   learn-upper a b (c ∷ cs) e =
       learn-upper _ _ cs
@@ -54,7 +55,7 @@ module _ {N : Type 0} where
     pub same : s′ ≡ withBest other s
     pub cost : upper P (s .best) ≡ upper P other
 
-  pub data TwinNext (P : Problem N) : Next N → Next N → Type 0 where
+  data TwinNext (P : Problem N) : Next N → Next N → Type 0 where
     both-finish : TwinNext P finish finish
     both-halt : TwinNext P halt halt
     both-overflow : TwinNext P overflow overflow

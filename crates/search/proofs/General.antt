@@ -2,8 +2,8 @@
 --   Tree    what is searched: a problem, with `withDead`
 --   Plan    what compared jobs share: one selection by rank with a side, and the dominance rules
 --   Cut     what compared jobs may differ in: rule 1, the bound, the budget
--- `allows` is the budget of document 02, A.3: whether another branching is allowed after so many. The places for later requests: `withDead`
--- (A.9: a count with the dead children of b added), `children` (A.6). As yet there are no dead children.
+-- `allows` is the budget of document 02, A.3: whether another branching is allowed after so many. The place for a later request: `withDead`
+-- (A.9: a count with the dead children of b added). As yet there are none.
 -- Definitions only; laws are in `Laws`.
 use mathlib.Core.Path.{_≡_}
 use mathlib.Core.Bool.{Bool, true, false, _&&_, cond}

@@ -1,4 +1,5 @@
 -- Laws of `learn`, the search of the children for a complete node that goes before the best order known (request A.8).
+--   taught, taught-cases    what is known after one child
 --   learn-keeps    what holds of the best order known, and of each complete child that takes its place, holds of what is learnt
 --   learn-le       what is learnt is what was known or goes before it
 --   learn-least    no complete child goes before what is learnt

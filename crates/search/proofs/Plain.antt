@@ -67,30 +67,31 @@ adds P b k = omega arith
 
 -- How each selection lets a run end at a complete node; by cases, for a record's field cannot be split.
 module _ {N : Type 0} (P : Problem N) (bound : N → ℕ) where
-  -- a least bound: b ranks behind the incomplete nodes of its bound
-  low-goes : (b x : N) → T (P .complete b) → lowRank P bound b ≤ lowRank P bound x → T (P .complete x) ⊎ (bound b < bound x)
-  low-goes b x = go (P .complete b) (P .complete x)
+  -- a complete node ranks behind the incomplete ones of its number m: of its bound (least bound), or all of them (LIFO, where m is 0)
+  waits-goes : (m k : ℕ) (b x : N) → T (P .complete b) → 2 * m + waits P b ≤ 2 * k + waits P x → T (P .complete x) ⊎ (m < k)
+  waits-goes m k b x = go (P .complete b) (P .complete x)
     where
-      go : (y z : Bool) → T y → 2 * bound b + cond y 1 0 ≤ 2 * bound x + cond z 1 0 → T z ⊎ (bound b < bound x)
+      go : (y z : Bool) → T y → 2 * m + cond y 1 0 ≤ 2 * k + cond z 1 0 → T z ⊎ (m < k)
       go true true t h = inl tt
       go true false t h = inr (omega arith)
       go false z t h = absurd t
 
-  -- LIFO: b waits, so x waits
-  waits-goes : (b x : N) → T (P .complete b) → waits P b ≤ waits P x → T (P .complete x) ⊎ (bound b < bound x)
-  waits-goes b x = go (P .complete b) (P .complete x)
+  low-goes : (b x : N) → T (P .complete b) → lowRank P bound b ≤ lowRank P bound x → T (P .complete x) ⊎ (bound b < bound x)
+  low-goes b x = waits-goes (bound b) (bound x) b x
+
+  lifo-goes : (b x : N) → T (P .complete b) → waits P b ≤ waits P x → T (P .complete x) ⊎ (bound b < bound x)
+  lifo-goes b x t h = go (waits-goes 0 0 b x t (omega arith))
     where
-      go : (y z : Bool) → T y → cond {A = ℕ} y 1 0 ≤ cond z 1 0 → T z ⊎ (bound b < bound x)
-      go true true t h = inl tt
-      go true false t h = absurd (omega arith)
-      go false z t h = absurd t
+      go : T (P .complete x) ⊎ (0 < 0) → T (P .complete x) ⊎ (bound b < bound x)
+      go (inl whole) = inl whole
+      go (inr l) = absurd (omega arith)
 
   manner-by : (k rules budget : ℕ) → k ≤ 3
       → Manner (tree P) (planOf P (record { selection = k; rules = rules; bound = bound; budget = budget })) bound
   manner-by zero rules budget known = ranked low-goes
   manner-by (suc zero) rules budget known = ranked low-goes
   manner-by (suc (suc zero)) rules budget known = queue refl (λ x y. refl)
-  manner-by (suc (suc (suc zero))) rules budget known = ranked waits-goes
+  manner-by (suc (suc (suc zero))) rules budget known = ranked lifo-goes
   manner-by (suc (suc (suc (suc k)))) rules budget known = absurd (omega arith)
 
 module _ {N : Type 0} (P : Problem N) (C : Choices N) where

@@ -3,14 +3,14 @@
 --   le-upper, cheaper-le           what comes first is no dearer, and what is cheaper comes first
 --   better-le, not-better-le       the written test of a complete child (`better`) tells which of the two comes first
 --   better-cost                    what passes that test is no dearer
-use mathlib.Core.Path.{_≡_, sym}
-use mathlib.Core.Bool.{not, _&&_}
+use mathlib.Core.Path.{sym}
+use mathlib.Core.Bool.{not}
 use mathlib.Core.Logic.{_⊎_, inl, inr}
 use mathlib.Core.Option.{Option, none, some}
 use Prim.Native.Nat.{_≤_, _<_}
 use native.Mathlib.Omega.{arith}
-use lib.Dec.{T, ltb, eqb, eqb→eq, T-not}
-use Rattle.lists.proofs.Tests.{tests, and-left, and-right, and-both, or-cases, not-either, either, equal-eqb, ordered}
+use lib.Dec.{T, ltb, nltb→le, T-not}
+use Rattle.lists.proofs.Tests.{tests, not-either, either, ordered, Tied, tied-cases, cases-tied}
 use Rattle.search.specs.Problem.{Problem, upper}
 use Rattle.search.specs.Step.{better}
 use Rattle.search.proofs.Laws.{Le, Ties}
@@ -28,17 +28,10 @@ module _ {N : Type 0} (P : Problem N) where
 
   -- the two parts of the test against a known order
   abbrev Less : N → N → Type 0
-  Less c x = (P .cost c < P .cost x) ⊎ ((P .cost c ≡ P .cost x) × T (P .smaller c x))
+  Less c x = Tied (P .cost c) (P .cost x) (P .smaller c x)
 
   better-cases : (c x : N) → T (better P c (some x)) → Less c x
-  better-cases c x h = go (or-cases (ltb (P .cost c) (P .cost x)) (eqb (P .cost c) (P .cost x) && P .smaller c x) h)
-    where
-      go : T (ltb (P .cost c) (P .cost x)) ⊎ T (eqb (P .cost c) (P .cost x) && P .smaller c x) → Less c x
-      go (inl k) = inl (omega (arith, tests))
-      go (inr k) = inr (
-        eqb→eq (P .cost c) (P .cost x) (and-left (eqb (P .cost c) (P .cost x)) (P .smaller c x) k),
-        and-right (eqb (P .cost c) (P .cost x)) (P .smaller c x) k,
-      )
+  better-cases c x h = tied-cases (P .cost c) (P .cost x) (P .smaller c x) h
 
   pub better-cost : (c : N) (v : Option N) → T (better P c v) → P .cost c ≤ upper P v
   better-cost c none h = omega (arith, tests)
@@ -51,12 +44,8 @@ module _ {N : Type 0} (P : Problem N) where
   pub not-better-le : (c : N) (v : Option N) → T (not (better P c v)) → Le P v (some c)
   not-better-le c none h = omega (arith, tests)
   not-better-le c (some x) h =
-      let (high, apart) = not-either (ltb (P .cost c) (P .cost x)) (eqb (P .cost c) (P .cost x) && P .smaller c x) h in (
-        omega (arith, tests),
-        λ e s.
-            T-not (eqb (P .cost c) (P .cost x) && P .smaller c x) apart
-            (and-both (eqb (P .cost c) (P .cost x)) (P .smaller c x) (equal-eqb (P .cost c) (P .cost x) (sym e)) s),
-      )
+      let high : P .cost x ≤ P .cost c = nltb→le (P .cost c) (P .cost x) (not-either (ltb (P .cost c) (P .cost x)) _ h .0) in
+      (high, λ e s. T-not (better P c (some x)) h (cases-tied (P .cost c) (P .cost x) (P .smaller c x) (inr (sym e, s))))
 
 module _ {N : Type 0} {P : Problem N} (ties : Ties P) where
   pub better-le : (c : N) (v : Option N) → T (better P c v) → Le P (some c) v

@@ -84,7 +84,8 @@ complete-nodes-skipped : outcomeOf twins 3 0 9 ≡ finished (state (4 ∷ 3 ∷ 
 unfolding outcomeWithin twins
 complete-nodes-skipped = refl
 
--- 1 has 3, 2 has 4, which have the complete 5 and 6; 3 and 4 dominate each other, as orders of equal path cost do.
+-- 1 has 3, 2 has 4, which have the complete 5 and 6; 3 and 4 dominate each other, which a free tree may
+-- have, though no two orders do (request A.8).
 rivals : Free
 rivals = record {
   kids = (1 ∷ 2 ∷ []) ∷ (3 ∷ []) ∷ (4 ∷ []) ∷ (5 ∷ []) ∷ (6 ∷ []) ∷ [];

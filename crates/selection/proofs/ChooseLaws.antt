@@ -3,6 +3,7 @@
 --   chosen-first                       selection 2
 --   chosen-open, chosen-complete       selections 0, 1 and 3, where some node up to their limit is open and where none is (`over-shut`,
 --                                      `low-open`)
+--   open-like                          of as good as the same places the first open record is the same
 use mathlib.Core.Path.{_≡_, refl, sym, _∙_, subst}
 use mathlib.Core.Bool.{Bool, true, false, not, _&&_}
 use mathlib.Core.List.{List}

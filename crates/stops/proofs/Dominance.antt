@@ -1,20 +1,20 @@
 -- Laws of `recDominates`.
---   Dominates, dominates-parts, parts-dominate    what it asks of two records, one by one
---   refused, path-dearer                          where one of these fails, so does the test; a dearer path fails
---   path-cheaper, paths-agree                     of records of one size, set and last stop, the path costs tell, or the orders do
+--   Precedes, Dominates, dominates-parts, parts-dominate    what it asks of two records, one by one
+--   refused, path-dearer                                    where one of these fails, so does the test; a dearer path fails
+--   path-cheaper, paths-agree                               of records of one size, set and last stop, the path costs tell, or the orders do
 use mathlib.Core.Path.{_≡_, sym}
 use mathlib.Core.Bool.{true, false, _&&_, _||_}
-use mathlib.Core.Logic.{_⊎_, inl, inr}
+use mathlib.Core.Logic.{inl, inr}
 use Prim.Native.Nat.{_<_}
 use native.Mathlib.Omega.{arith}
 use lib.Dec.{T, ltb, eqb, eqb→eq, not-T}
-use Rattle.lists.proofs.Tests.{and-parts, parts-and, to-true, to-false, same-tests, equal-eqb, tied-cases, cases-tied}
+use Rattle.lists.proofs.Tests.{and-parts, parts-and, to-true, to-false, same-tests, equal-eqb, Tied, tied-cases, cases-tied}
 use Rattle.stops.specs.Code.{lastStop, recSmaller, recDominates}
 use Rattle.stops.specs.declared.node_record.Record.{Record}
 
 -- the cheaper path or, where both cost the same, the smaller order (request A.8)
 abbrev pub Precedes : Record → Record → Type 0
-Precedes y z = (y .path < z .path) ⊎ ((y .path ≡ z .path) × T (recSmaller y z))
+Precedes y z = Tied (y .path) (z .path) (recSmaller y z)
 
 pub record Dominates (y z : Record) : Type 0 where
   pub size : y .size ≡ z .size

@@ -9,18 +9,18 @@
 use mathlib.Core.Path.{_≡_, refl}
 use mathlib.Core.Bool.{Bool, true, false, not, _&&_, _||_, cond}
 use mathlib.Core.List.{List, [], _∷_}
-use mathlib.Core.Logic.{_⊎_, inl, inr, _≢_}
+use mathlib.Core.Logic.{_⊎_, inl, inr}
 use Prim.Native.Nat.{ℕ, suc, _+_, _*_, _≤_, _<_}
 use native.Mathlib.Omega.{arith}
 use lib.Dec.{T, T-not, ltb, eqb, eqb→eq}
 use lib.ListN.{length}
 use Rattle.sizes.specs.Sizes.{mostStops, dearest, aboveEveryCost}
 use Rattle.lists.specs.Lists.{same}
-use Rattle.lists.proofs.Tests.{and-parts, parts-and, either, equal-eqb, compared, tied-cases, cases-tied}
+use Rattle.lists.proofs.Tests.{and-parts, parts-and, either, equal-eqb, Tied, tied-cases, cases-tied}
 use Rattle.lists.proofs.Same.{same-equal, same-refl}
 use Rattle.orders.specs.Orders.{Node, setOf, left, last, smaller, extend, Order}
 use Rattle.orders.proofs.Sets.{last-extend}
-use Rattle.orders.proofs.Smaller.{one-way, total}
+use Rattle.orders.proofs.Smaller.{tied-le, le-tied}
 use Rattle.orders.proofs.Tree.{complete-empty}
 use Rattle.orders.proofs.Order.{order-length}
 use Rattle.days.proofs.Walk.{Alike, Walk, walk-closer}
@@ -47,10 +47,10 @@ module _ (n : ℕ) (L : Legs) where
       go false (r ∷ rs) = omega arith
 
   -- the last part of dominance: of two nodes of one set and one last stop, w goes first
-  abbrev First : Node → Node → Type 0
-  First w x = (path L w < path L x) ⊎ ((path L w ≡ path L x) × T (smaller w x))
+  abbrev GoesFirst : Node → Node → Type 0
+  GoesFirst w x = Tied (path L w) (path L x) (smaller w x)
 
-  dominates-parts : (w x : Node) → T (dominates n L w x) → T (not (same w x)) × (setOf n w ≡ setOf n x) × (last w ≡ last x) × First w x
+  dominates-parts : (w x : Node) → T (dominates n L w x) → T (not (same w x)) × (setOf n w ≡ setOf n x) × (last w ≡ last x) × GoesFirst w x
   unfolding dominates
   dominates-parts w x h =
       let (d, s, l, p) =
@@ -58,7 +58,7 @@ module _ (n : ℕ) (L : Legs) where
       (ltb (path L w) (path L x) || eqb (path L w) (path L x) && smaller w x) h in
       (d, same-equal (setOf n w) (setOf n x) s, eqb→eq (last w) (last x) l, tied-cases (path L w) (path L x) (smaller w x) p)
 
-  parts-dominate : (w x : Node) → T (not (same w x)) → setOf n w ≡ setOf n x → last w ≡ last x → First w x → T (dominates n L w x)
+  parts-dominate : (w x : Node) → T (not (same w x)) → setOf n w ≡ setOf n x → last w ≡ last x → GoesFirst w x → T (dominates n L w x)
   unfolding dominates
   parts-dominate w x d s l p =
       parts-and (not (same w x)) (same (setOf n w) (setOf n x)) (eqb (last w) (last x))
@@ -71,28 +71,17 @@ module _ (n : ℕ) (L : Legs) where
   unfolding day reckoning
   dominator-alike w x h =
       let (d, s, l, p) = dominates-parts w x h in
-      record { stops = s; place = l; cheaper = cheaper p; tie = tie p }
-    where
-      cheaper : First w x → path L w ≤ path L x
-      cheaper (inl k) = omega arith
-      cheaper (inr (e, k)) = omega arith
-
-      tie : First w x → path L w ≡ path L x → T (smaller x w) → ⊥
-      tie (inl k) e r = omega arith
-      tie (inr (f, k)) e r = one-way w x k r
+      let (low, tie) = tied-le (path L w) (path L x) w x p in
+      record { stops = s; place = l; cheaper = low; tie = tie }
 
   alike-dominates : (w x : Node) → Alike n (day n L) (reckoning L) w x → (w ≡ x) ⊎ T (dominates n L w x)
   unfolding day reckoning
-  alike-dominates w x a = go (either (same w x)) (total w x) (compared (path L w) (path L x))
+  alike-dominates w x a = go (either (same w x)) (le-tied (path L w) (path L x) w x (a .cheaper) (a .tie))
     where
-      go :
-          T (same w x) ⊎ T (not (same w x)) → (w ≡ x) ⊎ (T (smaller w x) ⊎ T (smaller x w)) → (path L w ≡ path L x) ⊎ (path L w ≢ path L x)
-          → (w ≡ x) ⊎ T (dominates n L w x)
-      go (inl h) t c = inl (same-equal w x h)
-      go (inr h) (inl e) c = inl e
-      go (inr h) (inr t) (inr c) = inr (parts-dominate w x h (a .stops) (a .place) (inl (omega (arith, a .cheaper, c))))
-      go (inr h) (inr (inl k)) (inl e) = inr (parts-dominate w x h (a .stops) (a .place) (inr (e, k)))
-      go (inr h) (inr (inr k)) (inl e) = absurd (a .tie e k)
+      go : T (same w x) ⊎ T (not (same w x)) → (w ≡ x) ⊎ GoesFirst w x → (w ≡ x) ⊎ T (dominates n L w x)
+      go (inl h) k = inl (same-equal w x h)
+      go (inr h) (inl e) = inl e
+      go (inr h) (inr p) = inr (parts-dominate w x h (a .stops) (a .place) p)
 
   never-itself : (x : Node) → T (dominates n L x x) → ⊥
   never-itself x h = T-not (same x x) (dominates-parts x x h .0) (same-refl x)

@@ -78,11 +78,9 @@ fn is_smallest(best: Optimum, r: Report) -> bool {
     same(&x, &y)
 }
 
-// A finished report is right if its cost is the least and that of its order, which is the smallest of that cost; a full one if it has no cost and
-// no order. Neither has a mark or a floor.
-pub fn judged(table: &[u32], day: Day, best: Optimum, r: Report) -> Verdict
-    requires { ⌜ day .n ≤ mostStops ⌝ }
-{
+// A finished report is right if its cost is the least and its order the smallest of that cost; a full one if it has no cost and no order. Neither has
+// a mark or a floor.
+pub fn judged(best: Optimum, r: Report) -> Verdict {
     if !adds_up(r.generated, r.branched, r.eliminated, r.active) {
         return Verdict::Differs;
     }
@@ -99,10 +97,7 @@ pub fn judged(table: &[u32], day: Day, best: Optimum, r: Report) -> Verdict
         if cost != best.cost {
             return Verdict::Differs;
         }
-        if !is_smallest(best, r) {
-            return Verdict::Differs;
-        }
-        if priced(table, day, cost, &order) {
+        if is_smallest(best, r) {
             return Verdict::Best;
         }
         return Verdict::Differs;

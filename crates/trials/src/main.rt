@@ -19,23 +19,23 @@ use crate::judge::Verdict;
 use crate::judge::first_right;
 use crate::judge::judged;
 use crate::stopped::budget_of;
-use crate::stopped::halved;
+use crate::stopped::limited;
 use crate::tables::TABLES;
 use crate::tables::day_of;
 use crate::tables::next;
 use crate::tables::size_of;
 use crate::tables::start_of;
 use crate::tables::table_of;
-use crate::tally::Halves;
+use crate::tally::Limited;
 use crate::tally::Tally;
 use crate::tally::counted;
-use crate::tally::counted_half;
-use crate::tally::no_halves;
+use crate::tally::counted_limited;
+use crate::tally::no_limited;
 use crate::tally::none;
 use crate::tally::summed;
-use crate::tally::summed_half;
+use crate::tally::summed_limited;
 use crate::tally::tell;
-use crate::tally::tell_halves;
+use crate::tally::tell_limited;
 use answer::Job;
 use answer::Report;
 use first_order::first_order;
@@ -58,7 +58,7 @@ const CHOICES: u32 = 128;
 // The jobs without a starting order and with one that is drawn: the whole runs, and those within a budget.
 struct Typed {
     whole: Tally,
-    half: Halves,
+    limited: Limited,
 }
 
 // These, and the jobs from the unit's first order.
@@ -122,7 +122,7 @@ fn one(
     requires { ⌜ day .n ≤ mostStops ⌝ }
 {
     let r = planned(day, choice, table, start, NO_BUDGET, pool);
-    counted(t, judged(table, day, best, r), summed(t.sum, r))
+    counted(t, judged(best, r), summed(t.sum, r))
 }
 
 // One job, planned and judged twice: whole, and within a budget.
@@ -140,13 +140,13 @@ fn one_twice(
     let r = planned(day, choice, table, start, NO_BUDGET, pool);
     let budget = budget_of(r, choice);
     let q = planned(day, choice, table, start, budget, pool);
-    let verdict = judged(table, day, best, r);
-    let ending = halved(table, day, best, budget, r, q);
+    let verdict = judged(best, r);
+    let ending = limited(table, day, best, budget, r, q);
     let whole = t.whole;
-    let half = t.half;
+    let limited = t.limited;
     Typed {
         whole: counted(whole, verdict, summed(whole.sum, r)),
-        half: counted_half(half, ending, summed_half(half.sum, q)),
+        limited: counted_limited(limited, ending, summed_limited(limited.sum, q)),
     }
 }
 
@@ -222,7 +222,7 @@ fn trial(k: u64, pool: &mut [u32], t: Tallies) -> Tallies {
 fn all_tables(pool: &mut [u32]) -> Tallies {
     let typed = Typed {
         whole: none(),
-        half: no_halves(),
+        limited: no_limited(),
     };
     let mut t = Tallies {
         typed: typed,
@@ -242,5 +242,5 @@ fn main() {
     let typed = t.typed;
     tell(typed.whole, b" jobs planned\n");
     tell(t.first, b" jobs planned from the unit's first order\n");
-    tell_halves(typed.half);
+    tell_limited(typed.limited);
 }

@@ -21,15 +21,15 @@ pub enum Ending {
     Differs,
 }
 
-// One choice in so many gets all branchings of a run that finished, which suffice; the others get half of a run's, which are fewer than it made.
-const ENOUGH_IN: u32 = 8;
+// One choice in so many has just enough; the number has no divisor in common with those of selections and rules.
+const ENOUGH_IN: u32 = 7;
 
+// The budget of a job's second plan: for one choice in so many all branchings of a run that finished, else half of them, which are fewer.
 pub fn budget_of(whole: Report, choice: u32) -> u64 {
-    if whole.number != 0 {
-        return whole.branched / 2;
-    }
     if choice % ENOUGH_IN == 0 {
-        return whole.branched;
+        if whole.number == 0 {
+            return whole.branched;
+        }
     }
     whole.branched / 2
 }
@@ -121,7 +121,7 @@ fn same_report(a: Report, b: Report) -> bool {
 }
 
 // A budget below the run's branchings stops it. Within all of them it is finished, with the same report.
-pub fn halved(
+pub fn limited(
     table: &[u32],
     day: Day,
     best: Optimum,
@@ -134,7 +134,7 @@ pub fn halved(
     if budget < whole.branched {
         return stopped(table, day, best, budget, r);
     }
-    let verdict = judged(table, day, best, r);
+    let verdict = judged(best, r);
     let Verdict::Best = verdict else {
         return Ending::Differs;
     };

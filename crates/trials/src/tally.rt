@@ -17,7 +17,7 @@ pub struct Tally {
 }
 
 // Of jobs planned within a budget: the same, with marks and floors in the checksum.
-pub struct Halves {
+pub struct Limited {
     pub with_order: u64,
     pub with_none: u64,
     pub finished: u64,
@@ -36,8 +36,8 @@ pub fn none() -> Tally {
 }
 
 // The same for jobs within a budget.
-pub fn no_halves() -> Halves {
-    Halves {
+pub fn no_limited() -> Limited {
+    Limited {
         with_order: 0,
         with_none: 0,
         finished: 0,
@@ -59,7 +59,7 @@ pub fn summed(sum: u64, r: Report) -> u64 {
 }
 
 // The same, and the mark and the floor.
-pub fn summed_half(sum: u64, r: Report) -> u64 {
+pub fn summed_limited(sum: u64, r: Report) -> u64 {
     mixed(mixed(summed(sum, r), r.mark as u64), r.floor as u64)
 }
 
@@ -88,7 +88,7 @@ pub fn counted(t: Tally, v: Verdict, sum: u64) -> Tally {
 }
 
 // The same for a job within a budget.
-pub fn counted_half(t: Halves, e: Ending, sum: u64) -> Halves {
+pub fn counted_limited(t: Limited, e: Ending, sum: u64) -> Limited {
     let mut q = t;
     q.sum = sum;
     match e {
@@ -130,12 +130,12 @@ pub fn tell(t: Tally, words: &[u8]) {
 }
 
 // What the jobs within a budget say.
-pub fn tell_halves(t: Halves) {
+pub fn tell_limited(t: Limited) {
     let stopped = wrapping_add_u64(t.with_order, t.with_none);
     let right = wrapping_add_u64(stopped, t.finished);
     line(
         wrapping_add_u64(right, t.differed),
-        b" jobs planned within half of their branchings, one in eight within all of them\n",
+        b" jobs planned within half of their branchings, one in seven within all of them\n",
     );
     line(t.with_order, b" stopped with an order known\n");
     line(t.with_none, b" stopped with none\n");

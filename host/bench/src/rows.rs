@@ -72,14 +72,16 @@ fn shown(known: bool, number: f64, digits: usize) -> String {
     }
 }
 
-/// All four in a pool of the records needed and a quarter more; none if the lazy peer does not end.
+/// All four in a pool of the records needed and, where there are so many, a quarter more; none if the lazy peer does not
+/// end.
 fn plan(task: &Task, seconds: u64, pool: &mut [Record]) -> Option<Planned> {
     let (lazy, _) = task.by_peer(peer::lazy, &until(NO_BUDGET, seconds), pool)?;
     let (report, records) = (lazy.report, lazy.records);
     if !report.is_finished() {
         return None;
     }
-    let pool = &mut pool[..records + records / 4];
+    let enough = pool.len().min(records + records / 4);
+    let pool = &mut pool[..enough];
     let simple = by_peer(task, peer::simple, seconds, &report, pool);
     let lazy = by_peer(task, peer::lazy, seconds, &report, pool);
     let abreast = by_peer(task, peer::abreast, seconds, &report, pool);

@@ -68,7 +68,7 @@ pub use sizes::*;
 /// let mut pool = [0; RECORD_WORDS];
 /// let refused = plan(job, &table, &[], &[], NO_BUDGET, &mut pool).unwrap_err();
 /// assert_eq!((refused.refusal, refused.counts.branched), (Refusal::Full, 0));
-/// // From a cheapest order, one record is enough.
+/// // From the order itself one record is enough here.
 /// let started = plan(job, &table, &[1, 2, 3], &[], NO_BUDGET, &mut pool)?.finished()?;
 /// assert_eq!((started.cost, started.counts.branched), (13, 3));
 /// # Ok::<(), Box<dyn std::error::Error>>(())
