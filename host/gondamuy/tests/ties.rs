@@ -128,6 +128,20 @@ fn eight_stops_that_all_tie() {
     }
 }
 
+/// What rules spare of that, as docs/HOSTS.md has it: rule 2 branchings, where smaller orders come first, and rule 8
+/// records, where larger ones do.
+#[test]
+fn rules_where_all_tie() {
+    let mut pool = vec![Record::default(); 400];
+    let earliest = [Selection::LeastBoundEarliest, Selection::Fifo].map(|s| (s, Rules::BY_ACTIVE, 1_017, 340));
+    let latest = [Selection::LeastBoundLatest, Selection::Lifo].map(|s| (s, Rules::BY_CHILD, 69_281, 35));
+    for (selection, rules, branched, most) in earliest.into_iter().chain(latest) {
+        let plan = finished(Job { n: 8, selection, rules, bound: Bound::Close }, &[0; 81], &[], &[], &mut pool);
+        assert_eq!(plan.order(), [1, 2, 3, 4, 5, 6, 7, 8]);
+        assert_eq!((plan.counts.branched, plan.counts.most), (branched, most));
+    }
+}
+
 /// An order that costs the floor is no plan before the search has finished.
 #[test]
 fn the_floor_is_no_finish() {
