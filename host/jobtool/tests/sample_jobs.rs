@@ -87,6 +87,17 @@ fn choices_of_each() {
     assert_eq!(choices("office-full"), (16, 0, 15, 1, 0));
     assert_eq!(choices("strips"), (11, 3, 1, 1, 11));
     assert_eq!(choices("camps"), (10, 3, 1, 3, 10));
+    assert_eq!(choices("lakes"), (9, 3, 1, 1, 9));
     assert_eq!(choices("taxi"), (12, 3, 1, 1, 12));
     assert_eq!(string("office-full", "expected"), "refused 7\n");
+}
+
+/// The day of `lakes` costs the same flown the other way round, and the smaller of the two orders comes back (request A.8).
+#[test]
+fn the_other_way_round() {
+    let (job, table, start) = job("lakes");
+    let report = plan(job, &table, &start, &[], NO_BUDGET, &mut vec![0; 2_000 * RECORD_WORDS]);
+    let flown: Vec<u8> = start.iter().rev().copied().collect();
+    assert!(report.is_finished() && flown < start);
+    assert_eq!(report.order[..9], flown);
 }

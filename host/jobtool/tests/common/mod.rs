@@ -8,7 +8,8 @@ use std::process::{Command, Stdio};
 
 use jobtext::Job;
 
-pub const NAMES: [&str; 8] = ["camps", "case-a", "office", "office-full", "pilot", "pilot-first", "strips", "taxi"];
+pub const NAMES: [&str; 9] =
+    ["camps", "case-a", "lakes", "office", "office-full", "pilot", "pilot-first", "strips", "taxi"];
 
 /// Those that have a pair file too.
 pub const PAIRED: [&str; 1] = ["taxi"];
