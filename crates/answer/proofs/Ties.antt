@@ -4,11 +4,10 @@
 --   equal-start              a starting order of equal cost changes nothing but the order that a stopped run shows
 use mathlib.Core.Path.{_≡_, refl, sym, ap, _∙_, subst}
 use mathlib.Core.List.{List, [], _∷_}
-use mathlib.Core.Logic.{_⊎_, inl, inr, _≢_}
+use mathlib.Core.Logic.{inl, inr, _≢_}
 use mathlib.Core.Option.{Option, some}
 use Prim.Native.Nat.{ℕ, suc, _≤_}
 use native.Mathlib.Omega.{arith}
-use lib.Dec.{T}
 use lib.ListN.{take}
 use Rattle.sizes.specs.Sizes.{orderPlaces}
 use Rattle.lists.specs.Lists.{padded}
@@ -17,7 +16,7 @@ use Rattle.search.specs.Run.{Outcome, finished, stopped, full, held}
 use Rattle.search.proofs.Laws.{Le}
 use Rattle.search.proofs.Budget.{best-never-worse}
 use Rattle.search.proofs.EqualStart.{withBest, TwinOutcome, both-finished, both-stopped, both-full, both-unfinished, run-twins}
-use Rattle.orders.specs.Orders.{Node, smaller, nodes}
+use Rattle.orders.specs.Orders.{Node, NoLarger, nodes}
 use Rattle.orders.specs.Pairs.{pairsOf}
 use Rattle.orders.proofs.Smaller.{one-way, not-larger}
 use Rattle.orders.proofs.Pairs.{ordersWith-in}
@@ -37,14 +36,10 @@ use Rattle.answer.proofs.Demand3.{cheapest-of-all, allowed-too, one-cos
 use Rattle.answer.proofs.Budget.{stopped-as-written}
 use Rattle.answer.proofs.BudgetPairs.{alongside, same-call, Shows, after}
 
--- y is x, or smaller
-abbrev NoLarger : Node → Node → Type 0
-NoLarger y x = (y ≡ x) ⊎ T (smaller y x)
-
 -- Of two finished runs over one table neither order is larger than the other, since each is as cheap as the other.
 pub one-order : OneOrder written
 one-order a b x y p q one ends pairs hx hy =
-    best .has-order .zeros-past-n ∙ ap (padded orderPlaces) (same (not-larger a b x y p q one ends pairs hx hy) back)
+    best .has-order .zeros-past-n ∙ ap (padded orderPlaces) (same (first-or-same a b x y p q one ends pairs hx hy) back)
     ∙ sym (other .has-order .zeros-past-n)
   where
     best : Cheapest a (x .report)
@@ -53,10 +48,10 @@ one-order a b x y p q one ends pairs hx hy =
     other : Cheapest b (y .report)
     other = cheapest-of-all b y q hy
 
-    not-larger :
+    first-or-same :
         (a b : Call) (x y : Answer) → written a x → written b y → OneTable a b → EndAlike a b → SamePairs a b → Finishes (x .report)
         → Finishes (y .report) → NoLarger (orderIn a (x .report)) (orderIn b (y .report))
-    not-larger a b x y p q one ends pairs hx hy =
+    first-or-same a b x y p q one ends pairs hx hy =
         let theirs : Cheapest b (y .report) = cheapest-of-all b y q hy in
         let order : Node = orderIn b (y .report) in
         cheapest-of-all a x p hx .smallest order
@@ -65,7 +60,7 @@ one-order a b x y p q one ends pairs hx hy =
         ∙ sym (one-cost a b x y p q one ends pairs hx hy))
 
     back : NoLarger (orderIn b (y .report)) (orderIn a (x .report))
-    back = not-larger b a y x q p (record { n = sym (one .n); table = sym (one .table) }) (sym ends) (λ r. (pairs r .1, pairs r .0)) hy hx
+    back = first-or-same b a y x q p (record { n = sym (one .n); table = sym (one .table) }) (sym ends) (λ r. (pairs r .1, pairs r .0)) hy hx
 
     same : {v w : Node} → NoLarger v w → NoLarger w v → v ≡ w
     same (inl e) k = e

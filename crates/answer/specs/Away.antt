@@ -9,11 +9,11 @@
 use mathlib.Core.Path.{_≡_}
 use mathlib.Core.Bool.{false, true}
 use mathlib.Core.List.{List}
-use mathlib.Core.Logic.{_⊎_, _↔_}
+use mathlib.Core.Logic.{_↔_}
 use Prim.Native.Nat.{ℕ, _≤_}
 use lib.Dec.{T}
 use Rattle.lists.specs.Lists.{In}
-use Rattle.orders.specs.Orders.{Node, smaller, complete, Partial}
+use Rattle.orders.specs.Orders.{Node, NoLarger, complete, Partial}
 use Rattle.days.specs.Days.{Day}
 use Rattle.stops.specs.Tables.{entry, rows}
 use Rattle.stops.specs.Bounds.{endsAway}
@@ -72,8 +72,7 @@ pub record CheapestAway (c : Call) (a : Answer) : Type 0 where
   pub cost-is : a .report .cost ≡ homeDayOf c .path (orderIn c (a .report))
   pub least : (y : Node) → In y (allowedOrders c) → a .report .cost ≤ homeDayOf c .path y
   pub smallest :
-      (y : Node) → In y (allowedOrders c) → homeDayOf c .path y ≡ a .report .cost
-      → (orderIn c (a .report) ≡ y) ⊎ T (smaller (orderIn c (a .report)) y)
+      (y : Node) → In y (allowedOrders c) → homeDayOf c .path y ≡ a .report .cost → NoLarger (orderIn c (a .report)) y
 
 abbrev pub CheapestWithoutLegHome : Planner → Type 0
 CheapestWithoutLegHome P = (c : Call) (a : Answer) → P c a → EndsAway c → Finishes (a .report) → CheapestAway c a

@@ -9,13 +9,12 @@
 use mathlib.Core.Path.{_≡_}
 use mathlib.Core.Bool.{true, false, cond}
 use mathlib.Core.List.{List}
-use mathlib.Core.Logic.{_⊎_, _≢_, _↔_}
+use mathlib.Core.Logic.{_≢_, _↔_}
 use Prim.Native.Nat.{ℕ, suc, _+_, _*_, _≤_}
-use lib.Dec.{T}
 use lib.ListN.{length}
 use Rattle.sizes.specs.Sizes.{dearestLeg, dearestCharge}
 use Rattle.lists.specs.Lists.{In, sum, from}
-use Rattle.orders.specs.Orders.{Node, smaller, complete, Partial, Order}
+use Rattle.orders.specs.Orders.{Node, NoLarger, complete, Partial, Order}
 use Rattle.days.specs.Days.{Day}
 use Rattle.stops.specs.Tables.{entry, charge, flying, counted, inRows, legRows, landing}
 use Rattle.stops.specs.Bounds.{endsAway, isClose}
@@ -95,7 +94,7 @@ pub record CheapestLegs (c : Call) (a : Answer) : Type 0 where
   pub least : (y : Node) → In y (allowedOrders c) → legDayOf c .cost (orderIn c (a .report)) ≤ legDayOf c .cost y
   pub smallest :
       (y : Node) → In y (allowedOrders c) → legDayOf c .cost y ≡ legDayOf c .cost (orderIn c (a .report))
-      → (orderIn c (a .report) ≡ y) ⊎ T (smaller (orderIn c (a .report)) y)
+      → NoLarger (orderIn c (a .report)) y
 
 abbrev pub CheapestByLegs : Planner → Type 0
 CheapestByLegs P = (c : Call) (a : Answer) → P c a → Finishes (a .report) → CheapestLegs c a

@@ -10,7 +10,7 @@ use lib.Dec.{T}
 use lib.ListN.{length}
 use Rattle.lists.specs.Lists.{In, Distinct}
 use Rattle.search.specs.Step.{on}
-use Rattle.orders.specs.Orders.{Node, smaller, Order, orders, factorial}
+use Rattle.orders.specs.Orders.{Node, NoLarger, Order, orders, factorial}
 use Rattle.orders.specs.Pairs.{Pair, pairsOf, OnePairs, Allowed, ordersWith}
 use Rattle.days.specs.Days.{Closer}
 use Rattle.stops.specs.Bounds.{endsAway}
@@ -91,7 +91,7 @@ pub record Cheapest (c : Call) (r : Report) : Type 0 where
   pub has-order : HasOrder c r
   pub least : (y : Node) → In y (allowedOrders c) → r .cost ≤ dayOf c .cost y
   pub smallest :
-      (y : Node) → In y (allowedOrders c) → dayOf c .cost y ≡ r .cost → (orderIn c r ≡ y) ⊎ T (smaller (orderIn c r) y)
+      (y : Node) → In y (allowedOrders c) → dayOf c .cost y ≡ r .cost → NoLarger (orderIn c r) y
 
 abbrev pub CheapestOfAll : Planner → Type 0
 CheapestOfAll P = (c : Call) (a : Answer) → P c a → Finishes (a .report) → Cheapest c (a .report)

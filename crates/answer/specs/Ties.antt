@@ -5,10 +5,9 @@
 --   EqualStart             a starting order of equal cost changes nothing but the order that a stopped run shows
 use mathlib.Core.Path.{_≡_}
 use mathlib.Core.List.{List, []}
-use mathlib.Core.Logic.{_⊎_, _≢_}
+use mathlib.Core.Logic.{_≢_}
 use Prim.Native.Nat.{ℕ, _≤_}
-use lib.Dec.{T}
-use Rattle.orders.specs.Orders.{smaller}
+use Rattle.orders.specs.Orders.{NoLarger}
 use Rattle.answer.specs.Call.{Call, callOf, Answer}
 use Rattle.answer.specs.Checks.{cause}
 use Rattle.answer.specs.Answer.{dayOf}
@@ -28,7 +27,7 @@ abbrev pub LargerBudgetSmaller : Planner → Type 0
 LargerBudgetSmaller P =
     (a b : Call) (x y : Answer) → P a x → P b y → OneJob a b → a .budget ≤ b .budget → x .report .mark ≡ 1 → y .report .mark ≡ 1
     → ShowsOrder (x .report) → x .report .cost ≡ y .report .cost
-    → (orderIn b (y .report) ≡ orderIn a (x .report)) ⊎ T (smaller (orderIn b (y .report)) (orderIn a (x .report)))
+    → NoLarger (orderIn b (y .report)) (orderIn a (x .report))
 
 -- the call with another starting order
 abbrev pub startedFrom : List ℕ → Call → Call

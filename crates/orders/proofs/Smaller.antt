@@ -13,7 +13,7 @@ use native.Mathlib.Omega.{arith}
 use lib.Dec.{T, not-T, ltb, eqb}
 use lib.ListN.{length}
 use Rattle.lists.proofs.Tests.{to-false, compared, ordered, Tied, tied-cases, cases-tied}
-use Rattle.orders.specs.Orders.{Node, smaller}
+use Rattle.orders.specs.Orders.{Node, smaller, NoLarger}
 use Rattle.orders.specs.Examples
 
 -- one of two numbers is the lesser, or they are the same
@@ -55,10 +55,10 @@ total (s ∷ x) (t ∷ y) = go (sides s t) (total x y)
     go (inr (inl e)) (inr (inr r)) = inr (inr (cases-tied t s (smaller y x) (inr (sym e, r))))
     go (inr (inr l)) rest = inr (inr (cases-tied t s (smaller y x) (inl l)))
 
-pub not-larger : (x y : Node) → (T (smaller y x) → ⊥) → (x ≡ y) ⊎ T (smaller x y)
+pub not-larger : (x y : Node) → (T (smaller y x) → ⊥) → NoLarger x y
 not-larger x y h = go (total x y)
   where
-    go : (x ≡ y) ⊎ (T (smaller x y) ⊎ T (smaller y x)) → (x ≡ y) ⊎ T (smaller x y)
+    go : (x ≡ y) ⊎ (T (smaller x y) ⊎ T (smaller y x)) → NoLarger x y
     go (inl e) = inl e
     go (inr (inl k)) = inr k
     go (inr (inr k)) = absurd (h k)
@@ -103,7 +103,7 @@ tied-le a b x y (inr (e, k)) = (omega arith, λ f h. one-way x y k h)
 pub le-tied : (a b : ℕ) (x y : Node) → a ≤ b → (a ≡ b → T (smaller y x) → ⊥) → (x ≡ y) ⊎ Tied a b (smaller x y)
 le-tied a b x y low tie = go (compared a b)
   where
-    same : a ≡ b → (x ≡ y) ⊎ T (smaller x y) → (x ≡ y) ⊎ Tied a b (smaller x y)
+    same : a ≡ b → NoLarger x y → (x ≡ y) ⊎ Tied a b (smaller x y)
     same e (inl k) = inl k
     same e (inr k) = inr (inr (e, k))
 

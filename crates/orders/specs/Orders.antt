@@ -1,9 +1,11 @@
 -- Orders and nodes: document 01, "Legs and orders" and "Nodes", as far as they need no leg; document 02, A.8.
 -- A node is a partial order: the list of its stops as they are flown. The empty one, e, is [].
+use mathlib.Core.Path.{_≡_}
 use mathlib.Core.Bool.{Bool, true, false, not, _&&_, _||_}
 use mathlib.Core.List.{List, [], _∷_, _++_, map}
+use mathlib.Core.Logic.{_⊎_}
 use Prim.Native.Nat.{ℕ, zero, suc, _+_, _*_, _-_, _^_, _≤_}
-use lib.Dec.{ltb, eqb}
+use lib.Dec.{T, ltb, eqb}
 use lib.ListN.{length}
 use Rattle.lists.specs.Lists.{In, keep, any, all, sum, from, each, Distinct}
 
@@ -43,6 +45,10 @@ smaller [] [] = false
 smaller [] (t ∷ y) = true
 smaller (s ∷ x) [] = false
 smaller (s ∷ x) (t ∷ y) = ltb s t || eqb s t && smaller x y
+
+-- x is y, or the smaller of the two
+abbrev pub NoLarger : Node → Node → Type 0
+NoLarger x y = (x ≡ y) ⊎ T (smaller x y)
 
 -- how many stops of 1 to n it flies, and whether it flies all
 unfoldable pub size : ℕ → Node → ℕ
