@@ -1,11 +1,13 @@
 // Calls, checks, reports and the answer to a call, as definitions, and the letter's demands of a planner, as statements (specs/, specs/Demands),
 // proved of the written run (proofs/). No function: the two structs that cross the border stand here, so that what reads a job or prints a
 // report need not rest on the planner.
+#![tactic(auto)]
+
 use sizes::ORDER_PLACES;
 
 // What a caller chooses: how many stops, which selection, which rules and which bound.
 #[repr(C)]
-#[derive(Drop)]
+#[derive(Clone, Copy)]
 pub struct Job {
     pub n: u32,
     pub selection: u32,
@@ -16,7 +18,7 @@ pub struct Job {
 // What the planner answers: the number of a refusal, or 0; and the counts of the run. Number 0 alone does not say that the order is the
 // smallest of the cheapest: with mark 0 it is, with mark 1 the budget stopped the run, and the order is the best that was known (request A.3).
 #[repr(C)]
-#[derive(Drop)]
+#[derive(Clone, Copy)]
 pub struct Report {
     pub number: u32,
     // 1 if the budget stopped the run

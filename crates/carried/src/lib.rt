@@ -2,6 +2,8 @@
 // from another one left: together the other stops that the node leaves, whichever child it is. So the cheapest of those legs is one number a
 // stop, found once for the family, and with it the cheapest leg home. specs/Carried has this in the request's words, and proofs/ that it is document
 // 01's close bound. The functions are public for the crates above and not for hosts; what they require, those crates meet.
+#![tactic(auto)]
+
 ghost use Rattle.std.specs.Prelude.{◌≡◌, cond, ℕ, ◌-◌, ◌^◌, ◌≤◌, ◌<◌, eqb, length, get_or, replicate};
 ghost use Rattle.sizes.specs.Sizes.{most_stops, places, above_every_cost};
 ghost use Rattle.lists.specs.Lists.{In};
@@ -31,7 +33,7 @@ const REACHES_THIRD: u32 = 256;
 const REACHES_FOURTH: u32 = 4_096;
 
 // Of the legs home from some stops the cheapest, the stop that gives it, and the cheapest of the others.
-#[derive(Drop)]
+#[derive(Clone, Copy)]
 pub struct Homes {
     pub cheapest: u32,
     pub giver: u32,
@@ -40,14 +42,14 @@ pub struct Homes {
 
 // What the children of a node share. Where the bound is close, total is the sum, over the stops that the node leaves, of the cheapest leg into each
 // from another one: the node's sum with every correction made. Where one stop is left it is the leg home from it, and else, under plain, 0.
-#[derive(Drop)]
+#[derive(Clone, Copy)]
 pub struct Family {
     pub total: u32,
     pub homes: Homes,
 }
 
 // What each child of a node adds to it: the legs from the node's last place, each at the place of its stop, and what the bound adds.
-#[derive(Drop)]
+#[derive(Clone, Copy)]
 pub struct Costs {
     pub legs: [u32; PLACES],
     pub family: Family,

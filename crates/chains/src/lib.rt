@@ -3,6 +3,8 @@
 // look along one chain. Nothing is unlinked but at a lane's end; a link is a function of the records before it. A lane of so many records that their
 // numbers fill a word is not linked, and is walked record by record. The functions are public for the crates above and not for
 // hosts; what they require, those crates meet.
+#![tactic(auto)]
+
 pub mod join;
 pub mod trim;
 pub mod walk;

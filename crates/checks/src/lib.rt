@@ -2,6 +2,8 @@
 // `pair_cause`. What they answer is `job_cause` and `pair_cause` of crate `answer` (specs/Checks), whose proofs/JobCause ties these to the cause of a
 // call with a pool. `first_cause` is for a caller that has a bound and pairs but no job, `wrong_n` for one that has n alone. They are public for the
 // crates above and not for hosts; of them only `pair_cause` asks something, which `job_cause` has seen to.
+#![tactic(auto)]
+
 ghost use Rattle.std.specs.Prelude.{◌≡◌, false, ◌≤◌};
 ghost use Rattle.sizes.specs.Sizes.{most_stops};
 ghost use Rattle.answer.specs.Checks.{cause₁, no_such_bound, cause₄, cause₅, table_cause, first_cause, job_cause, pair_cause};

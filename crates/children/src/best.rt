@@ -19,7 +19,7 @@ use stops::order_words::words_before;
 use stops::sets::{later, next};
 
 // The cost of the best order known, and its two words; `ABOVE_EVERY_COST` and zeros if none is known.
-#[derive(Drop)]
+#[derive(Clone, Copy)]
 pub struct Best {
     pub upper: u32,
     pub first: u32,

@@ -2,7 +2,7 @@
 // which (request A.6).
 use pairs::Precedence;
 
-#[derive(Drop)]
+#[derive(Clone, Copy)]
 pub struct Setting {
     pub n: u32,
     pub selection: u32,

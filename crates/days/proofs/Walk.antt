@@ -111,7 +111,7 @@ module _ {n most : ℕ} {D : Day} {R : Reckoning} (walk : Walk n most D R) where
       let left-too : In s (left n x) = (in_ready pairs (left n x) s i).0 in
       let k : Alike n D R (extend w s) c = subst (λ (z : Node). Alike n D R (extend w s) z) (sym e) (alike_extend w x s long left-too a) in
       let longer : length (extend w s) ≡ length c = omega (arith, length-append w (s ∷ []), length-append x (s ∷ []), ap length e) in
-      let (z, j, b) = leads_alike pairs longer k l in
+      let (z, j, b) = leads_alike pairs {w = extend w s} longer k l in
       (z, down (children_in n pairs w s (subst (λ (rest : List ℕ). In s (ready pairs rest)) (sym (set_same_left n w x a.stops)) i)) j, b)
 
   alike_le : (pairs : List Pair) (w x : Node) → Alike n D R w x → Le (problem n pairs D) (some w) (some x)

@@ -10,7 +10,7 @@ use stops::cost::order_cost;
 use stops::table::Rows;
 
 // Two positions of an order, and what it costs once their stops are exchanged.
-#[derive(Drop)]
+#[derive(Clone, Copy)]
 struct Exchange {
     cost: u32,
     p: usize,

@@ -1,5 +1,7 @@
 // A first order for a host (requests A.1, A.5 and A.6): `first_order` is open to a caller. The functions of `nearest` and `exchange` are this crate's
 // own, and what they require `first_order` meets. specs/First of crate `first_answer` says what it answers; specs/Code is the code's own.
+#![tactic(auto)]
+
 ghost use Rattle.std.specs.Prelude.{◌≡◌, ◌≤◌, length};
 ghost use Rattle.sizes.specs.Sizes.{most_stops};
 ghost use Rattle.orders.specs.Pairs.{Pairing};

@@ -17,7 +17,7 @@ use stops::bound::ahead;
 use stops::table::{further, rows};
 
 // Where a path stands: what it cost, and its last place.
-#[derive(Drop)]
+#[derive(Clone, Copy)]
 struct Walked {
     path: u32,
     place: u32,

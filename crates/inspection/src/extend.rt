@@ -9,7 +9,7 @@ use sizes::MOST_STOPS;
 use stops::node_record::Record;
 
 // What is added: a stop, and what flying there costs.
-#[derive(Drop)]
+#[derive(Clone, Copy)]
 pub struct Added {
     pub stop: u32,
     pub leg: u32,

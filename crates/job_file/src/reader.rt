@@ -16,7 +16,7 @@ use sizes::{LONGEST, ORDER_PLACES, TABLE_NUMBERS};
 
 // What the reader hands back: a number, and what the file holds, with zeros in unused places.
 #[repr(C)]
-#[derive(Drop)]
+#[derive(Clone, Copy)]
 pub struct Reading {
     pub number: u32,
     pub job: Job,

@@ -14,7 +14,7 @@ use checks::job_cause;
 
 // What the writer hands back: a number, and the length of the file.
 #[repr(C)]
-#[derive(Drop)]
+#[derive(Clone, Copy)]
 pub struct Written {
     pub number: u32,
     pub length: usize,

@@ -8,7 +8,7 @@ use crate::constants::{ACTIVE_HEADS, FAR_HEADS};
 // The pool has `capacity` records. Its first `used` places have the active records, gone ones among them, of which `active` are nodes; its last `far`
 // places have the branched ones. The least bounds of blocks of 2^shift places are kept where the layout is ranked, and the chains of a lane where that
 // lane is linked.
-#[derive(Drop)]
+#[derive(Clone, Copy)]
 pub struct Layout {
     pub capacity: usize,
     pub used: usize,

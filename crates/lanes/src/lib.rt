@@ -3,6 +3,8 @@
 // that no node has: it is gone, until the lane is squeezed. The size of a node is that of its set, so that the size word of a record is free
 // while a call works; crate `chains` keeps a link there. specs/Code has how lanes show lists of nodes. The functions are public for the
 // crates above and not for hosts; what they require, those crates meet.
+#![tactic(auto)]
+
 ghost use Rattle.std.specs.Prelude.{◌≡◌, ◌-◌, ◌≤◌, ◌<◌, length, get_or, set};
 ghost use Rattle.stops.specs.Code.{empty_record};
 ghost use Rattle.records.specs.Code.{records};
@@ -18,7 +20,7 @@ use stops::node_record::Record;
 
 // A lane of the pool: with `end` 0 its records stand at places 0, 1, 2 .., else at end-1, end-2 .., `count` of them. If it is linked,
 // its chains start at `heads` in the index.
-#[derive(Drop)]
+#[derive(Clone, Copy)]
 pub struct Lane {
     pub end: usize,
     pub count: usize,

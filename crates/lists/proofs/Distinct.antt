@@ -69,7 +69,7 @@ sum-without f s (more {x} {xs} new d) m = go (Memᴰ.cases_cons m) (λ k. sum-wi
     go :
         (s ≡ x) ⊎ In s xs → (In s xs → sum f xs ≡ f s + sum f (without s xs))
         → f x + sum f xs ≡ f s + sum f (without s (x ∷ xs))
-    go (inl e) again = rw (e, to_true (eqb x x) (eqb_refl x), without_absent x xs new)
+    go (inl e) again = rw (e, to_true (eqb x x) (eqb_refl x), without_absent s xs (λ m. new (subst (λ (r : ℕ). In r xs) e m))) refl
     go (inr k) again =
         rw (to_false (eqb s x) (ne_neqb s x (λ e. new (subst (λ (r : ℕ). In r xs) e k)))) (omega (arith, again k))
 

@@ -103,7 +103,7 @@ module _ {A B : Type 0} where
       go (inl e) again = (x, in_head, e)
       go (inr m) again = let (a, k, e) = again m in (a, Memᴰ.tail k, e)
 
-  pub map_in : (f : A → B) {xs : List A} {a : A} → In a xs → In (f a) (map f xs)
+  pub map_in : (f : A → B) {a : A} {xs : List A} → In a xs → In (f a) (map f xs)
   map_in f (Memᴰ.head e) = Memᴰ.head (ap f e)
   map_in f (Memᴰ.tail m) = Memᴰ.tail (map_in f m)
 

@@ -2,6 +2,8 @@
 // crate `node_answers`. Those that inspect or extend a record take it apart and call a covered function of crate `inspection` on its
 // words, which carries the meaning. Nothing is asked of the arguments: an index past the end gives an answer that says so, and changes
 // nothing.
+#![tactic(auto)]
+
 ghost use Rattle.std.specs.Prelude.{◌≡◌, set};
 ghost use Rattle.node_answers.specs.Answers.{is_inside, record_at, found, verdict, flown_at, figures, extension, extend_at};
 

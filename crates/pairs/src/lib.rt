@@ -1,6 +1,8 @@
 // The pairs of a call (request A.6), as the code holds them: for each stop the set of the stops that must be flown before it. specs/Code says which pairs
 // these are, and proofs/ that they are those of the pair file. The functions are public for the crates above and not for hosts; what they require, those
 // crates meet.
+#![tactic(auto)]
+
 ghost use Rattle.std.specs.Prelude.{◌≡◌, ◌^◌, ◌≤◌, ◌<◌};
 ghost use Rattle.sizes.specs.Sizes.{most_stops};
 ghost use Rattle.orders.specs.Orders.{Partial};
@@ -11,7 +13,7 @@ use sizes::PLACES;
 use stops::sets::{later, next, with, without};
 
 // Whether there are pairs at all, and for each stop the set of the stops that must be flown before it.
-#[derive(Drop)]
+#[derive(Clone, Copy)]
 pub struct Precedence {
     pub paired: bool,
     pub before: [u32; PLACES],

@@ -1,5 +1,7 @@
 // The program `plan`: reads a job file from standard input, and prints the report of its job or a refusal. What is printed for an input is
 // `output`'s; here it is read and written.
+#![tactic(auto)]
+
 mod output;
 
 use crate::output::{INPUT, output};

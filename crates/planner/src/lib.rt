@@ -1,5 +1,7 @@
 // The planner: `plan` is open to a caller; the functions of `run` and `report` are this crate's own, and what they require `plan` meets.
 // specs/Answer of crate `answer` says what `plan` answers; specs/Code is the code's own.
+#![tactic(auto)]
+
 ghost use Rattle.std.specs.Prelude.{◌≡◌, ℕ};
 ghost use Rattle.answer.specs.Call.{call_of};
 ghost use Rattle.answer.specs.Checks.{cause};

@@ -40,7 +40,7 @@ const LIFO: u32 = 3;
 const FAMILY_WORDS: usize = ORDER_PLACES * RECORD_WORDS;
 
 // What comes next of a state.
-#[derive(Drop)]
+#[derive(Clone, Copy)]
 pub enum Turn {
     Finish,
     Stop,

@@ -1,5 +1,7 @@
 // What is printed, as text in an array. `report_text` and `refusal_text` are open to a caller and ask nothing; every other function is this
 // crate's own, and what it requires its callers meet. Crate `report_format` says what is printed for every report (specs/Printed).
+#![tactic(auto)]
+
 ghost use Rattle.std.specs.Prelude.{◌≡◌};
 ghost use Rattle.report_format.specs.Printed.{refused_line, printed};
 ghost use Rattle.printing.specs.Promise.{text_of};
@@ -16,7 +18,7 @@ use records::order::places;
 pub const TEXT: usize = 568;
 
 // A text: its bytes, with zeros behind them, and how many they are.
-#[derive(Drop)]
+#[derive(Clone, Copy)]
 pub struct Text {
     pub bytes: [u8; TEXT],
     pub length: usize,

@@ -1,6 +1,8 @@
 // Node records: a record's six words and the pool's words for a state are document 01's (specs/Records); words are seen as a list of
 // records (specs/Code), of which one, or a word of one, is read and written here; `order` reads the stops of an order. The functions are public
 // for the crates above and not for hosts; what they require, those crates meet.
+#![tactic(auto)]
+
 ghost use Rattle.std.specs.Prelude.{◌≡◌, ◌-◌, ◌≤◌, ◌<◌, length, get_or, set};
 ghost use Rattle.stops.specs.Code.{empty_record};
 ghost use Rattle.records.specs.Code.{records};

@@ -35,7 +35,7 @@ module _ {N : Type 0} (P : Problem N) where
   learn-upper : (a b : Option N) (cs : List N) → upper P a ≡ upper P b → upper P (learn P a cs) ≡ upper P (learn P b cs)
   learn-upper a b [] e = e
   learn-upper a b (c ∷ cs) e =
-      learn-upper _ _ cs
+      learn-upper (replace (P.complete c && better P c a) c a) (replace (P.complete c && better P c b) c b) cs
       (taught-upper a c ∙ ap (λ (u : ℕ). cond (P.complete c) (min (P.cost c) u) u) e ∙ sym (taught-upper b c))
 
 module _ {N : Type 0} where

@@ -124,9 +124,9 @@ module _ {N : Type 0} (Valid : N → Type 0) where
         or_else_valid (earliest (lowest_open P bound xs) xs) (earliest (lowest bound xs) xs) (earliest_valid _ xs valid) (earliest_valid _ xs valid)
     select_by_valid (suc zero) xs valid =
         or_else_valid (latest (lowest_open P bound xs) xs) (latest (lowest bound xs) xs) (latest_valid _ xs valid) (latest_valid _ xs valid)
-    select_by_valid (suc (suc zero)) xs valid = earliest_valid _ xs valid
+    select_by_valid (suc (suc zero)) xs valid = earliest_valid (λ x. true) xs valid
     select_by_valid (suc (suc (suc zero))) xs valid =
-        or_else_valid (latest (λ x. not (P.complete x)) xs) (latest (λ x. true) xs) (latest_valid _ xs valid) (latest_valid _ xs valid)
+        or_else_valid (latest (λ x. not (P.complete x)) xs) (latest (λ x. true) xs) (latest_valid _ xs valid) (latest_valid (λ x. true) xs valid)
     select_by_valid (suc (suc (suc (suc k)))) xs valid = tt
 
   pub select_valid : (P : Problem N) (C : Choices N) (xs : List N) → AllValid Valid xs → ValidChoice Valid (select P C xs)
@@ -197,7 +197,7 @@ module _
           latest-map f (lowest C.bound xs) (lowest D.bound (map f xs)) xs (lowest_maps xs valid),
         )
         (or_else_map f (latest (lowest_open P C.bound xs) xs) (latest (lowest C.bound xs) xs))
-    select_by_maps (suc (suc zero)) xs valid = earliest-map f _ _ xs (λ x m. refl)
+    select_by_maps (suc (suc zero)) xs valid = earliest-map f (λ x. true) (λ x. true) xs (λ x m. refl)
     select_by_maps (suc (suc (suc zero))) xs valid =
         rw (
           latest-map f (λ x. not (P.complete x)) (λ x. not (Q.complete x)) xs (λ x m. ap not (maps.complete x (valid x m))),

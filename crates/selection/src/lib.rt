@@ -1,5 +1,7 @@
 // Which active node is branched, and the least bound among the active nodes. `choose` and `floor` are public for the crate above and not for
 // hosts; what they require, that crate meets.
+#![tactic(auto)]
+
 ghost use Rattle.std.specs.Prelude.{◌≡◌, cond, ℕ, ◌*◌, ◌^◌, ◌≤◌, ◌<◌, length};
 ghost use Rattle.lists.specs.Lists.{least};
 ghost use Rattle.records.specs.Code.{records};
@@ -17,7 +19,7 @@ use lanes::constants::EVERY_BOUND;
 use lanes::layout::Layout;
 
 // Where the chosen node stands, or the number of a refusal.
-#[derive(Drop)]
+#[derive(Clone, Copy)]
 pub enum Place {
     At(usize),
     Refused(u32),

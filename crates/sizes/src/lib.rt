@@ -1,5 +1,7 @@
 // The numbers that documents 01 and 02 fix, by name, as the code has them. specs/Sizes has the same for the definitions. What follows from
 // another is reckoned from it.
+#![tactic(auto)]
+
 
 // Stops of a day.
 pub const MOST_STOPS: u32 = 16;

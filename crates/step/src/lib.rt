@@ -1,6 +1,8 @@
 // One step of a run on the pool's records: its seven parts, of crates `children` and `replacement`, one after the other. specs/Code has
 // what its functions compute, and proofs/ shows that these are the written step of crate `search`. The functions are public for the crate
 // above and not for hosts; what they require, that crate meets.
+#![tactic(auto)]
+
 ghost use Rattle.std.specs.Prelude.{◌≡◌, ◌+◌, ◌-◌, ◌^◌, ◌≤◌, ◌<◌, length};
 ghost use Rattle.sizes.specs.Sizes.{most_stops};
 ghost use Rattle.search.specs.Problem.{State};
@@ -27,7 +29,7 @@ use stops::node_record::Record;
 use stops::sets::count;
 
 // Where a run stands beside the pool: how the pool's records stand, U with its order, and the counts.
-#[derive(Drop)]
+#[derive(Clone, Copy)]
 pub struct Run {
     pub layout: Layout,
     pub best: Best,
@@ -38,7 +40,7 @@ pub struct Run {
 }
 
 // What comes of a step.
-#[derive(Drop)]
+#[derive(Clone, Copy)]
 pub enum After {
     Full,
     Go(Run),
@@ -66,7 +68,7 @@ fn counted(r: Run, best: Best, generated: usize, layout: Layout) -> Run
 }
 
 // What parts 1 to 5 of a step give: the stops of the children and of those that survive, the limit of rule 1, and U.
-#[derive(Drop)]
+#[derive(Clone, Copy)]
 struct Expanded {
     born: u32,
     alive: u32,

@@ -127,7 +127,7 @@ digits_without (is_clear {m = m} h e d) (suc j) r q i =
 digits_without (is_set {s = s} {m} {xs} h e d) zero r q i =
     let same : r ≡ s = omega arith in (
       omega arith,
-      rw (same, to_true (eqb s s) (eqb_refl s), without_absent s xs (λ (j : In s xs). omega (arith, digits_range d s j)))
+      rw (same, to_true (eqb s s) (eqb_refl s), without_absent r xs (λ (j : In r xs). omega (arith, same, digits_range d r j)))
           (is_clear {m = m - 1} h (omega arith) d),
     )
 digits_without (is_set {s = s} {m} {xs} h e d) (suc j) r q i =

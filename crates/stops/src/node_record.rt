@@ -6,7 +6,7 @@ use crate::order_words::words_before;
 use sizes::{MOST_STOPS, STOP_BASE, STOP_BITS, WORD_STOPS};
 
 #[repr(C)]
-#[derive(Drop)]
+#[derive(Clone, Copy)]
 pub struct Record {
     pub size: u32,
     pub set: u32,

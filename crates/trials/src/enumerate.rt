@@ -83,7 +83,7 @@ pub const PAIR_BYTES: usize = 6;
 
 // A day of n stops, which ends at home, or away: at its last stop; how many pairs it has, and their stops, the first of each to be flown before the
 // second.
-#[derive(Drop)]
+#[derive(Clone, Copy)]
 pub struct Day {
     pub n: usize,
     pub away: bool,
@@ -228,7 +228,7 @@ fn price(table: &[u32], day: Day, k: u64) -> u64
 }
 
 // The least cost, and the smallest of the orders that cost it.
-#[derive(Drop)]
+#[derive(Clone, Copy)]
 pub struct Optimum {
     pub cost: u64,
     pub order: [u8; ORDER_PLACES],

@@ -11,7 +11,7 @@ use sizes::ORDER_PLACES;
 // The number of a report whose run filled the pool.
 const POOL_FULL: u32 = 7;
 
-#[derive(Drop)]
+#[derive(Clone, Copy)]
 pub enum Verdict {
     Best,
     Full,

@@ -1,6 +1,8 @@
 // Random tables under every choice, with pairs (request A.6) for half of the tables, without a starting order, with one, and with the unit's first order, each report held against full
 // enumeration; those of the first two kinds also within half of their branchings, or just enough. The tables, and so what is printed, are the same in
 // every run.
+#![tactic(auto)]
+
 ghost use Rattle.std.specs.Prelude.{◌≤◌};
 ghost use Rattle.sizes.specs.Sizes.{most_stops};
 
@@ -36,14 +38,14 @@ const RULES: u32 = 16;
 const CHOICES: u32 = 128;
 
 // The jobs without a starting order and with one that is drawn: the whole runs, and those within a budget.
-#[derive(Drop)]
+#[derive(Clone, Copy)]
 struct Typed {
     whole: Tally,
     limited: Limited,
 }
 
 // These, and the jobs from the unit's first order.
-#[derive(Drop)]
+#[derive(Clone, Copy)]
 struct Tallies {
     typed: Typed,
     first: Tally,

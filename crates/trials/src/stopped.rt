@@ -10,7 +10,7 @@ use check::same;
 // The mark of a report whose run the budget stopped.
 const STOPPED: u32 = 1;
 
-#[derive(Drop)]
+#[derive(Clone, Copy)]
 pub enum Ending {
     WithOrder,
     WithNone,

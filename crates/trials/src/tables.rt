@@ -77,7 +77,7 @@ pub fn size_of(n: usize) -> usize
 const TABLE_KINDS: u64 = 24;
 
 // The numbers of a kind: from `least` on, so many different ones.
-#[derive(Drop)]
+#[derive(Clone, Copy)]
 struct Kind {
     least: u64,
     span: u64,

@@ -9,7 +9,7 @@ use std::num::wrapping_add_u64;
 const PRIME: u64 = 1_000_000_007;
 
 // Of jobs planned without a budget: how many ended in which way, and a checksum over their costs and counts.
-#[derive(Drop)]
+#[derive(Clone, Copy)]
 pub struct Tally {
     pub best: u64,
     pub full: u64,
@@ -18,7 +18,7 @@ pub struct Tally {
 }
 
 // Of jobs planned within a budget: the same, with marks and floors in the checksum.
-#[derive(Drop)]
+#[derive(Clone, Copy)]
 pub struct Limited {
     pub with_order: u64,
     pub with_none: u64,

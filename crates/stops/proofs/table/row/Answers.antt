@@ -1,0 +1,19 @@
+-- The goals of `table::row` that the search leaves.
+use mathlib.Core.Path.{◌≡◌, ◌∙◌}
+use Prim.Native.Nat.{suc, ◌≤◌, ◌-◌}
+use native.Mathlib.Omega.{arith}
+use Rattle.stops.specs.Tables.{flying}
+use Rattle.stops.proofs.RowLaws.{filled, filled_none, filled_more, filled_row}
+use Rattle.stops.proofs.table.row.Goals as goal
+
+pub flying-requires : goal.flying-requires
+flying-requires c = let p = c.requires in (p.0, (p.1, omega arith))
+
+pub loop-j-preserved : goal.loop-j-preserved
+loop-j-preserved c = (omega arith, rw (c.loop-j.invariant.1, c.flying.ensures) (filled_more _ _ _ (omega arith)))
+
+pub returns : goal.returns
+returns c = c.loop-j.invariant.1 ∙ filled_row _ _ _ c.loop-j.invariant.0 c.loop-j-test.false _
+
+pub loop-j-init : goal.loop-j-init
+loop-j-init c = (omega arith, filled_none _ (λ k. 0))
