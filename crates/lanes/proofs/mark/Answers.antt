@@ -1,0 +1,8 @@
+-- `mark` meets its contract: the record is loaded, and stored with another bound.
+use borrow.Author.Rules.{rules}
+use Rattle.lanes.specs.Code.{marked}
+use Rattle.lanes.proofs.mark.Goals as goal
+
+pub returns : goal.returns
+unfolding marked
+returns c = rw (c.store.ensures, c.load-x.ensures)

@@ -1,0 +1,17 @@
+-- `squeeze` meets its contract. The loop's invariant is `Sifted` itself, up to i.
+use mathlib.Core.Path.{◌≡◌, refl}
+use Prim.Native.Nat.{◌-◌, ◌≤◌}
+use native.Mathlib.Omega.{arith}
+use lib.ListN.{length}
+use Rattle.records.specs.Code.{records, Sifted}
+use Rattle.records.proofs.SiftLaws.{sifted_none, sifted_within}
+use Rattle.lanes.specs.Code.{is_within}
+use Rattle.lanes.proofs.SqueezeLaws.{sifted_kept}
+use Rattle.lanes.proofs.squeeze.squeeze.Given as goal
+
+abbrev pub invariant-loop-i : goal.invariant-loop-i
+invariant-loop-i l =
+    (l.i ≤ l.used) × ((length l.w ≡ length l.initial.w) × Sifted (is_within l.limit) (records l.initial.w) 0 l.i 0 (records l.w) l.next)
+
+abbrev pub decreases-loop-i : goal.decreases-loop-i
+decreases-loop-i l = l.used - l.i

@@ -1,0 +1,25 @@
+-- The goals of `order::stops_of` that the search leaves.
+use mathlib.Core.Path.{◌≡◌, refl}
+use mathlib.Core.List.{map}
+use Prim.Native.Nat.{◌-◌, ◌≤◌}
+use native.Mathlib.Omega.{arith}
+use Rattle.sizes.specs.Sizes.{order_places}
+use Rattle.lists.specs.Lists.{from, padded}
+use Rattle.records.specs.Records.{stop_at}
+use Rattle.records.proofs.OrderStops.{stops_more}
+use Rattle.records.proofs.order.stops_of.Goals as goal
+
+pub loop-k-init : goal.loop-k-init
+unfolding padded
+loop-k-init c = (omega arith, refl)
+
+pub loop-k-preserved : goal.loop-k-preserved
+loop-k-preserved c =
+    let l = c.loop-k in
+    (omega arith, rw (c.stop_at.ensures.0, l.invariant.1) (stops_more _ _ l.k (omega arith)))
+
+pub returns : goal.returns
+returns c =
+    let l = c.loop-k in
+    let e : l.k ≡ c.args.count = omega arith in
+    rw e at l.invariant.1
