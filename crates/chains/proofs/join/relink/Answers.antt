@@ -36,10 +36,10 @@ loop-c-init c =
 
 -- the place of the record that is next stands in the pool
 inside :
-    (c : In-loop-c)
+    (c : In-loop-c) → T c.args.p.linked
     → let p = c.args.p in place_of p.end (c.loop-c.c + 1) < length (records c.loop-c.w)
-inside c =
-    relinking_room c.loop-c.invariant.2 (on c.before.before.before.before.before.before.before) c.requires.0 c.loop-c-test.true
+inside c linked =
+    relinking_room c.loop-c.invariant.2 linked c.requires.0 c.loop-c-test.true
 
 -- the index has the lane's heads
 even :
@@ -50,7 +50,7 @@ pub place-i-requires : goal.place-i-requires
 place-i-requires c = (omega arith, λ h. omega (arith, c.loop-c-test.true, c.requires.0.apart h))
 
 pub sized_at-x-requires : goal.sized_at-x-requires
-sized_at-x-requires c = rw c.place-i.ensures (inside (goal.at.sized_at-x-requires c).In-loop-c)
+sized_at-x-requires c = rw c.place-i.ensures (inside (goal.at.sized_at-x-requires c).In-loop-c (on (goal.at.sized_at-x-requires c).Else-not-p))
 
 pub joined-requires : goal.joined-requires
 joined-requires c t =
@@ -59,7 +59,7 @@ joined-requires c t =
 
 pub store-requires : goal.store-requires
 store-requires c =
-    rw c.place-i.ensures (inside (goal.at.store-requires c).In-loop-c)
+    rw c.place-i.ensures (inside (goal.at.store-requires c).In-loop-c (on (goal.at.store-requires c).Else-not-p))
 
 pub loop-c-preserved : goal.loop-c-preserved
 loop-c-preserved c =

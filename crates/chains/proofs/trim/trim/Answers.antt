@@ -26,7 +26,7 @@ unlink-requires c =
 pub loop-used-preserved : goal.loop-used-preserved
 loop-used-preserved c =
     let l = records c.args.w.now in
-    let dead : is_live (get_or l (c.loop-used.used - 1) empty_record) ≡ false = sym c.live.ensures ∙ not-true _ c.if-not-live.true in
+    let dead : is_live (get_or l (c.loop-used.used - 1) empty_record) ≡ false = sym c.live.ensures ∙ c.if-not-live.true in
     (cc, trimmed_one l _ _ _ c.requires.0 _ c.loop-used.invariant.1 c.loop-used-test.true dead _ c.unlink.ensures)
 
 pub returns-else-not-live : goal.returns-else-not-live

@@ -78,12 +78,13 @@ goes_on :
     (c : After-after-c)
     → let a = c.args in
     let x = get_or (records a.kids.now) c.slot-k.result empty_record in
-    StandingAt (records a.w.now) a.p (is_rival a.limit x) (bucket_of x) c.after-c.result × (c.after-c.result < c.loop-c.c)
-goes_on c =
+    c.loop-c.c ≢ 0 → is_rival a.limit x (sized (get_or (records a.w.now) (place_of a.p.end c.loop-c.c) empty_record)) ≡ c.rival.result
+    → StandingAt (records a.w.now) a.p (is_rival a.limit x) (bucket_of x) c.after-c.result × (c.after-c.result < c.loop-c.c)
+goes_on c some met =
     let a = c.args in
     let x = get_or (records a.kids.now) c.slot-k.result empty_record in
     standing_after (records a.w.now) a.p (is_rival a.limit x) (bucket_of x) a.index.now c.requires.1 (rival_bucket a.limit x)
-    c.loop-c.c (standing c.before.before.before.before).0 c.loop-c.invariant (tested c.before.before ∙ c.if-rival.false) c.after-c.result c.after-c.ensures
+    c.loop-c.c some c.loop-c.invariant (met ∙ c.if-rival.false) c.after-c.result c.after-c.ensures
 
 pub child-preserved : goal.child-preserved
 child-preserved c =
@@ -121,10 +122,10 @@ pub after-c-requires : goal.after-c-requires
 after-c-requires c = let at = standing (goal.at.after-c-requires c).In-loop-c in (omega arith, at.1)
 
 pub loop-c-smaller : goal.loop-c-smaller
-loop-c-smaller c = (goes_on c).1
+loop-c-smaller c = let at = goal.at.loop-c-smaller c in (goes_on c (standing at.In-loop-c).0 (tested at.After-rival)).1
 
 pub loop-c-preserved : goal.loop-c-preserved
-loop-c-preserved c = (goes_on c).0
+loop-c-preserved c = let at = goal.at.loop-c-preserved c in (goes_on c (standing at.In-loop-c).0 (tested at.After-rival)).0
 
 pub with-kept-requires : goal.with-kept-requires
 with-kept-requires c = thinning_adds c.child.invariant c.next-s.ensures
