@@ -5,16 +5,15 @@ use borrow.Author.Rules.{rules}
 use lib.Pow.{pow_pos, shr_le}
 use Rattle.lanes.specs.Sizes.{blocks}
 use Rattle.blocks.proofs.BlockLaws.{shift_small, block_up_to, block_below}
-use Rattle.blocks.proofs.find.blocks_of.Statement.{statement}
-use Rattle.blocks.proofs.find.blocks_of.Tie as tie
+use Rattle.blocks.proofs.find.blocks_of.Goals as goal
 
-add-result : tie.Need-overflow-add-result
-add-result c =
+pub overflow_add-result : goal.overflow_add-result
+overflow_add-result c =
     let a = c.args in
     let small : (a.used - 1) / 2 ^ a.shift ≤ a.used - 1 = shr_le (a.used - 1) a.shift in
     record { fits = omega arith }
 
-returns : tie.Need-returns
+pub returns : goal.returns
 returns c =
     let a = c.args in
     let wide : 1 ≤ 2 ^ a.shift = pow_pos a.shift in (
@@ -22,6 +21,5 @@ returns c =
       λ h. let few : (a.used - 1) / 2 ^ a.shift < blocks = block_below _ wide (a.used - 1) blocks (omega arith) in omega arith,
     )
 
-pub blocks-of-spec : {M : Type 1} → statement M
-blocks-of-spec =
-    tie.close (tie.spec (λ c. search rules) (λ c. omega (arith, shift_small blocks c.args.shift (omega arith) c.requires.1)) add-result returns)
+pub overflow_shr-result : goal.overflow_shr-result
+overflow_shr-result c = omega (arith, shift_small blocks c.args.shift (omega arith) c.requires.1)

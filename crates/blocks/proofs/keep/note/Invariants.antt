@@ -1,0 +1,18 @@
+-- `note` meets its contract. The loop's invariant: the minima are right for the first i records, and all else in the index is as it was.
+use mathlib.Core.Path.{◌≡◌, ap, ◌∙◌}
+use Prim.Native.Nat.{◌-◌, ◌/◌, ◌^◌, ◌≤◌, ◌<◌, min}
+use native.Mathlib.Omega.{arith}
+use borrow.Author.Rules.{rules}
+use lib.ListN.{length}
+use Rattle.records.specs.Code.{records}
+use Rattle.lanes.specs.Sizes.{blocks}
+use Rattle.blocks.specs.Code.{Blocked, Same}
+use Rattle.blocks.proofs.BlockLaws.{shift_small, block_below}
+use Rattle.blocks.proofs.KeepLaws.{same_none, same_set, same-on, blocked_joins}
+use Rattle.blocks.proofs.keep.note.Given as goal
+
+abbrev pub invariant-loop-i : goal.invariant-loop-i
+invariant-loop-i l = ((l.from ≤ l.i) × (l.i ≤ l.to)) × (Blocked (records l.w) l.i (2 ^ l.shift) l.index × Same l.initial.index l.index)
+
+abbrev pub decreases-loop-i : goal.decreases-loop-i
+decreases-loop-i l = l.to - l.i
