@@ -1,0 +1,21 @@
+-- `pool::settle::turn` meets its contract. The loop's invariant: the records with those from i to j turned around are the records at
+-- entry with those from `from` to `to` turned around; so where at most one is left between i and j, all is done.
+use mathlib.Core.Path.{◌≡◌, refl, sym, ap, ◌∙◌}
+use Prim.Native.Nat.{◌-◌, ◌≤◌}
+use native.Mathlib.Omega.{arith}
+use lib.ListN.{length, length-set}
+use Rattle.stops.specs.Code.{empty_record}
+use Rattle.records.specs.Code.{records}
+use Rattle.pool.proofs.SettleLaws.{turned, turn_again, turn_ends}
+use Rattle.pool.proofs.settle.turn.Given as goal
+
+abbrev pub invariant-loop-j : goal.invariant-loop-j
+invariant-loop-j l =
+    (l.i ≤ l.j)
+    × (l.j ≤ l.to)
+    × (l.to ≤ length (records l.w))
+    × (length l.w ≡ length l.initial.w)
+    × (turned l.i l.j (records l.w) ≡ turned l.from l.to (records l.initial.w))
+
+abbrev pub decreases-loop-j : goal.decreases-loop-j
+decreases-loop-j l = l.j - l.i

@@ -1,0 +1,66 @@
+-- `least_bound` meets its contract: the least bound is met, and the foremost place up to it is open, or the first open one is taken, or there
+-- is none.
+use mathlib.Core.Path.{sym, ◌∙◌}
+use mathlib.Core.Bool.{cond}
+use Prim.Native.Nat.{ℕ, ◌≤◌, ◌<◌}
+use native.Mathlib.Omega.{arith}
+use borrow.Author.Rules.{rules}
+use lib.ListN.{get_or}
+use Rattle.stops.specs.Code.{empty_record}
+use Rattle.records.specs.Code.{records}
+use Rattle.lanes.specs.Sizes.{gone}
+use Rattle.blocks.specs.Code.{Least, bound_at}
+use Rattle.blocks.proofs.SelectLaws.{Prefers, prefers_least, some_live, least_met}
+use Rattle.selection.proofs.ChooseLaws.{over_shut, chosen_open, chosen_complete}
+use Rattle.selection.proofs.least_bound.Goals as goal
+use Rattle.selection.proofs.least_bound.Goals.{After-least-limit}
+
+pub least-limit-requires : goal.least-limit-requires
+least-limit-requires c =
+    let ((blocked, small), some) = c.requires in
+    let (i, (inside, _)) = some_live (records c.args.w.now) c.args.p.used blocked.inside some in
+    (omega arith, (blocked.reach, (small, blocked.whole)))
+
+low : (c : After-least-limit) → Least (λ (i : ℕ). i < c.args.p.used) (bound_at (records c.args.w.now)) c.least-limit.result
+low c = c.least-limit.ensures (records c.args.w.now) c.requires.0.0
+
+met :
+    (c : After-least-limit)
+    → let recs = records c.args.w.now in
+    (c.least-limit.result < gone) × ((i : ℕ) × ((i < c.args.p.used) × (bound_at recs i ≤ c.least-limit.result)))
+met c =
+    least_met (records c.args.w.now) c.args.p.used c.requires.0.0.inside c.least-limit.result (low c) c.requires.1
+
+-- up to the least bound, the selection prefers open nodes
+prefers :
+    (c : After-least-limit)
+    → let a = c.args in Prefers (records a.w.now) a.p.used (cond a.late 1 0) a.late c.least-limit.result
+prefers c = prefers_least c.args.late c.least-limit.result (low c) (met c).0
+
+pub foremost-i-requires : goal.foremost-i-requires
+foremost-i-requires c =
+    let (live, (i, (inside, at))) = met c in
+    (c.requires.0.0, (c.requires.0.1, (omega arith, (i, (inside, omega arith)))))
+
+pub returns-then-open : goal.returns-then-open
+returns-then-open c =
+    let a = c.args in
+    let recs = records a.w.now in
+    chosen_open recs a.p.used c.requires.0.0.inside a.n (prefers (goal.at.returns-then-open c).After-least-limit) c.foremost-i.result c.foremost-i.ensures.inside
+    (sym c.open.ensures ∙ c.if-open.true)
+    (λ j inside b. over_shut a.n c.least-limit.result (get_or recs j empty_record) (c.foremost-i.ensures.before j inside b))
+
+pub returns-then-j-p : goal.returns-then-j-p
+returns-then-j-p c =
+    let a = c.args in
+    let inside : c.first_open-j.result < a.p.used = omega (arith, c.if-j-p.true) in
+    chosen_open (records a.w.now) a.p.used c.requires.0.0.inside a.n (prefers (goal.at.returns-then-j-p c).After-least-limit) c.first_open-j.result inside
+    (c.first_open-j.ensures.found inside).1
+    (λ j h b. c.first_open-j.ensures.before j h (λ k. b))
+
+pub returns : goal.returns
+returns c =
+    let a = c.args in
+    chosen_complete (records a.w.now) a.p.used c.requires.0.0.inside a.n (prefers (goal.at.returns c).After-least-limit) c.foremost-i.result
+    c.foremost-i.ensures
+    (λ j inside. c.first_open-j.ensures.before j inside (λ h. absurd (omega (arith, c.if-j-p.false))))
