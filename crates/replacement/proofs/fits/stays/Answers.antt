@@ -6,19 +6,15 @@ use lib.ListN.{get_or}
 use Rattle.stops.specs.Code.{empty_record}
 use Rattle.records.specs.Code.{records, slots}
 use Rattle.replacement.proofs.FitLaws.{stays_not, stays_else}
-use Rattle.replacement.proofs.fits.stays.Statement.{statement}
-use Rattle.replacement.proofs.fits.stays.Tie as tie
+use Rattle.replacement.proofs.fits.stays.Goals as goal
 
-returns : tie.Need-returns
-returns c =
-    let a = c.before.before.before.before.before.args in
+pub returns-then-change-bound_at : goal.returns-then-change-bound_at
+returns-then-change-bound_at c =
+    let a = c.args in
     stays_not a.change.limit (slots a.change.taking (records a.kids.now)) (get_or (records a.w.now) a.i empty_record) (omega arith)
 
-returns-2 : tie.Need-returns-2
-returns-2 c =
-    let a = c.before.before.before.before.before.before.args in
+pub returns : goal.returns
+returns c =
+    let a = c.args in
     c.unbeaten.ensures
     ∙ stays_else a.change.limit (slots a.change.taking (records a.kids.now)) (get_or (records a.w.now) a.i empty_record) (omega arith)
-
-pub stays-spec : {M : Type 1} → statement M
-stays-spec = tie.close (tie.spec (λ c κs. search rules) returns (λ c κs. search rules) returns-2)

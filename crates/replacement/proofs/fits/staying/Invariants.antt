@@ -1,0 +1,20 @@
+-- `staying` meets its contract. The loop's invariant: `stay` counts those of the records from `from` to i.
+use mathlib.Core.Path.{◌≡◌, sym, ap, ◌∙◌}
+use mathlib.Core.Bool.{Bool, cond}
+use mathlib.Core.Logic.{⊎_elim}
+use Prim.Native.Nat.{ℕ, ◌+◌, ◌-◌, ◌≤◌}
+use native.Mathlib.Omega.{arith}
+use lib.ListN.{get_or}
+use Rattle.stops.specs.Code.{empty_record}
+use Rattle.records.specs.Code.{records, slots}
+use Rattle.lanes.specs.Code.{sized}
+use Rattle.replacement.specs.Code.{is_staying}
+use Rattle.replacement.proofs.FitLaws.{staying_in, one_or_none, staying-none, staying_more}
+use Rattle.replacement.proofs.fits.staying.Given as goal
+
+abbrev pub invariant-loop-i : goal.invariant-loop-i
+invariant-loop-i l =
+    ((l.from ≤ l.i) × (l.i ≤ l.to)) × ((l.stay ≤ l.i) × (l.stay ≡ staying_in l.change.limit (slots l.change.taking (records l.kids)) (records l.w) l.from l.i))
+
+abbrev pub decreases-loop-i : goal.decreases-loop-i
+decreases-loop-i l = l.to - l.i
