@@ -5,22 +5,18 @@ use borrow.Author.Rules.{rules}
 use borrow.Author.Tests.{lt-ltb, le-ltb}
 use Rattle.stops.specs.Legs.{legs}
 use Rattle.stops.specs.Code.{reckoning, reckon_on}
-use Rattle.first_order.proofs.nearest.nearer.Statement.{statement}
-use Rattle.first_order.proofs.nearest.nearer.Tie as tie
+use Rattle.first_order.proofs.nearest.nearer.Goals as goal
 
-returns : tie.Need-returns
+pub returns-then-further : goal.returns-then-further
 unfolding reckon_on reckoning
-returns c =
-    let a = c.before.before.before.args in
+returns-then-further c =
+    let a = c.args in
     let closer : (legs a.t.now).leg a.place a.b < (legs a.t.now).leg a.place a.a = omega arith in
     (rw (lt-ltb _ _ closer), search rules)
 
-returns-2 : tie.Need-returns-2
+pub returns-else-further : goal.returns-else-further
 unfolding reckon_on reckoning
-returns-2 c =
-    let a = c.before.before.before.args in
+returns-else-further c =
+    let a = c.args in
     let as-near : (legs a.t.now).leg a.place a.a ≤ (legs a.t.now).leg a.place a.b = omega arith in
     (rw (le-ltb _ _ as-near), search rules)
-
-pub nearer-spec : {M : Type 1} → statement M
-nearer-spec = tie.close (tie.spec (λ c κs. search rules) (λ c κs. search rules) returns returns-2)
