@@ -2,4 +2,3 @@
 // contents and every buffer, with document 01's case l and our own cases (specs/). specs/Demands says what is proved of these: the round trip
 // both ways, and what holds of every refusal. No code.
 #![tactic(auto)]
-
