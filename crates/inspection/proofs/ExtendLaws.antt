@@ -15,7 +15,7 @@ use Rattle.sizes.specs.Sizes.{most_stops, word_stops}
 use Rattle.lists.proofs.Tests.{to_false, same_tests}
 use Rattle.lists.proofs.Empty.{in_nonempty}
 use Rattle.lists.proofs.Members.{keep_in}
-use Rattle.orders.specs.Orders.{Node, stops, flown, set_of, size}
+use Rattle.orders.specs.Orders.{Node, stops, flown, set_of}
 use Rattle.orders.proofs.Sets.{stops_in_lem, in_set, in_flown, flown_in, in_left, left_in, size-left}
 use Rattle.orders.proofs.Partial.{partial_size}
 use Rattle.stops.specs.Code.{stops_in, extended, Wide}

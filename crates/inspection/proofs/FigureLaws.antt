@@ -9,7 +9,6 @@ use native.Mathlib.Omega.{arith}
 use lib.Dec.{T}
 use Rattle.sizes.specs.Sizes.{most_stops}
 use Rattle.lists.proofs.Tests.{to_true}
-use Rattle.orders.specs.Orders.{size}
 use Rattle.orders.proofs.Sets.{size-left}
 use Rattle.stops.specs.Tables.{rows}
 use Rattle.stops.specs.Bounds.{ends_away}

@@ -34,11 +34,14 @@ bits-flown (suc k) s m zero h = go (eqb (m % 2) 1) refl
     go false e = rw (here, e) (bits_below k (suc s) (m / 2) (s + 0) (omega arith))
 bits-flown (suc k) s m (suc j) h = go (eqb (m % 2) 1) (bits-flown k (suc s) (m / 2) j (omega arith)) ∙ further
   where
+    same : any (eqb (s + suc j)) (bits k (suc s) (m / 2)) ≡ any (eqb (suc s + j)) (bits k (suc s) (m / 2))
+    same = ap (λ (r : ℕ). any (eqb r) (bits k (suc s) (m / 2))) (omega arith)
+
     go :
         (b : Bool) → any (eqb (suc s + j)) (bits k (suc s) (m / 2)) ≡ eqb (m / 2 / 2 ^ j % 2) 1
         → any (eqb (s + suc j)) (put b s (bits k (suc s) (m / 2))) ≡ eqb (m / 2 / 2 ^ j % 2) 1
-    go true e = let f : s + suc j ≡ suc s + j = omega arith in rw (ne_eqb (s + suc j) s (omega arith), f) e
-    go false e = let f : s + suc j ≡ suc s + j = omega arith in rw f e
+    go true e = rw (ne_eqb (s + suc j) s (omega arith)) (same ∙ e)
+    go false e = same ∙ e
 
     further : eqb (m / 2 / 2 ^ j % 2) 1 ≡ eqb (m / 2 ^ suc j % 2) 1
     further = ap (λ (d : ℕ). eqb (d % 2) 1) (div-div-eq-div-mul m 2 (2 ^ j) ∙ ap (λ (d : ℕ). m / d) (sym (pow-succ' 2 j)))

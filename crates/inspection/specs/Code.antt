@@ -1,6 +1,6 @@
 -- What the functions of this crate are stated by among themselves. These definitions are the code's own: a reader of the promises needs
 -- none of them.
---   of_four, of_six       the words of a record that a function takes one by one, as a record: its size, set and order, or all six
+--   of_four, of_six     the words of a record that a function takes one by one, as a record: its size, set and order, or all six
 --   Flew                what is known where the stops of a record have been flown over a table's rows: the path cost, however many stops there
 --                       are, the last place, and how large both can be
 use Rattle.std.specs.Prelude.{◌≡◌, List, ℕ, ◌*◌, ◌≤◌}
