@@ -1,0 +1,8 @@
+-- `refused` meets its contract: each field is the one that `refusal` names.
+use mathlib.Core.Path.{refl}
+use Rattle.answer.specs.Call.{refusal}
+use Rattle.planner.proofs.report.refused.Goals as goal
+
+pub returns : goal.returns
+unfolding refusal
+returns c = refl

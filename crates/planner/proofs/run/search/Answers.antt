@@ -1,0 +1,80 @@
+-- `search` meets its contract: the setting is that of the call, so the turns end as its run does (`EndLaws`), whatever index they have.
+use mathlib.Core.Path.{◌≡◌, refl, sym, subst}
+use mathlib.Core.List.{List}
+use Prim.Native.Nat.{ℕ}
+use borrow.Author.Rules.{rules}
+use Rattle.stops.specs.Code.{Priced}
+use Rattle.records.specs.Records.{records_in}
+use Rattle.answer.specs.Call.{Call, call_of}
+use Rattle.answer.specs.declared.Report.{Report}
+use Rattle.answer.proofs.Passes.{Passes, passes}
+use Rattle.pairs.proofs.GoodFile.{of_stops}
+use Rattle.lanes.specs.declared.layout.Layout.{Layout}
+use Rattle.children.specs.Code.{setting_of}
+use Rattle.children.specs.declared.setting.Setting.{Setting}
+use Rattle.planner.specs.Code.{layout_of, rows_by, Begins, Ran, Ended}
+use Rattle.planner.proofs.EndLaws.{call_begins, run_ends}
+use Rattle.planner.proofs.run.search.Goals as goal
+use Rattle.planner.proofs.run.search.Goals.{After-layout_of-p, After-setting_of-setting, Start}
+
+-- the call that the arguments make up
+abbrev call : Start → Call
+call c = let a = c.args in call_of a.job a.table.now a.start.now a.pairs.now a.budget a.w.now
+
+ok : (c : Start) → Passes (call c)
+ok c = passes (call c) c.requires
+
+-- the setting is the call's
+its_setting : (c : After-setting_of-setting) → c.setting_of-setting.result ≡ setting_of (call c.before.before.before.before.before.before)
+unfolding call_of
+its_setting c = c.setting_of-setting.ensures
+
+pub setting_of-setting-requires : goal.setting_of-setting-requires
+unfolding call_of
+setting_of-setting-requires c = let p = ok (goal.at.setting_of-setting-requires c).Start in of_stops _ p.priced.few _ p.pairs.only p.pairs.once
+
+-- what the turns begin with
+begins :
+    (c : After-layout_of-p)
+    → let d = c.setting_of-setting.result in
+    let a = c.args in
+    Priced d.n a.table.now × Begins d (rows_by d a.table.now) a.start.now a.w.now c.layout_of-p.result
+unfolding call_of records_in
+begins c =
+    let a = c.args in
+    let p : Layout = c.layout_of-p.result in
+    subst
+    (λ (d : Setting).
+    p ≡ layout_of d (records_in a.w.now) → Priced d.n a.table.now × Begins d (rows_by d a.table.now) a.start.now a.w.now p)
+    (sym c.setting_of-setting.ensures) (λ e. ((ok c.before.before.before.before.before.before.before).priced, call_begins _ (ok c.before.before.before.before.before.before.before) refl e)) c.layout_of-p.ensures
+
+-- and how they end
+ends :
+    (c : After-layout_of-p) {q : Report} {w : List ℕ}
+    → let d = c.setting_of-setting.result in
+    let a = c.args in
+    Ran d (rows_by d a.table.now) a.start.now a.w.now q w → Ended (call c.before.before.before.before.before.before.before) q w
+unfolding call_of
+ends c {q} {w} ran =
+    let a = c.args in
+    run_ends _ c.requires refl
+    (subst (λ (d : Setting). Ran d (rows_by d a.table.now) a.start.now a.w.now q w) c.setting_of-setting.ensures ran)
+
+pub returns-then-p : goal.returns-then-p
+returns-then-p c = ends (goal.at.returns-then-p c).After-layout_of-p c.linked_turns.ensures
+
+pub returns-then-p-2 : goal.returns-then-p-2
+returns-then-p-2 c = ends (goal.at.returns-then-p-2 c).After-layout_of-p c.linked_turns-then-p-2.ensures
+
+pub unlinked_turns-requires : goal.unlinked_turns-requires
+unlinked_turns-requires c =
+    (begins (goal.at.unlinked_turns-requires c).After-layout_of-p, (c.if-p.false, c.if-p-2.false))
+
+pub returns : goal.returns
+returns c = ends (goal.at.returns c).After-layout_of-p c.unlinked_turns.ensures
+
+pub linked_turns-requires : goal.linked_turns-requires
+linked_turns-requires c = begins (goal.at.linked_turns-requires c).After-layout_of-p
+
+pub linked_turns-requires-then-p-2 : goal.linked_turns-requires-then-p-2
+linked_turns-requires-then-p-2 c = begins (goal.at.linked_turns-requires-then-p-2 c).After-layout_of-p
