@@ -4,7 +4,7 @@
 --   Solved, solved    the state of a finished run knows an order; none is cheaper, and none that costs the same is smaller
 use mathlib.Core.Path.{◌≡◌, refl, sym, ◌∙◌, ap, subst}
 use mathlib.Core.Option.{Option, some}
-use Prim.Native.Nat.{ℕ, ◌-◌, ◌≤◌}
+use Prim.Native.Nat.{ℕ, ◌≤◌}
 use lib.Dec.{T}
 use native.Mathlib.Nat.{le_antisymm}
 use Rattle.search.specs.Problem.{State, upper}

@@ -1,5 +1,5 @@
 -- Which bounds are closer than which: close than plain, for each way that a day may end, and never across.
-use Rattle.std.specs.Prelude.{◌≡◌, refl, ◌⊎◌, ℕ}
+use Rattle.std.specs.Prelude.{refl, ℕ}
 use Rattle.std.proofs.Common.{inl, inr, arith}
 use Rattle.days.specs.Days.{Closer}
 

@@ -8,7 +8,7 @@
 --   far_of                 the nodes at the far end, latest branched first
 --   place_of, rec_at        where a lane's record number c stands, counted from 1, and the node there, counted from 0
 --   lane_of                the nodes of a lane, gone ones too
-use Rattle.std.specs.Prelude.{Bool, cond, List, ◌++◌, map, ℕ, suc, ◌+◌, ◌-◌, eqb, leb, ltb, length, get_or, take, drop}
+use Rattle.std.specs.Prelude.{Bool, cond, List, ◌++◌, map, ℕ, suc, ◌-◌, eqb, leb, ltb, length, get_or, take, drop}
 use Rattle.std.specs.Int.Count.{ones}
 use Rattle.std.proofs.Math.Seq.{slice}
 use Rattle.lists.specs.Lists.{keep, from}

@@ -22,7 +22,7 @@ use Rattle.stops.specs.Code.{empty_record, rec_dominates, stops_in, First}
 use Rattle.stops.specs.declared.node_record.Record.{Record}
 use Rattle.records.specs.Code.{in_slot, slots}
 use Rattle.records.proofs.SlotLaws.{slots-none, slots-first}
-use Rattle.lanes.specs.Sizes.{gone, blocks, heads}
+use Rattle.lanes.specs.Sizes.{gone, blocks}
 use Rattle.lanes.specs.Code.{sized, is_live, marked, live_in, live_of, place_of}
 use Rattle.lanes.specs.declared.Lane.{Lane}
 use Rattle.lanes.specs.declared.layout.Layout.{Layout}

@@ -2,7 +2,6 @@
 // another is reckoned from it.
 #![tactic(auto)]
 
-
 // Stops of a day.
 pub const MOST_STOPS: u32 = 16;
 

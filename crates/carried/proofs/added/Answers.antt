@@ -1,7 +1,6 @@
 -- `carried::added` meets its contract: by whether s gave the cheapest leg home.
 use mathlib.Core.Path.{refl}
 use native.Mathlib.Omega.{arith}
-use borrow.Author.Rules.{rules}
 use borrow.Author.Tests.{eq-eqb, ne_eqb}
 use Rattle.carried.specs.Code.{home_of, ahead_of}
 use Rattle.carried.proofs.added.Goals as goal

@@ -1,10 +1,9 @@
 -- The goals of `cells_join` that the search leaves.
 use mathlib.Core.Path.{sym, ap, ◌∙◌}
-use Prim.Native.Nat.{ℕ, ◌-◌, min}
+use Prim.Native.Nat.{ℕ, min}
 use native.Mathlib.Omega.{arith}
-use borrow.Author.Rules.{rules}
 use Rattle.carried.specs.Code.{lessened}
-use Rattle.carried.proofs.RowLaws.{Entering, entering_starts, entering_again, entering_ends}
+use Rattle.carried.proofs.RowLaws.{entering_starts, entering_again, entering_ends}
 use Rattle.carried.proofs.cells_join.Goals as goal
 
 pub loop-s-preserved : goal.loop-s-preserved

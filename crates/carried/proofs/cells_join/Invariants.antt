@@ -1,11 +1,8 @@
 -- `carried::cells_join` meets its contract. The loop's invariant: at each place from the first on that is before s stands the lesser of what was
 -- there and of the row's leg.
-use mathlib.Core.Path.{sym, ap, ◌∙◌}
-use Prim.Native.Nat.{ℕ, ◌-◌, min}
-use native.Mathlib.Omega.{arith}
-use borrow.Author.Rules.{rules}
+use Prim.Native.Nat.{◌-◌}
 use Rattle.carried.specs.Code.{lessened}
-use Rattle.carried.proofs.RowLaws.{Entering, entering_starts, entering_again, entering_ends}
+use Rattle.carried.proofs.RowLaws.{Entering}
 use Rattle.carried.proofs.cells_join.Given as goal
 
 abbrev pub invariant-loop-s : goal.invariant-loop-s

@@ -1,9 +1,7 @@
 -- The goals of `cleared` that the search leaves.
 use mathlib.Core.Path.{refl, sym, ◌∙◌}
-use Prim.Native.Nat.{◌-◌}
 use native.Mathlib.Omega.{arith}
-use Rattle.sizes.specs.Sizes.{places, above_every_cost}
-use Rattle.carried.proofs.RowLaws.{Entering, entering_starts, entering_again, entering_ends}
+use Rattle.carried.proofs.RowLaws.{entering_starts, entering_again, entering_ends}
 use Rattle.carried.proofs.cleared.Goals as goal
 
 pub loop-s-preserved : goal.loop-s-preserved

@@ -1,9 +1,7 @@
 -- `carried::cleared` meets its contract. The loop's invariant: above every cost stands at each place from 1 on that is before s.
-use mathlib.Core.Path.{refl, sym, ◌∙◌}
 use Prim.Native.Nat.{◌-◌}
-use native.Mathlib.Omega.{arith}
 use Rattle.sizes.specs.Sizes.{places, above_every_cost}
-use Rattle.carried.proofs.RowLaws.{Entering, entering_starts, entering_again, entering_ends}
+use Rattle.carried.proofs.RowLaws.{Entering}
 use Rattle.carried.proofs.cleared.Given as goal
 
 abbrev pub invariant-loop-s : goal.invariant-loop-s

@@ -3,7 +3,6 @@
 use mathlib.Core.Path.{◌≡◌, sym, ◌∙◌}
 use Prim.Native.Nat.{ℕ, ◌<◌}
 use native.Mathlib.Omega.{arith}
-use borrow.Author.Rules.{rules}
 use lib.ListN.{length-replicate, replicate}
 use Rattle.sizes.specs.Sizes.{places}
 use Rattle.carried.specs.Code.{Several, family_of, Gives}

@@ -1,8 +1,7 @@
 -- The goals of `least_into` that the search leaves.
 use mathlib.Core.Path.{sym, ◌∙◌}
 use native.Mathlib.Omega.{arith}
-use borrow.Author.Rules.{rules}
-use Rattle.carried.proofs.RowLaws.{Joined, joined_starts, joined_again, joined_ends}
+use Rattle.carried.proofs.RowLaws.{joined_starts, joined_again, joined_ends}
 use Rattle.carried.proofs.least_into.Goals as goal
 
 pub loop-left-init : goal.loop-left-init

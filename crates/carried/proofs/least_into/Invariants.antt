@@ -1,9 +1,6 @@
 -- `carried::least_into` meets its contract. The loop's invariant: with the rows of the stops left, each place gets the least leg into it. The measure
 -- is the set of the stops left, as a number.
-use mathlib.Core.Path.{sym, ◌∙◌}
-use native.Mathlib.Omega.{arith}
-use borrow.Author.Rules.{rules}
-use Rattle.carried.proofs.RowLaws.{Joined, joined_starts, joined_again, joined_ends}
+use Rattle.carried.proofs.RowLaws.{Joined}
 use Rattle.carried.proofs.least_into.Given as goal
 
 abbrev pub invariant-loop-left : goal.invariant-loop-left

@@ -1,7 +1,6 @@
 -- `carried::noted` meets its contract.
 use mathlib.Core.Path.{refl}
 use native.Mathlib.Omega.{arith}
-use borrow.Author.Rules.{rules}
 use borrow.Author.Tests.{lt-ltb, le-ltb}
 use Rattle.carried.specs.Code.{noted}
 use Rattle.carried.proofs.noted.Goals as goal

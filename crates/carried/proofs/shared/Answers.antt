@@ -2,16 +2,14 @@
 use mathlib.Core.Path.{◌≡◌, ap, sym, ◌∙◌}
 use Prim.Native.Nat.{ℕ, ◌+◌, ◌<◌}
 use native.Mathlib.Omega.{arith}
-use borrow.Author.Rules.{rules}
 use lib.ListN.{get_or}
 use Rattle.sizes.specs.Sizes.{above_every_cost}
-use Rattle.lists.specs.Lists.{sum}
 use Rattle.stops.specs.Legs.{legs}
 use Rattle.stops.specs.Code.{stops_in}
-use Rattle.stops.proofs.SetLoops.{Summed, summed_starts, summed_most, summed_again, summed_ends}
+use Rattle.stops.proofs.SetLoops.{summed_starts, summed_most, summed_again, summed_ends}
 use Rattle.carried.specs.Carried.{among}
 use Rattle.carried.proofs.SetLaws.{others_some, total_most, shares_made}
-use Rattle.carried.proofs.HomeLaws.{Homed, homed_starts, homed_again, homed_ends}
+use Rattle.carried.proofs.HomeLaws.{homed_starts, homed_again, homed_ends}
 use Rattle.carried.proofs.shared.Goals as goal
 use Rattle.carried.proofs.shared.Goals.{After-next-s, Start}
 

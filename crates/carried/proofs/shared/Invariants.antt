@@ -1,18 +1,11 @@
 -- `carried::shared` meets its contract. The loop's invariant: the total and the legs into the stops left make the family's sum, and the legs home of
 -- the stops passed are noted. The measure is the set of the stops left, as a number.
-use mathlib.Core.Path.{◌≡◌, ap, sym, ◌∙◌}
-use Prim.Native.Nat.{ℕ, ◌+◌, ◌<◌}
-use native.Mathlib.Omega.{arith}
-use borrow.Author.Rules.{rules}
-use lib.ListN.{get_or}
-use Rattle.sizes.specs.Sizes.{above_every_cost}
 use Rattle.lists.specs.Lists.{sum}
 use Rattle.stops.specs.Legs.{legs}
 use Rattle.stops.specs.Code.{stops_in}
-use Rattle.stops.proofs.SetLoops.{Summed, summed_starts, summed_most, summed_again, summed_ends}
+use Rattle.stops.proofs.SetLoops.{Summed}
 use Rattle.carried.specs.Carried.{among}
-use Rattle.carried.proofs.SetLaws.{others_some, total_most, shares_made}
-use Rattle.carried.proofs.HomeLaws.{Homed, homed_starts, homed_again, homed_ends}
+use Rattle.carried.proofs.HomeLaws.{Homed}
 use Rattle.carried.proofs.shared.Given as goal
 
 abbrev pub invariant-loop-left : goal.invariant-loop-left

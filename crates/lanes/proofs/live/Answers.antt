@@ -1,5 +1,4 @@
 -- `live` meets its contract: the bound is read where it stands.
-use borrow.Author.Rules.{rules}
 use Rattle.lanes.specs.Code.{is_live}
 use Rattle.lanes.proofs.live.Goals as goal
 

@@ -1,5 +1,4 @@
 -- `mark` meets its contract: the record is loaded, and stored with another bound.
-use borrow.Author.Rules.{rules}
 use Rattle.lanes.specs.Code.{marked}
 use Rattle.lanes.proofs.mark.Goals as goal
 

@@ -1,6 +1,5 @@
 -- `place` meets its contract.
 use native.Mathlib.Omega.{arith}
-use borrow.Author.Rules.{rules}
 use borrow.Author.Tests.{eq-eqb, ne_eqb}
 use Rattle.lanes.proofs.place.Goals as goal
 

@@ -1,5 +1,4 @@
 -- `sized_at` meets its contract: the record is loaded, and the stops of its set are counted.
-use borrow.Author.Rules.{rules}
 use Rattle.lanes.specs.Code.{sized}
 use Rattle.lanes.proofs.sized_at.Goals as goal
 

@@ -4,14 +4,13 @@ use mathlib.Core.Bool.{not}
 use mathlib.Core.List.{List}
 use Prim.Native.Nat.{ℕ, ◌+◌, ◌-◌, ◌^◌, ◌≤◌}
 use native.Mathlib.Omega.{arith}
-use borrow.Author.Rules.{rules}
 use lib.Dec.{eqb}
 use lib.ListN.{length, get_or}
 use lib.Pow.{pow_mono}
 use Rattle.sizes.specs.Sizes.{most_stops}
 use Rattle.lists.proofs.Parts.{in_get_or}
 use Rattle.pairs.specs.Code.{precedence_of}
-use Rattle.pairs.proofs.FileLaws.{Marking, marking_starts, marking_again, marking_ends}
+use Rattle.pairs.proofs.FileLaws.{marking_starts, marking_again, marking_ends}
 use Rattle.pairs.proofs.precedence_of.Goals as goal
 use Rattle.pairs.proofs.precedence_of.Goals.{In-loop-k}
 

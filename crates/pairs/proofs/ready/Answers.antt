@@ -1,12 +1,10 @@
 -- The goals of `ready` that the search leaves.
 use mathlib.Core.Path.{sym}
 use native.Mathlib.Omega.{arith}
-use borrow.Author.Rules.{rules}
 use borrow.Author.Tests.{not-true, not-false}
 use Rattle.orders.proofs.Pairs.{ready-none}
-use Rattle.pairs.specs.Code.{pairs_in}
-use Rattle.pairs.proofs.PairLaws.{holding, paired, unpaired, waits_some, waits-none}
-use Rattle.pairs.proofs.LoopLaws.{Readying, readying_starts, readying_new, readying_keeps, readying_passes, readying_ends}
+use Rattle.pairs.proofs.PairLaws.{paired, unpaired, waits_some, waits-none}
+use Rattle.pairs.proofs.LoopLaws.{readying_starts, readying_new, readying_keeps, readying_passes, readying_ends}
 use Rattle.pairs.proofs.ready.Goals as goal
 
 pub returns-then-not-precedence : goal.returns-then-not-precedence

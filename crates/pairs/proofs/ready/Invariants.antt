@@ -1,13 +1,8 @@
 -- `pairs::ready` meets its contract: without pairs no stop waits. The loop's invariant: the stops found, with those of what is left that need not
 -- wait behind them, are all that need not wait (`Readying`). The measure is the set of the stops left, as a number.
-use mathlib.Core.Path.{sym}
-use native.Mathlib.Omega.{arith}
-use borrow.Author.Rules.{rules}
-use borrow.Author.Tests.{not-true, not-false}
-use Rattle.orders.proofs.Pairs.{ready-none}
 use Rattle.pairs.specs.Code.{pairs_in}
-use Rattle.pairs.proofs.PairLaws.{holding, paired, unpaired, waits_some, waits-none}
-use Rattle.pairs.proofs.LoopLaws.{Readying, readying_starts, readying_new, readying_keeps, readying_passes, readying_ends}
+use Rattle.pairs.proofs.PairLaws.{holding}
+use Rattle.pairs.proofs.LoopLaws.{Readying}
 use Rattle.pairs.proofs.ready.Given as goal
 
 abbrev pub invariant-loop-left : goal.invariant-loop-left

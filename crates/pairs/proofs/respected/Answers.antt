@@ -3,14 +3,14 @@ use mathlib.Core.Path.{◌≡◌, sym, subst}
 use Prim.Native.Nat.{◌-◌, ◌*◌, ◌^◌, ◌%◌, ◌≤◌}
 use native.Mathlib.Omega.{arith}
 use borrow.Author.Tests.{not-true, not-false}
-use lib.ListN.{length, get_or}
+use lib.ListN.{get_or}
 use Rattle.sizes.specs.Sizes.{most_stops}
 use Rattle.lists.proofs.Parts.{in_get_or}
 use Rattle.orders.specs.Pairs.{Pairing}
 use Rattle.stops.proofs.SetBits.{all_small}
 use Rattle.pairs.specs.Code.{pairs_in}
 use Rattle.pairs.proofs.PairLaws.{holding, paired, unpaired, respects-none, waits_some, waits-none}
-use Rattle.pairs.proofs.LoopLaws.{Respecting, respecting_starts, respecting_left, respecting_fails, respecting_again, respecting_ends}
+use Rattle.pairs.proofs.LoopLaws.{respecting_starts, respecting_left, respecting_fails, respecting_again, respecting_ends}
 use Rattle.pairs.proofs.respected.Goals as goal
 use Rattle.pairs.proofs.respected.Goals.{At-loop-k, In-loop-k}
 

@@ -2,7 +2,6 @@
 use mathlib.Core.Path.{◌≡◌, sym, ◌∙◌}
 use mathlib.Core.List.{List}
 use Prim.Native.Nat.{ℕ}
-use borrow.Author.Rules.{rules}
 use Rattle.answer.specs.Call.{Call, call_of}
 use Rattle.answer.specs.Checks.{job_cause, pool_cause, cause}
 use Rattle.answer.proofs.Passes.{job_passed, no_cause_5}

@@ -1,7 +1,6 @@
 -- `plan` meets its contract: a call with a cause answers with the refusal by its number, and the pool stays as it was; a call without one
 -- answers as its run ends.
 use mathlib.Core.Path.{sym, ◌∙◌}
-use borrow.Author.Rules.{rules}
 use Rattle.answer.specs.Call.{Call, call_of}
 use Rattle.planner.proofs.CauseLaws.{refused_answers, run_answers}
 use Rattle.planner.proofs.plan.Goals as goal

@@ -1,5 +1,4 @@
 -- `floor` meets its contract: the least bound of the places, one of which has a node, is that of the nodes.
-use borrow.Author.Rules.{rules}
 use Rattle.records.specs.Code.{records}
 use Rattle.selection.proofs.ChooseLaws.{floor-least}
 use Rattle.selection.proofs.floor.Goals as goal

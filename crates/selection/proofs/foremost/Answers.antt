@@ -1,5 +1,4 @@
 -- `foremost` meets its contract: from the end or from the front.
-use borrow.Author.Rules.{rules}
 use Rattle.selection.proofs.foremost.Goals as goal
 
 pub returns-then-late : goal.returns-then-late

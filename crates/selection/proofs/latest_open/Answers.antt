@@ -1,6 +1,5 @@
 -- `latest_open` meets its contract: the latest open node with any bound, or the latest node.
 use native.Mathlib.Omega.{arith}
-use borrow.Author.Rules.{rules}
 use Rattle.records.specs.Code.{records}
 use Rattle.blocks.proofs.SelectLaws.{prefers_any, some_live}
 use Rattle.selection.proofs.ChooseLaws.{chosen_open, chosen_complete}

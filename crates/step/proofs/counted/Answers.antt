@@ -11,8 +11,8 @@ most_is : (c : Joined-most-layout) → c.if-most-layout.most ≡ max c.args.r.mo
 most_is c =
     let a = c.args in
     elim c.if-most-layout.branch [
-      then-most-layout w ↦ let h : a.r.most ≤ a.layout.active = omega arith in w.most-is ∙ sym (max-eq_right h)
-    | else-most-layout w ↦ let h : a.layout.active ≤ a.r.most = omega arith in w.most-is ∙ sym (max-eq_left h)
+      | then-most-layout w ↦ let h : a.r.most ≤ a.layout.active = omega arith in w.most-is ∙ sym (max-eq_right h)
+      | else-most-layout w ↦ let h : a.layout.active ≤ a.r.most = omega arith in w.most-is ∙ sym (max-eq_left h)
     ]
 
 pub returns : goal.returns

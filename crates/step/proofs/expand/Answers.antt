@@ -2,7 +2,6 @@
 use mathlib.Core.Path.{sym, subst}
 use mathlib.Core.List.{List}
 use Prim.Native.Nat.{ℕ, ◌<◌}
-use borrow.Author.Rules.{rules}
 use Rattle.search.specs.Step.{on}
 use Rattle.records.specs.Code.{records}
 use Rattle.lanes.specs.Sizes.{gone}

@@ -1,7 +1,6 @@
 -- `blocks_of` meets its contract: the last place in use is in the last block.
 use Prim.Native.Nat.{◌-◌, ◌/◌, ◌^◌, ◌≤◌, ◌<◌}
 use native.Mathlib.Omega.{arith}
-use borrow.Author.Rules.{rules}
 use lib.Pow.{pow_pos, shr_le}
 use Rattle.lanes.specs.Sizes.{blocks}
 use Rattle.blocks.proofs.BlockLaws.{shift_small, block_up_to, block_below}

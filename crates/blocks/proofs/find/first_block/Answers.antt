@@ -1,5 +1,5 @@
 -- The goals of `find::first_block` that the search leaves.
-use Prim.Native.Nat.{ℕ, ◌-◌, ◌≤◌, ◌<◌}
+use Prim.Native.Nat.{ℕ, ◌≤◌, ◌<◌}
 use native.Mathlib.Omega.{arith}
 use lib.ListN.{get_or}
 use Rattle.lanes.specs.Sizes.{blocks}

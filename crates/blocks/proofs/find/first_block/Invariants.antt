@@ -1,9 +1,7 @@
 -- `first_block` meets its contract. The invariant: the minima before k are above the limit, so that k has not passed the one that is not.
-use Prim.Native.Nat.{ℕ, ◌-◌, ◌≤◌, ◌<◌}
-use native.Mathlib.Omega.{arith}
+use Prim.Native.Nat.{ℕ, ◌-◌, ◌<◌}
 use lib.ListN.{get_or}
 use Rattle.lanes.specs.Sizes.{blocks}
-use Rattle.blocks.proofs.FindLaws.{not_passed, but_one}
 use Rattle.blocks.proofs.find.first_block.Given as goal
 
 abbrev pub invariant-loop-k : goal.invariant-loop-k

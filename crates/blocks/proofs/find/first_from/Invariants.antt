@@ -1,12 +1,9 @@
 -- `first_from` meets its contract. The invariant: the bounds from `from` to i are above the limit, so that i has not passed the one that is
 -- not.
 use Prim.Native.Nat.{ℕ, ◌-◌, ◌≤◌, ◌<◌}
-use native.Mathlib.Omega.{arith}
 use lib.ListN.{length}
 use Rattle.records.specs.Code.{records}
-use Rattle.records.proofs.ViewLaws.{length-records}
 use Rattle.blocks.specs.Code.{bound_at}
-use Rattle.blocks.proofs.FindLaws.{not_passed, but_one}
 use Rattle.blocks.proofs.find.first_from.Given as goal
 
 abbrev pub invariant-loop-i : goal.invariant-loop-i

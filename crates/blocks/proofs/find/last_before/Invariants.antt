@@ -1,9 +1,7 @@
 -- `last_before` meets its contract. The invariant: the bounds behind i are above the limit, so that i has not passed the one that is not.
-use Prim.Native.Nat.{ℕ, ◌≤◌, ◌<◌}
-use native.Mathlib.Omega.{arith}
+use Prim.Native.Nat.{ℕ, ◌<◌}
 use Rattle.records.specs.Code.{records}
 use Rattle.blocks.specs.Code.{bound_at}
-use Rattle.blocks.proofs.FindLaws.{not_passed, not_there, but_one}
 use Rattle.blocks.proofs.find.last_before.Given as goal
 
 abbrev pub invariant-loop-i : goal.invariant-loop-i

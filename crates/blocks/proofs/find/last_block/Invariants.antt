@@ -1,8 +1,6 @@
 -- `last_block` meets its contract. The invariant: the minima behind k are above the limit, so that k has not passed the one that is not.
-use Prim.Native.Nat.{ℕ, ◌≤◌, ◌<◌}
-use native.Mathlib.Omega.{arith}
+use Prim.Native.Nat.{ℕ, ◌<◌}
 use lib.ListN.{get_or}
-use Rattle.blocks.proofs.FindLaws.{not_passed, not_there, but_one}
 use Rattle.blocks.proofs.find.last_block.Given as goal
 
 abbrev pub invariant-loop-k : goal.invariant-loop-k

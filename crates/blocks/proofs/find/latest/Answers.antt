@@ -2,7 +2,6 @@
 use mathlib.Core.Path.{◌≡◌, ap, ◌∙◌}
 use Prim.Native.Nat.{ℕ, ◌+◌, ◌*◌, ◌/◌, ◌^◌, ◌≤◌, min}
 use native.Mathlib.Omega.{arith}
-use borrow.Author.Rules.{rules}
 use Rattle.lanes.specs.Sizes.{blocks}
 use Rattle.blocks.proofs.BlockLaws.{shift_small, shifted}
 use Rattle.blocks.proofs.FindLaws.{block_tells, in_block_lem, last_in_last}

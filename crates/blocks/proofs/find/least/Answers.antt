@@ -1,13 +1,9 @@
 -- The goals of `find::least` that the search leaves.
 use mathlib.Core.Path.{◌≡◌}
-use mathlib.Core.List.{List}
-use Prim.Native.Nat.{◌-◌, ◌^◌, ◌≤◌, ◌<◌}
+use Prim.Native.Nat.{◌≤◌, ◌<◌}
 use native.Mathlib.Omega.{arith}
-use borrow.Author.Rules.{rules}
-use Rattle.stops.specs.declared.node_record.Record.{Record}
 use Rattle.lanes.specs.Sizes.{blocks}
-use Rattle.blocks.specs.Code.{Blocked}
-use Rattle.blocks.proofs.FindLaws.{LeastTo, least_to_none, least_to_more, least_to_all}
+use Rattle.blocks.proofs.FindLaws.{least_to_none, least_to_more, least_to_all}
 use Rattle.blocks.proofs.find.least.Goals as goal
 use Rattle.blocks.proofs.find.least.Goals.{In-loop-k}
 

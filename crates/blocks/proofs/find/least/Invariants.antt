@@ -1,13 +1,9 @@
 -- `least` meets its contract. The invariant: `low` is the least bound of the first k blocks.
-use mathlib.Core.Path.{◌≡◌}
 use mathlib.Core.List.{List}
-use Prim.Native.Nat.{◌-◌, ◌^◌, ◌≤◌, ◌<◌}
-use native.Mathlib.Omega.{arith}
-use borrow.Author.Rules.{rules}
+use Prim.Native.Nat.{◌-◌, ◌^◌, ◌≤◌}
 use Rattle.stops.specs.declared.node_record.Record.{Record}
-use Rattle.lanes.specs.Sizes.{blocks}
 use Rattle.blocks.specs.Code.{Blocked}
-use Rattle.blocks.proofs.FindLaws.{LeastTo, least_to_none, least_to_more, least_to_all}
+use Rattle.blocks.proofs.FindLaws.{LeastTo}
 use Rattle.blocks.proofs.find.least.Given as goal
 
 abbrev pub invariant-loop-k : goal.invariant-loop-k

@@ -1,11 +1,6 @@
 -- The goals of `keep::clear` that the search leaves.
-use mathlib.Core.Path.{◌≡◌}
-use Prim.Native.Nat.{ℕ, ◌-◌, ◌≤◌, ◌<◌}
 use native.Mathlib.Omega.{arith}
-use borrow.Author.Rules.{rules}
-use lib.ListN.{get_or}
-use Rattle.lanes.specs.Sizes.{blocks, gone}
-use Rattle.blocks.specs.Code.{Same}
+use Rattle.lanes.specs.Sizes.{gone}
 use Rattle.blocks.proofs.KeepLaws.{same_none, same_set, same-on, cleared_more}
 use Rattle.blocks.proofs.keep.clear.Goals as goal
 

@@ -1,12 +1,9 @@
 -- `clear` meets its contract. The loop's invariant: the first k minima are clear, and all else is as it was.
 use mathlib.Core.Path.{◌≡◌}
 use Prim.Native.Nat.{ℕ, ◌-◌, ◌≤◌, ◌<◌}
-use native.Mathlib.Omega.{arith}
-use borrow.Author.Rules.{rules}
 use lib.ListN.{get_or}
 use Rattle.lanes.specs.Sizes.{blocks, gone}
 use Rattle.blocks.specs.Code.{Same}
-use Rattle.blocks.proofs.KeepLaws.{same_none, same_set, same-on, cleared_more}
 use Rattle.blocks.proofs.keep.clear.Given as goal
 
 abbrev pub invariant-loop-k : goal.invariant-loop-k

@@ -1,7 +1,6 @@
 -- `kill` meets its contract: a record that changes leaves the minima of the other blocks right, and that of its own too if it is below its bound.
 use Prim.Native.Nat.{◌/◌, ◌^◌, ◌<◌}
 use native.Mathlib.Omega.{arith}
-use borrow.Author.Rules.{rules}
 use Rattle.records.specs.Code.{records}
 use Rattle.lanes.specs.Sizes.{blocks}
 use Rattle.blocks.proofs.BlockLaws.{shift_small, block_below}

@@ -1,10 +1,9 @@
 -- The goals of `keep::least_in` that the search leaves.
 use mathlib.Core.Path.{◌≡◌, ap, ◌∙◌}
-use Prim.Native.Nat.{ℕ, ◌-◌, ◌≤◌, ◌<◌, min}
+use Prim.Native.Nat.{ℕ, ◌≤◌, ◌<◌, min}
 use native.Mathlib.Omega.{arith}
-use borrow.Author.Rules.{rules}
 use Rattle.records.specs.Code.{records}
-use Rattle.blocks.specs.Code.{Least, bound_at}
+use Rattle.blocks.specs.Code.{bound_at}
 use Rattle.blocks.proofs.BlockLaws.{least-none, least-from}
 use Rattle.blocks.proofs.keep.least_in.Goals as goal
 

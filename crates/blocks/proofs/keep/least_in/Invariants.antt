@@ -1,11 +1,7 @@
 -- `least_in` meets its contract. The loop's invariant: `least` is the least bound of the records from `from` to i.
-use mathlib.Core.Path.{◌≡◌, ap, ◌∙◌}
-use Prim.Native.Nat.{ℕ, ◌-◌, ◌≤◌, ◌<◌, min}
-use native.Mathlib.Omega.{arith}
-use borrow.Author.Rules.{rules}
+use Prim.Native.Nat.{ℕ, ◌-◌, ◌≤◌, ◌<◌}
 use Rattle.records.specs.Code.{records}
 use Rattle.blocks.specs.Code.{Least, bound_at}
-use Rattle.blocks.proofs.BlockLaws.{least-none, least-from}
 use Rattle.blocks.proofs.keep.least_in.Given as goal
 
 abbrev pub invariant-loop-i : goal.invariant-loop-i

@@ -1,12 +1,10 @@
 -- The goals of `keep::note` that the search leaves.
 use mathlib.Core.Path.{◌≡◌, ap, ◌∙◌}
-use Prim.Native.Nat.{◌-◌, ◌/◌, ◌^◌, ◌≤◌, ◌<◌, min}
+use Prim.Native.Nat.{◌/◌, ◌^◌, ◌≤◌, ◌<◌, min}
 use native.Mathlib.Omega.{arith}
-use borrow.Author.Rules.{rules}
 use lib.ListN.{length}
 use Rattle.records.specs.Code.{records}
 use Rattle.lanes.specs.Sizes.{blocks}
-use Rattle.blocks.specs.Code.{Blocked, Same}
 use Rattle.blocks.proofs.BlockLaws.{shift_small, block_below}
 use Rattle.blocks.proofs.KeepLaws.{same_none, same_set, same-on, blocked_joins}
 use Rattle.blocks.proofs.keep.note.Goals as goal

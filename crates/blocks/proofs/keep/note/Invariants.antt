@@ -1,14 +1,7 @@
 -- `note` meets its contract. The loop's invariant: the minima are right for the first i records, and all else in the index is as it was.
-use mathlib.Core.Path.{◌≡◌, ap, ◌∙◌}
-use Prim.Native.Nat.{◌-◌, ◌/◌, ◌^◌, ◌≤◌, ◌<◌, min}
-use native.Mathlib.Omega.{arith}
-use borrow.Author.Rules.{rules}
-use lib.ListN.{length}
+use Prim.Native.Nat.{◌-◌, ◌^◌, ◌≤◌}
 use Rattle.records.specs.Code.{records}
-use Rattle.lanes.specs.Sizes.{blocks}
 use Rattle.blocks.specs.Code.{Blocked, Same}
-use Rattle.blocks.proofs.BlockLaws.{shift_small, block_below}
-use Rattle.blocks.proofs.KeepLaws.{same_none, same_set, same-on, blocked_joins}
 use Rattle.blocks.proofs.keep.note.Given as goal
 
 abbrev pub invariant-loop-i : goal.invariant-loop-i

@@ -1,7 +1,6 @@
 -- `rebuild` meets its contract: all records join the cleared minima.
 use native.Mathlib.Nat.{one-le-pow}
 use native.Mathlib.Omega.{arith}
-use borrow.Author.Rules.{rules}
 use Rattle.records.specs.Code.{records}
 use Rattle.blocks.proofs.KeepLaws.{blocked_none, same-on}
 use Rattle.blocks.proofs.keep.rebuild.Goals as goal

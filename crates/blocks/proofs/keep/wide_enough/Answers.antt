@@ -1,5 +1,5 @@
 -- The goals of `keep::wide_enough` that the search leaves.
-use Prim.Native.Nat.{◌*◌, ◌-◌, ◌^◌, ◌<◌}
+use Prim.Native.Nat.{◌<◌}
 use native.Mathlib.Omega.{arith}
 use Rattle.lanes.specs.Sizes.{blocks}
 use Rattle.blocks.proofs.BlockLaws.{shift_small, shift_more}

@@ -1,8 +1,6 @@
 -- `wide_enough` meets its contract. The loop's invariant: the blocks have few enough places for a shift to be right.
 use Prim.Native.Nat.{◌*◌, ◌-◌, ◌^◌, ◌<◌}
-use native.Mathlib.Omega.{arith}
 use Rattle.lanes.specs.Sizes.{blocks}
-use Rattle.blocks.proofs.BlockLaws.{shift_small, shift_more}
 use Rattle.blocks.proofs.keep.wide_enough.Given as goal
 
 abbrev pub invariant-loop-s : goal.invariant-loop-s

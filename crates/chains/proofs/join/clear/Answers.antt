@@ -1,9 +1,9 @@
 -- The goals of `join::clear` that the search leaves.
 use mathlib.Core.Path.{◌≡◌}
-use Prim.Native.Nat.{◌+◌, ◌-◌, ◌≤◌}
+use Prim.Native.Nat.{◌+◌}
 use native.Mathlib.Omega.{arith}
 use lib.ListN.{length}
-use Rattle.chains.proofs.JoinLaws.{Clearing, clearing_starts, clearing_again}
+use Rattle.chains.proofs.JoinLaws.{clearing_starts, clearing_again}
 use Rattle.chains.proofs.join.clear.Goals as goal
 use Rattle.chains.proofs.join.clear.Goals.{In-loop-h}
 

@@ -1,9 +1,6 @@
 -- `clear` meets its contract. The loop's invariant: the heads before h are cleared, and nothing else has changed (`Clearing`).
-use mathlib.Core.Path.{◌≡◌}
-use Prim.Native.Nat.{◌+◌, ◌-◌, ◌≤◌}
-use native.Mathlib.Omega.{arith}
-use lib.ListN.{length}
-use Rattle.chains.proofs.JoinLaws.{Clearing, clearing_starts, clearing_again}
+use Prim.Native.Nat.{◌-◌, ◌≤◌}
+use Rattle.chains.proofs.JoinLaws.{Clearing}
 use Rattle.chains.proofs.join.clear.Given as goal
 
 abbrev pub invariant-loop-h : goal.invariant-loop-h

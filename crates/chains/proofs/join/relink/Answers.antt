@@ -1,7 +1,7 @@
 -- The goals of `join::relink` that the search leaves.
 use mathlib.Core.Path.{◌≡◌, refl, ◌∙◌}
 use mathlib.Core.Bool.{true, false}
-use Prim.Native.Nat.{◌+◌, ◌-◌, ◌≤◌, ◌<◌}
+use Prim.Native.Nat.{◌+◌, ◌<◌}
 use native.Mathlib.Omega.{arith}
 use borrow.Author.Tests.{not-true, not-false}
 use lib.Dec.{T}
@@ -9,7 +9,7 @@ use lib.ListN.{length}
 use Rattle.lanes.specs.Code.{place_of}
 use Rattle.records.specs.Code.{records}
 use Rattle.chains.proofs.JoinLaws.{only_same, only_on}
-use Rattle.chains.proofs.RelinkLaws.{relinked_same, Relinking, relinking_starts, relinking_room, relinking_again, relinking_ends}
+use Rattle.chains.proofs.RelinkLaws.{relinked_same, relinking_starts, relinking_room, relinking_again, relinking_ends}
 use Rattle.chains.proofs.join.relink.Goals as goal
 use Rattle.chains.proofs.join.relink.Goals.{At-loop-c, Else-not-p, In-loop-c}
 
@@ -62,13 +62,12 @@ store-requires c =
     rw c.place-i.ensures (inside (goal.at.store-requires c).In-loop-c (on (goal.at.store-requires c).Else-not-p))
 
 pub loop-c-preserved : goal.loop-c-preserved
-loop-c-preserved c =
-    (
-      omega (arith, c.loop-c-test.true),
-      c.store.auto.w ∙ c.loop-c.invariant.1,
-      relinking_again c.loop-c.invariant.2 (on (goal.at.loop-c-preserved c).Else-not-p) c.requires.0 c.loop-c-test.true c.place-i.ensures c.sized_at-x.ensures
-          c.joined.ensures.0 c.store.ensures c.joined.ensures.1,
-    )
+loop-c-preserved c = (
+  omega (arith, c.loop-c-test.true),
+  c.store.auto.w ∙ c.loop-c.invariant.1,
+  relinking_again c.loop-c.invariant.2 (on (goal.at.loop-c-preserved c).Else-not-p) c.requires.0 c.loop-c-test.true c.place-i.ensures c.sized_at-x.ensures
+      c.joined.ensures.0 c.store.ensures c.joined.ensures.1,
+)
 
 pub returns : goal.returns
 returns c =

@@ -1,16 +1,10 @@
 -- `relink` meets its contract. The loop's invariant: the lane's first c records are chained, the index differs in the lane's heads alone,
 -- and the pool in the size words of the lane's records (`Relinking`).
-use mathlib.Core.Path.{◌≡◌, refl, ◌∙◌}
-use mathlib.Core.Bool.{true, false}
-use Prim.Native.Nat.{◌+◌, ◌-◌, ◌≤◌, ◌<◌}
-use native.Mathlib.Omega.{arith}
-use borrow.Author.Tests.{not-true, not-false}
-use lib.Dec.{T}
+use mathlib.Core.Path.{◌≡◌}
+use Prim.Native.Nat.{◌-◌, ◌≤◌}
 use lib.ListN.{length}
-use Rattle.lanes.specs.Code.{place_of}
 use Rattle.records.specs.Code.{records}
-use Rattle.chains.proofs.JoinLaws.{only_same, only_on}
-use Rattle.chains.proofs.RelinkLaws.{relinked_same, Relinking, relinking_starts, relinking_room, relinking_again, relinking_ends}
+use Rattle.chains.proofs.RelinkLaws.{Relinking}
 use Rattle.chains.proofs.join.relink.Given as goal
 
 abbrev pub invariant-loop-c : goal.invariant-loop-c

@@ -1,10 +1,10 @@
 -- The goals of `join::write` that the search leaves.
-use mathlib.Core.Path.{◌≡◌, refl, ◌∙◌}
+use mathlib.Core.Path.{refl, ◌∙◌}
 use Prim.Native.Nat.{◌<◌}
 use native.Mathlib.Omega.{arith}
 use lib.ListN.{length}
 use Rattle.records.specs.Code.{records, slots}
-use Rattle.chains.proofs.JoinLaws.{Joining, joining_starts, joining_room, joining_again, joining_ends}
+use Rattle.chains.proofs.JoinLaws.{joining_starts, joining_room, joining_again, joining_ends}
 use Rattle.chains.proofs.join.write.Goals as goal
 use Rattle.chains.proofs.join.write.Goals.{After-next-s}
 
@@ -41,12 +41,11 @@ loop-left-smaller c =
     omega (arith, c.later-left.ensures _ c.next-s.ensures)
 
 pub loop-left-preserved : goal.loop-left-preserved
-loop-left-preserved c =
-    (
-      c.store.auto.w ∙ c.loop-left.invariant.0,
-      joining_again c.loop-left.invariant.1 c.next-s.ensures c.requires.0.1 (c.later-left.ensures _ c.next-s.ensures)
-          c.slot.ensures c.load-x.ensures c.joined.ensures.0 c.store.ensures c.joined.ensures.1,
-    )
+loop-left-preserved c = (
+  c.store.auto.w ∙ c.loop-left.invariant.0,
+  joining_again c.loop-left.invariant.1 c.next-s.ensures c.requires.0.1 (c.later-left.ensures _ c.next-s.ensures)
+      c.slot.ensures c.load-x.ensures c.joined.ensures.0 c.store.ensures c.joined.ensures.1,
+)
 
 pub returns : goal.returns
 returns c = joining_ends c.loop-left.invariant.1 c.loop-left-test.false

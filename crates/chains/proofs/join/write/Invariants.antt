@@ -1,11 +1,9 @@
 -- `write` meets its contract. The loop's invariant: the part keeps its length, and its first k records are the children by the stops passed,
 -- each with its link (`Joining`). The measure is the set of the stops left, as a number.
-use mathlib.Core.Path.{◌≡◌, refl, ◌∙◌}
-use Prim.Native.Nat.{◌<◌}
-use native.Mathlib.Omega.{arith}
+use mathlib.Core.Path.{◌≡◌}
 use lib.ListN.{length}
-use Rattle.records.specs.Code.{records, slots}
-use Rattle.chains.proofs.JoinLaws.{Joining, joining_starts, joining_room, joining_again, joining_ends}
+use Rattle.records.specs.Code.{records}
+use Rattle.chains.proofs.JoinLaws.{Joining}
 use Rattle.chains.proofs.join.write.Given as goal
 
 abbrev pub invariant-loop-left : goal.invariant-loop-left

@@ -1,7 +1,6 @@
 -- `write_at` meets its contract: the words that it lends on are the records behind the lane's, and `write` gives them back with the
 -- children at their front.
 use native.Mathlib.Omega.{arith}
-use borrow.Author.Rules.{rules}
 use lib.ListN.{length-drop}
 use Rattle.records.specs.Code.{records, slots}
 use Rattle.records.proofs.ViewLaws.{length-records}

@@ -3,12 +3,11 @@ use mathlib.Core.Path.{◌≡◌, refl, sym, ◌∙◌}
 use mathlib.Core.Bool.{false}
 use Prim.Native.Nat.{◌-◌}
 use native.Mathlib.Omega.{arith}
-use borrow.Author.Tests.{not-true}
-use lib.ListN.{length, get_or}
+use lib.ListN.{get_or}
 use Rattle.stops.specs.Code.{empty_record}
 use Rattle.records.specs.Code.{records}
 use Rattle.lanes.specs.Code.{is_live}
-use Rattle.chains.proofs.TrimLaws.{Trimmed, trimmed_none, trimmed_inside, trimmed_one}
+use Rattle.chains.proofs.TrimLaws.{trimmed_none, trimmed_inside, trimmed_one}
 use Rattle.chains.proofs.trim.trim.Goals as goal
 
 pub loop-used-init : goal.loop-used-init

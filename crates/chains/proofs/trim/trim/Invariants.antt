@@ -1,14 +1,8 @@
 -- `trim` meets its contract. The loop's invariant is `Trimmed`, with `used` records left.
-use mathlib.Core.Path.{◌≡◌, refl, sym, ◌∙◌}
-use mathlib.Core.Bool.{false}
-use Prim.Native.Nat.{◌-◌}
-use native.Mathlib.Omega.{arith}
-use borrow.Author.Tests.{not-true}
-use lib.ListN.{length, get_or}
-use Rattle.stops.specs.Code.{empty_record}
+use mathlib.Core.Path.{◌≡◌}
+use lib.ListN.{length}
 use Rattle.records.specs.Code.{records}
-use Rattle.lanes.specs.Code.{is_live}
-use Rattle.chains.proofs.TrimLaws.{Trimmed, trimmed_none, trimmed_inside, trimmed_one}
+use Rattle.chains.proofs.TrimLaws.{Trimmed}
 use Rattle.chains.proofs.trim.trim.Given as goal
 
 abbrev pub invariant-loop-used : goal.invariant-loop-used

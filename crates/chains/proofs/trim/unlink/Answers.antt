@@ -1,7 +1,6 @@
 -- `unlink` meets its contract: in a lane that is linked the head of the record's bucket becomes its link.
 use Prim.Native.Nat.{◌+◌, ◌≤◌}
 use native.Mathlib.Omega.{arith}
-use borrow.Author.Rules.{rules}
 use lib.ListN.{length}
 use Rattle.lanes.specs.Sizes.{heads}
 use Rattle.chains.proofs.trim.unlink.Goals as goal

@@ -1,5 +1,4 @@
 -- `after` meets its contract: the link is read where it stands.
-use borrow.Author.Rules.{rules}
 use Rattle.chains.proofs.walk.after.Goals as goal
 
 pub returns-then-p : goal.returns-then-p

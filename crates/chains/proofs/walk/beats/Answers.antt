@@ -1,6 +1,5 @@
 -- `beats` meets its contract: records of other sets do not dominate, and else `dominates` decides.
 use mathlib.Core.Path.{sym, ◌∙◌}
-use borrow.Author.Rules.{rules}
 use Rattle.lanes.specs.Code.{sized}
 use Rattle.chains.proofs.WalkLaws.{sets_apart}
 use Rattle.chains.proofs.walk.beats.Goals as goal

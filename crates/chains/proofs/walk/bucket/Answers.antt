@@ -1,6 +1,5 @@
 -- `bucket` meets its contract: the words are small enough that no step overflows.
 use mathlib.Core.Path.{refl}
-use borrow.Author.Rules.{rules}
 use Rattle.chains.specs.Code.{bucket_of}
 use Rattle.chains.proofs.WalkLaws.{bucket_head}
 use Rattle.chains.proofs.walk.bucket.Goals as goal

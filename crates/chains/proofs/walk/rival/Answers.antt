@@ -1,6 +1,5 @@
 -- `rival` meets its contract: `beats` decides dominance, and the bound is read where it stands.
 use mathlib.Core.Bool.{and-true, and-false}
-use borrow.Author.Rules.{rules}
 use Rattle.lanes.specs.Code.{sized}
 use Rattle.chains.proofs.walk.rival.Goals as goal
 

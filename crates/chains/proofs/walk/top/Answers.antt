@@ -1,7 +1,6 @@
 -- `top` meets its contract: the head is read where it stands in the index.
 use Prim.Native.Nat.{◌+◌, ◌<◌}
 use native.Mathlib.Omega.{arith}
-use borrow.Author.Rules.{rules}
 use lib.ListN.{length}
 use Rattle.chains.proofs.walk.top.Goals as goal
 use Rattle.chains.proofs.walk.top.Goals.{After-bucket}

@@ -8,7 +8,7 @@ use lib.ListN.{length, get_or}
 use Rattle.lists.specs.Lists.{any}
 use Rattle.stops.specs.Code.{empty_record}
 use Rattle.records.specs.Code.{records, in_slot}
-use Rattle.records.proofs.SlotLaws.{Thinning, thinning_starts, thinning_adds, thinning_keeps, thinning_drops, thinning_ends}
+use Rattle.records.proofs.SlotLaws.{thinning_starts, thinning_adds, thinning_keeps, thinning_drops, thinning_ends}
 use Rattle.lanes.specs.Code.{sized, place_of, lane_of}
 use Rattle.chains.specs.Code.{bucket_of, is_rival, is_free}
 use Rattle.chains.proofs.WalkLaws.{StandingAt, place_inside, standing_top, standing_after, standing_met, standing_end, bucket_head, rival_bucket}

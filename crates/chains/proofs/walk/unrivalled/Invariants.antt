@@ -1,19 +1,13 @@
 -- `unrivalled` meets its contract. The inner loop's invariant: the walk for the child in slot k stands at c, and has passed no rival of it
 -- (`Standing`). The outer one's: `kept` has the stops passed whose children have no rival (`Thinning`). A rival at c decides that its child is
 -- left out, so `continue` leaves no more to show than that.
-use mathlib.Core.Path.{◌≡◌, ap, sym, ◌∙◌}
-use mathlib.Core.Bool.{Bool, true, false, not}
-use mathlib.Core.Logic.{◌≢◌}
-use Prim.Native.Nat.{ℕ, ◌≤◌, ◌<◌}
-use native.Mathlib.Omega.{arith}
-use lib.ListN.{length, get_or}
-use Rattle.lists.specs.Lists.{any}
+use lib.ListN.{get_or}
 use Rattle.stops.specs.Code.{empty_record}
-use Rattle.records.specs.Code.{records, in_slot}
-use Rattle.records.proofs.SlotLaws.{Thinning, thinning_starts, thinning_adds, thinning_keeps, thinning_drops, thinning_ends}
-use Rattle.lanes.specs.Code.{sized, place_of, lane_of}
+use Rattle.records.specs.Code.{records}
+use Rattle.records.proofs.SlotLaws.{Thinning}
+use Rattle.lanes.specs.Code.{lane_of}
 use Rattle.chains.specs.Code.{bucket_of, is_rival, is_free}
-use Rattle.chains.proofs.WalkLaws.{StandingAt, place_inside, standing_top, standing_after, standing_met, standing_end, bucket_head, rival_bucket}
+use Rattle.chains.proofs.WalkLaws.{StandingAt}
 use Rattle.chains.proofs.walk.unrivalled.Given as goal
 
 abbrev pub invariant-loop-c : goal.invariant-loop-c

@@ -2,7 +2,6 @@
 -- complete, replaces U and its order.
 use mathlib.Core.Path.{◌≡◌, ap, sym, ◌∙◌}
 use native.Mathlib.Omega.{arith}
-use borrow.Author.Rules.{rules}
 use Rattle.stops.specs.declared.node_record.Record.{Record}
 use Rattle.children.proofs.BestLaws.{replaces_dearer, replaces_cheaper, replaces_tied, learn_keeps, learn-replaces}
 use Rattle.children.proofs.best.better.Goals as goal

@@ -2,7 +2,7 @@
 use mathlib.Core.Path.{sym, ◌∙◌}
 use native.Mathlib.Omega.{arith}
 use Rattle.records.specs.Code.{records, in_slot, slots}
-use Rattle.children.proofs.BestLaws.{learn-none, Learning, learning_starts, learning_again, learning_ends}
+use Rattle.children.proofs.BestLaws.{learn-none, learning_starts, learning_again, learning_ends}
 use Rattle.children.proofs.best.learn.Goals as goal
 
 pub returns-then-size-setting : goal.returns-then-size-setting

@@ -1,9 +1,7 @@
 -- `learn` meets its contract. The invariant: what stands for U and its order after what is known and the children by the stops left stands
 -- for them after all children (`Learning`). The measure is the set of the stops left, as a number.
-use mathlib.Core.Path.{sym, ◌∙◌}
-use native.Mathlib.Omega.{arith}
-use Rattle.records.specs.Code.{records, in_slot, slots}
-use Rattle.children.proofs.BestLaws.{learn-none, Learning, learning_starts, learning_again, learning_ends}
+use Rattle.records.specs.Code.{records}
+use Rattle.children.proofs.BestLaws.{Learning}
 use Rattle.children.proofs.best.learn.Given as goal
 
 abbrev pub invariant-loop-left : goal.invariant-loop-left

@@ -1,10 +1,6 @@
 -- The goals of `best::started` that the search leaves.
 use mathlib.Core.Path.{◌∙◌}
-use Prim.Native.Nat.{ℕ, ◌-◌, ◌≤◌}
 use native.Mathlib.Omega.{arith}
-use borrow.Author.Rules.{rules}
-use lib.ListN.{length}
-use Rattle.sizes.specs.Sizes.{most_stops}
 use Rattle.orders.specs.Orders.{Order}
 use Rattle.orders.proofs.Order.{order_partial}
 use Rattle.stops.proofs.Paths.{partial_reckonable}

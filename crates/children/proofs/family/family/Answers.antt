@@ -3,7 +3,7 @@ use mathlib.Core.Path.{◌≡◌, refl, ap, subst, ◌∙◌}
 use mathlib.Core.List.{List}
 use Prim.Native.Nat.{ℕ, ◌+◌, ◌-◌, ◌*◌, ◌^◌, ◌%◌, ◌≤◌}
 use native.Mathlib.Omega.{arith}
-use lib.ListN.{length, get_or}
+use lib.ListN.{get_or}
 use Rattle.sizes.specs.Sizes.{most_stops}
 use Rattle.lists.specs.Lists.{In}
 use Rattle.orders.specs.Pairs.{ready}
@@ -13,10 +13,9 @@ use Rattle.stops.specs.Code.{stops_in, reckoning, reckon_on}
 use Rattle.stops.proofs.SetLoops.{passed_ends}
 use Rattle.pairs.specs.Code.{pairs_in}
 use Rattle.carried.specs.Code.{ahead_of}
-use Rattle.records.specs.Code.{records}
 use Rattle.records.proofs.Mask.{rest_small}
 use Rattle.children.specs.Code.{rest_of, born_of, Bears}
-use Rattle.children.proofs.FamilyLaws.{rest_sum, Placing, placing_starts, placing_again}
+use Rattle.children.proofs.FamilyLaws.{rest_sum, placing_starts, placing_again}
 use Rattle.children.proofs.KidLaws.{Kid, kid_bears, kid_made}
 use Rattle.children.proofs.family.family.Goals as goal
 use Rattle.children.proofs.family.family.Goals.{After-child_costs-costs, After-next-s, Start}

@@ -1,6 +1,5 @@
 -- `family::root` meets its contract: e with the bound of all stops (`KidLaws`).
 use native.Mathlib.Omega.{arith}
-use borrow.Author.Rules.{rules}
 use Rattle.stops.proofs.SetBits.{all_small}
 use Rattle.children.specs.Code.{bounded}
 use Rattle.children.proofs.KidLaws.{root_made}

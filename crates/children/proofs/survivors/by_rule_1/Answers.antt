@@ -1,6 +1,5 @@
 -- `by_rule_1` meets its contract: the pass of rule 1, if it is on.
 use mathlib.Core.Path.{sym, ◌∙◌}
-use borrow.Author.Rules.{rules}
 use Rattle.lanes.specs.Code.{is_within}
 use Rattle.children.proofs.SurvivorLaws.{thinned_on, thinned_off}
 use Rattle.children.proofs.survivors.by_rule_1.Goals as goal

@@ -1,6 +1,5 @@
 -- `by_rule_2` meets its contract: the pass by the active lane, which shows the active nodes, if rule 2 is on.
 use mathlib.Core.Path.{sym, ◌∙◌}
-use borrow.Author.Rules.{rules}
 use Rattle.records.specs.Code.{records}
 use Rattle.lanes.specs.Code.{live_of}
 use Rattle.chains.specs.Code.{is_free}

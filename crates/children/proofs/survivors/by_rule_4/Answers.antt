@@ -1,6 +1,5 @@
 -- `by_rule_4` meets its contract: the pass by the far lane, which shows the branched nodes, if rule 4 is on.
 use mathlib.Core.Path.{sym, ◌∙◌}
-use borrow.Author.Rules.{rules}
 use Rattle.sizes.specs.Sizes.{no_limit}
 use Rattle.records.specs.Code.{records}
 use Rattle.lanes.specs.Code.{far_of}

@@ -1,8 +1,7 @@
 -- `limit_of` meets its contract: rule 1 is off, or no order is known, or the limit is U.
 use mathlib.Core.Path.{sym, ◌∙◌}
 use native.Mathlib.Omega.{arith}
-use borrow.Author.Rules.{rules}
-use borrow.Author.Tests.{not-true, not-false, lt-ltb, le-ltb}
+use borrow.Author.Tests.{lt-ltb, le-ltb}
 use Rattle.lanes.specs.Sizes.{every_bound}
 use Rattle.children.specs.Code.{limit_of}
 use Rattle.children.proofs.survivors.limit_of.Goals as goal

@@ -1,5 +1,4 @@
 -- `survivors` meets its contract: the passes of the three rules, each over what the one before it left.
-use borrow.Author.Rules.{rules}
 use Rattle.records.proofs.SlotLaws.{thinned_twice}
 use Rattle.children.proofs.FamilyLaws.{sized_less}
 use Rattle.children.proofs.survivors.survivors.Goals as goal

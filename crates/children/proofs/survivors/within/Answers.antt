@@ -1,10 +1,8 @@
 -- The goals of `survivors::within` that the search leaves.
 use mathlib.Core.Path.{◌≡◌}
-use mathlib.Core.List.{List}
 use native.Mathlib.Omega.{arith}
-use Rattle.stops.specs.declared.node_record.Record.{Record}
 use Rattle.records.specs.Code.{records, in_slot}
-use Rattle.records.proofs.SlotLaws.{Thinning, thinning_starts, thinning_adds, thinning_tests, thinning_ends}
+use Rattle.records.proofs.SlotLaws.{thinning_starts, thinning_adds, thinning_tests, thinning_ends}
 use Rattle.lanes.specs.Code.{is_within}
 use Rattle.children.proofs.survivors.within.Goals as goal
 use Rattle.children.proofs.survivors.within.Goals.{After-bound_at, After-next-s}

@@ -1,7 +1,6 @@
 -- `kept` meets its contract: the bound decides whether the record is stored.
 use mathlib.Core.Path.{refl}
 use native.Mathlib.Omega.{arith}
-use borrow.Author.Rules.{rules}
 use borrow.Author.Tests.{le-leb, lt-leb}
 use Rattle.records.proofs.ViewLaws.{length-records}
 use Rattle.lanes.specs.Code.{is_within}

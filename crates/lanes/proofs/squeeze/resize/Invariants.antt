@@ -1,13 +1,11 @@
 -- `resize` meets its contract. The loop's invariant: the records with the sizes put back from i on are the records at entry with the sizes
 -- put back from `from` on.
-use mathlib.Core.Path.{◌≡◌, refl, sym, ap, ◌∙◌}
+use mathlib.Core.Path.{◌≡◌}
 use Prim.Native.Nat.{◌-◌, ◌≤◌}
-use native.Mathlib.Omega.{arith}
-use lib.ListN.{length, set, get_or, length-set}
-use Rattle.stops.specs.Code.{empty_record}
+use lib.ListN.{length}
 use Rattle.records.specs.Code.{records}
 use Rattle.lanes.specs.Code.{sized}
-use Rattle.lanes.proofs.SqueezeLaws.{changed, change_again, change_ends}
+use Rattle.lanes.proofs.SqueezeLaws.{changed}
 use Rattle.lanes.proofs.squeeze.resize.Given as goal
 
 abbrev pub invariant-loop-i : goal.invariant-loop-i

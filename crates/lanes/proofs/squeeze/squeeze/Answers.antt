@@ -1,11 +1,7 @@
 -- The goals of `squeeze::squeeze` that the search leaves.
 use mathlib.Core.Path.{◌≡◌, refl}
-use Prim.Native.Nat.{◌-◌, ◌≤◌}
 use native.Mathlib.Omega.{arith}
-use lib.ListN.{length}
-use Rattle.records.specs.Code.{records, Sifted}
 use Rattle.records.proofs.SiftLaws.{sifted_none, sifted_within}
-use Rattle.lanes.specs.Code.{is_within}
 use Rattle.lanes.proofs.SqueezeLaws.{sifted_kept}
 use Rattle.lanes.proofs.squeeze.squeeze.Goals as goal
 

@@ -1,12 +1,9 @@
 -- `squeeze` meets its contract. The loop's invariant is `Sifted` itself, up to i.
-use mathlib.Core.Path.{◌≡◌, refl}
+use mathlib.Core.Path.{◌≡◌}
 use Prim.Native.Nat.{◌-◌, ◌≤◌}
-use native.Mathlib.Omega.{arith}
 use lib.ListN.{length}
 use Rattle.records.specs.Code.{records, Sifted}
-use Rattle.records.proofs.SiftLaws.{sifted_none, sifted_within}
 use Rattle.lanes.specs.Code.{is_within}
-use Rattle.lanes.proofs.SqueezeLaws.{sifted_kept}
 use Rattle.lanes.proofs.squeeze.squeeze.Given as goal
 
 abbrev pub invariant-loop-i : goal.invariant-loop-i

@@ -1,5 +1,4 @@
 -- `begun` meets its contract: e is the only node that is active, and the counts are those of the start.
-use borrow.Author.Rules.{rules}
 use Rattle.planner.proofs.StartLaws.{hold_ready, rank_ready, start-shown}
 use Rattle.planner.proofs.run.begun.Goals as goal
 

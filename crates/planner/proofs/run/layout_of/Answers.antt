@@ -3,7 +3,6 @@ use mathlib.Core.Path.{◌≡◌, ◌∙◌, ap}
 use mathlib.Core.Bool.{Bool, ◌||◌}
 use Prim.Native.Nat.{ℕ}
 use lib.Dec.{ltb}
-use borrow.Author.Rules.{rules}
 use Rattle.search.specs.Step.{on}
 use Rattle.lanes.specs.Sizes.{first_shift}
 use Rattle.children.specs.declared.setting.Setting.{Setting}
@@ -18,8 +17,8 @@ either_rule :
     c.if-on.links ≡ (on 2 a.setting.rules || on 8 a.setting.rules)
 either_rule c =
     elim c.if-on.branch [
-      then-on w ↦ w.links-is ∙ rw (← c.on.ensures, w.if-on.true)
-    | else-on w ↦ w.links-is ∙ w.on-else-on.ensures ∙ rw (← c.on.ensures, w.if-on.false)
+      | then-on w ↦ w.links-is ∙ rw (← c.on.ensures, w.if-on.true)
+      | else-on w ↦ w.links-is ∙ w.on-else-on.ensures ∙ rw (← c.on.ensures, w.if-on.false)
     ]
 
 pub returns : goal.returns

@@ -1,6 +1,5 @@
 -- `linked_turns` meets its contract: its index is clear, and has room for all that may be kept.
 use native.Mathlib.Omega.{arith}
-use borrow.Author.Rules.{rules}
 use Rattle.lanes.specs.Sizes.{index_words}
 use Rattle.planner.proofs.StartLaws.{zeros_roomy}
 use Rattle.planner.proofs.run.linked_turns.Goals as goal

@@ -2,7 +2,6 @@
 use mathlib.Core.Path.{◌≡◌, refl, sym, subst}
 use mathlib.Core.List.{List}
 use Prim.Native.Nat.{ℕ}
-use borrow.Author.Rules.{rules}
 use Rattle.stops.specs.Code.{Priced}
 use Rattle.records.specs.Records.{records_in}
 use Rattle.answer.specs.Call.{Call, call_of}

@@ -1,6 +1,5 @@
 -- `setting_of` meets its contract: the precedence is the one that the pairs make.
 use mathlib.Core.Path.{ap}
-use borrow.Author.Rules.{rules}
 use Rattle.pairs.specs.declared.Precedence.{Precedence}
 use Rattle.planner.proofs.run.setting_of.Goals as goal
 

@@ -1,6 +1,5 @@
 -- `take_turn` meets its contract: the turn of the node that the selection picks, or the refusal of a selection that there is not.
 use mathlib.Core.Path.{◌≡◌, refl}
-use borrow.Author.Rules.{rules}
 use Rattle.records.specs.Code.{records}
 use Rattle.selection.specs.Code.{Chose}
 use Rattle.selection.specs.declared.Place.{Place}

@@ -1,7 +1,6 @@
 -- `turn_at` meets its contract: each of its four answers is what comes next of the state (`TurnLaws`).
 use mathlib.Core.Path.{◌≡◌}
 use native.Mathlib.Omega.{arith}
-use borrow.Author.Rules.{rules}
 use Rattle.search.specs.Problem.{State}
 use Rattle.stops.specs.declared.node_record.Record.{Record}
 use Rattle.step.specs.Code.{Stepping, Shown, node_at, rest_at}

@@ -1,19 +1,16 @@
 -- The goals of `run::turns` that the search leaves.
 use mathlib.Core.Path.{◌≡◌, refl, ap, sym, ◌∙◌, subst}
 use mathlib.Core.List.{List}
-use Prim.Native.Nat.{ℕ, ◌+◌, ◌-◌, ◌*◌, ◌≤◌}
+use Prim.Native.Nat.{ℕ, ◌+◌, ◌≤◌}
 use native.Mathlib.Omega.{arith}
 use lib.ListN.{length}
-use borrow.Author.Rules.{rules}
-use Rattle.sizes.specs.Sizes.{most_stops, record_words}
-use Rattle.search.specs.Problem.{State}
-use Rattle.orders.specs.Orders.{Node, nodes}
+use Rattle.sizes.specs.Sizes.{most_stops}
 use Rattle.records.specs.Code.{records}
 use Rattle.records.proofs.ViewLaws.{length-records}
 use Rattle.answer.specs.declared.Report.{Report}
 use Rattle.answer.proofs.Passes.{start_too}
 use Rattle.children.specs.Code.{Table}
-use Rattle.planner.specs.Code.{Running, Turned, rows_by, Begins, Ran, stopped_by}
+use Rattle.planner.specs.Code.{Turned, rows_by, Begins, Ran, stopped_by}
 use Rattle.planner.specs.declared.run.Turn.{Turn}
 use Rattle.planner.proofs.SearchLaws.{run_begins, turn_keeps, turn_falls, settle_ready, floor-ready, turns_end}
 use Rattle.planner.proofs.run.turns.Goals as goal

@@ -1,23 +1,13 @@
 -- `turns` meets its contract. The invariant: the pool and the index have the length they had, there is a slot for each stop's child, and the pool
 -- and the index show with r a state of the run. The measure: the nodes that are not yet branched. `SearchLaws` has why the loop goes on and
 -- ends. No turn is refused: the selection is one that there is.
-use mathlib.Core.Path.{◌≡◌, refl, ap, sym, ◌∙◌, subst}
-use mathlib.Core.List.{List}
-use Prim.Native.Nat.{ℕ, ◌+◌, ◌-◌, ◌*◌, ◌≤◌}
-use native.Mathlib.Omega.{arith}
+use mathlib.Core.Path.{◌≡◌}
+use Prim.Native.Nat.{◌-◌, ◌*◌}
 use lib.ListN.{length}
-use borrow.Author.Rules.{rules}
 use Rattle.sizes.specs.Sizes.{most_stops, record_words}
 use Rattle.search.specs.Problem.{State}
 use Rattle.orders.specs.Orders.{Node, nodes}
-use Rattle.records.specs.Code.{records}
-use Rattle.records.proofs.ViewLaws.{length-records}
-use Rattle.answer.specs.declared.Report.{Report}
-use Rattle.answer.proofs.Passes.{start_too}
-use Rattle.children.specs.Code.{Table}
-use Rattle.planner.specs.Code.{Running, Turned, rows_by, Begins, Ran, stopped_by}
-use Rattle.planner.specs.declared.run.Turn.{Turn}
-use Rattle.planner.proofs.SearchLaws.{run_begins, turn_keeps, turn_falls, settle_ready, floor-ready, turns_end}
+use Rattle.planner.specs.Code.{Running}
 use Rattle.planner.proofs.run.turns.Given as goal
 
 abbrev pub invariant-loop-q : goal.invariant-loop-q

@@ -1,7 +1,6 @@
 -- `reranked` meets its contract: `rebuild` makes the minima, if the layout is ranked.
 use mathlib.Core.Path.{subst, sym}
 use lib.Dec.{T}
-use borrow.Author.Rules.{rules}
 use Rattle.blocks.proofs.KeepLaws.{same_none}
 use Rattle.pool.proofs.rank.reranked.Goals as goal
 

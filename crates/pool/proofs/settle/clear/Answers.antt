@@ -1,12 +1,10 @@
 -- The goals of `settle::clear` that the search leaves.
 use mathlib.Core.Path.{◌≡◌, refl, sym, ap, ◌∙◌}
-use Prim.Native.Nat.{◌-◌, ◌≤◌}
 use native.Mathlib.Omega.{arith}
-use borrow.Author.Rules.{rules}
 use lib.ListN.{length, set, length-set}
 use Rattle.stops.specs.Code.{empty_record}
 use Rattle.records.specs.Code.{records}
-use Rattle.pool.proofs.SettleLaws.{cleared, clear_again, clear_ends}
+use Rattle.pool.proofs.SettleLaws.{clear_again, clear_ends}
 use Rattle.pool.proofs.settle.clear.Goals as goal
 
 pub loop-k-init : goal.loop-k-init

@@ -1,13 +1,11 @@
 -- `pool::settle::clear` meets its contract. The loop's invariant: the records cleared from k on are the records at entry cleared from
 -- `from` on.
-use mathlib.Core.Path.{◌≡◌, refl, sym, ap, ◌∙◌}
+use mathlib.Core.Path.{◌≡◌}
 use Prim.Native.Nat.{◌-◌, ◌≤◌}
-use native.Mathlib.Omega.{arith}
-use borrow.Author.Rules.{rules}
-use lib.ListN.{length, set, length-set}
+use lib.ListN.{length}
 use Rattle.stops.specs.Code.{empty_record}
 use Rattle.records.specs.Code.{records}
-use Rattle.pool.proofs.SettleLaws.{cleared, clear_again, clear_ends}
+use Rattle.pool.proofs.SettleLaws.{cleared}
 use Rattle.pool.proofs.settle.clear.Given as goal
 
 abbrev pub invariant-loop-k : goal.invariant-loop-k

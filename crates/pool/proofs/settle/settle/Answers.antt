@@ -1,7 +1,6 @@
 -- `settle` meets its contract: `squeeze`, `resize` of both lanes and `lay_out`, joined by `back_joins`.
 use mathlib.Core.Path.{sym}
 use native.Mathlib.Omega.{arith}
-use borrow.Author.Rules.{rules}
 use Rattle.pool.proofs.BackLaws.{back_below, back_long, back_whole, back_joins}
 use Rattle.pool.proofs.settle.settle.Goals as goal
 
@@ -15,13 +14,12 @@ resize-requires-2 c =
     (omega arith, omega (arith, back_long _ _ _ _ _ _ c.requires.0 c.requires.1 c.squeeze-active.ensures _ c.resize.ensures))
 
 pub lay_out-requires : goal.lay_out-requires
-lay_out-requires c =
-    (
-      sym
-          (back_whole _ _ _ _ _ _ c.requires.0 c.requires.1 c.squeeze-active.ensures _ c.resize.ensures _
-          c.resize-2.ensures),
-      omega (arith, back_below _ _ _ _ _ _ c.requires.0 c.requires.1 c.squeeze-active.ensures),
-    )
+lay_out-requires c = (
+  sym
+      (back_whole _ _ _ _ _ _ c.requires.0 c.requires.1 c.squeeze-active.ensures _ c.resize.ensures _
+      c.resize-2.ensures),
+  omega (arith, back_below _ _ _ _ _ _ c.requires.0 c.requires.1 c.squeeze-active.ensures),
+)
 
 pub returns : goal.returns
 returns c =

@@ -1,9 +1,7 @@
 -- The goals of `settle::slide` that the search leaves.
 use mathlib.Core.Path.{◌≡◌, refl}
-use Prim.Native.Nat.{◌-◌, ◌≤◌}
 use native.Mathlib.Omega.{arith}
-use lib.ListN.{length}
-use Rattle.records.specs.Code.{records, Sifted, always}
+use Rattle.records.specs.Code.{records, always}
 use Rattle.records.proofs.SiftLaws.{sifted_none, sifted_passes, sifted_still}
 use Rattle.pool.proofs.settle.slide.Goals as goal
 

@@ -1,10 +1,8 @@
 -- `slide` meets its contract: as `sift`, with a test that every record passes.
-use mathlib.Core.Path.{◌≡◌, refl}
+use mathlib.Core.Path.{◌≡◌}
 use Prim.Native.Nat.{◌-◌, ◌≤◌}
-use native.Mathlib.Omega.{arith}
 use lib.ListN.{length}
 use Rattle.records.specs.Code.{records, Sifted, always}
-use Rattle.records.proofs.SiftLaws.{sifted_none, sifted_passes, sifted_still}
 use Rattle.pool.proofs.settle.slide.Given as goal
 
 abbrev pub invariant-loop-i : goal.invariant-loop-i

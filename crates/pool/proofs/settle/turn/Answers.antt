@@ -1,11 +1,10 @@
 -- The goals of `settle::turn` that the search leaves.
-use mathlib.Core.Path.{◌≡◌, refl, sym, ap, ◌∙◌}
-use Prim.Native.Nat.{◌-◌, ◌≤◌}
+use mathlib.Core.Path.{refl, sym, ap, ◌∙◌}
 use native.Mathlib.Omega.{arith}
 use lib.ListN.{length, length-set}
 use Rattle.stops.specs.Code.{empty_record}
 use Rattle.records.specs.Code.{records}
-use Rattle.pool.proofs.SettleLaws.{turned, turn_again, turn_ends}
+use Rattle.pool.proofs.SettleLaws.{turn_again, turn_ends}
 use Rattle.pool.proofs.settle.turn.Goals as goal
 
 pub loop-j-init : goal.loop-j-init

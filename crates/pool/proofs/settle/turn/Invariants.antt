@@ -1,12 +1,10 @@
 -- `pool::settle::turn` meets its contract. The loop's invariant: the records with those from i to j turned around are the records at
 -- entry with those from `from` to `to` turned around; so where at most one is left between i and j, all is done.
-use mathlib.Core.Path.{◌≡◌, refl, sym, ap, ◌∙◌}
+use mathlib.Core.Path.{◌≡◌}
 use Prim.Native.Nat.{◌-◌, ◌≤◌}
-use native.Mathlib.Omega.{arith}
-use lib.ListN.{length, length-set}
-use Rattle.stops.specs.Code.{empty_record}
+use lib.ListN.{length}
 use Rattle.records.specs.Code.{records}
-use Rattle.pool.proofs.SettleLaws.{turned, turn_again, turn_ends}
+use Rattle.pool.proofs.SettleLaws.{turned}
 use Rattle.pool.proofs.settle.turn.Given as goal
 
 abbrev pub invariant-loop-j : goal.invariant-loop-j

@@ -1,11 +1,7 @@
 -- The goals of `order::stops_of` that the search leaves.
 use mathlib.Core.Path.{◌≡◌, refl}
-use mathlib.Core.List.{map}
-use Prim.Native.Nat.{◌-◌, ◌≤◌}
 use native.Mathlib.Omega.{arith}
-use Rattle.sizes.specs.Sizes.{order_places}
-use Rattle.lists.specs.Lists.{from, padded}
-use Rattle.records.specs.Records.{stop_at}
+use Rattle.lists.specs.Lists.{padded}
 use Rattle.records.proofs.OrderStops.{stops_more}
 use Rattle.records.proofs.order.stops_of.Goals as goal
 

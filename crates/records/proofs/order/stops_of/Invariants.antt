@@ -1,13 +1,11 @@
 -- `order::stops_of` meets its contract. The invariant: the first k places hold the first k stops, with zeros behind. The measure is what is
 -- left of the count.
-use mathlib.Core.Path.{◌≡◌, refl}
+use mathlib.Core.Path.{◌≡◌}
 use mathlib.Core.List.{map}
 use Prim.Native.Nat.{◌-◌, ◌≤◌}
-use native.Mathlib.Omega.{arith}
 use Rattle.sizes.specs.Sizes.{order_places}
 use Rattle.lists.specs.Lists.{from, padded}
 use Rattle.records.specs.Records.{stop_at}
-use Rattle.records.proofs.OrderStops.{stops_more}
 use Rattle.records.proofs.order.stops_of.Given as goal
 
 abbrev pub invariant-loop-k : goal.invariant-loop-k

@@ -1,6 +1,5 @@
 -- `commit` meets its contract: each part meets what the next asks, and the last leaves what is asked of all.
 use mathlib.Core.Path.{◌∙◌}
-use borrow.Author.Rules.{rules}
 use Rattle.records.specs.Code.{records}
 use Rattle.replacement.proofs.CommitLaws.{tidiable, roomy, joinable, committed}
 use Rattle.replacement.proofs.commit.commit.Goals as goal

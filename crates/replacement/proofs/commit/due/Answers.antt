@@ -1,7 +1,6 @@
 -- `due` meets its contract: where it says no, both tests before have failed.
 use mathlib.Core.Path.{subst}
 use native.Mathlib.Omega.{arith}
-use borrow.Author.Rules.{rules}
 use lib.Dec.{T}
 use Rattle.stops.proofs.SetBits.{stops_in_few}
 use Rattle.replacement.proofs.commit.due.Goals as goal

@@ -1,7 +1,6 @@
 -- `held` meets its contract: the branched node joins the far end's lane, and the active lane is as it was.
 use mathlib.Core.Path.{◌≡◌, refl, sym, subst}
 use Prim.Native.Nat.{◌+◌, ◌^◌, ◌≤◌, ◌<◌}
-use borrow.Author.Rules.{rules}
 use lib.Dec.{T}
 use lib.ListN.{length, set}
 use Rattle.records.specs.Code.{records}

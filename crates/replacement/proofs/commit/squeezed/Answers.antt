@@ -1,7 +1,6 @@
 -- `squeezed` meets its contract: what is left of the lane is linked and ranked, and the far end is as it was.
 use mathlib.Core.Path.{sym, refl, subst}
 use Prim.Native.Nat.{◌+◌, ◌^◌, ◌≤◌, ◌<◌}
-use borrow.Author.Rules.{rules}
 use lib.Dec.{T}
 use lib.ListN.{length}
 use Rattle.records.specs.Code.{records}

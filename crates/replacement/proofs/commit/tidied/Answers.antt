@@ -1,6 +1,5 @@
 -- `tidied` meets its contract: where squeezing is not due, no node is above the limit and there is room.
 use native.Mathlib.Omega.{arith}
-use borrow.Author.Rules.{rules}
 use Rattle.records.specs.Code.{records}
 use Rattle.records.proofs.ViewLaws.{length-records}
 use Rattle.lanes.proofs.LiveLaws.{live_few}

@@ -3,14 +3,14 @@ use mathlib.Core.Path.{◌≡◌, sym, ap, ◌∙◌}
 use mathlib.Core.Bool.{Bool, cond}
 use mathlib.Core.List.{List}
 use Rattle.stops.specs.declared.node_record.Record.{Record}
-use Prim.Native.Nat.{ℕ, ◌+◌, ◌-◌, ◌≤◌}
+use Prim.Native.Nat.{ℕ, ◌+◌}
 use native.Mathlib.Omega.{arith}
 use lib.ListN.{get_or}
 use Rattle.stops.specs.Code.{empty_record}
 use Rattle.records.specs.Code.{records, slots}
 use Rattle.lanes.specs.Code.{sized}
 use Rattle.replacement.specs.Code.{is_staying}
-use Rattle.replacement.proofs.FitLaws.{staying_in, one_or_none, staying-none, staying_more}
+use Rattle.replacement.proofs.FitLaws.{one_or_none, staying-none, staying_more}
 use Rattle.replacement.proofs.fits.staying.Goals as goal
 use Rattle.replacement.proofs.fits.staying.Goals.{Joined-stays, then-stays, else-stays}
 
@@ -32,8 +32,8 @@ counted : (c : Joined-stays) → c.if-stays.stay ≡ c.loop-i.stay + cond (stayi
 counted c =
     let s = c.stays.ensures in
     elim c.if-stays.branch [
-      then-stays w ↦ w.stay-is ∙ rw (← s, w.if-stays.true)
-    | else-stays w ↦ rw (← s, w.if-stays.false) (omega (arith, w.stay-is))
+      | then-stays w ↦ w.stay-is ∙ rw (← s, w.if-stays.true)
+      | else-stays w ↦ rw (← s, w.if-stays.false) (omega (arith, w.stay-is))
     ]
 
 pub loop-i-preserved : goal.loop-i-preserved

@@ -1,15 +1,8 @@
 -- `staying` meets its contract. The loop's invariant: `stay` counts those of the records from `from` to i.
-use mathlib.Core.Path.{◌≡◌, sym, ap, ◌∙◌}
-use mathlib.Core.Bool.{Bool, cond}
-use mathlib.Core.Logic.{⊎_elim}
-use Prim.Native.Nat.{ℕ, ◌+◌, ◌-◌, ◌≤◌}
-use native.Mathlib.Omega.{arith}
-use lib.ListN.{get_or}
-use Rattle.stops.specs.Code.{empty_record}
+use mathlib.Core.Path.{◌≡◌}
+use Prim.Native.Nat.{◌-◌, ◌≤◌}
 use Rattle.records.specs.Code.{records, slots}
-use Rattle.lanes.specs.Code.{sized}
-use Rattle.replacement.specs.Code.{is_staying}
-use Rattle.replacement.proofs.FitLaws.{staying_in, one_or_none, staying-none, staying_more}
+use Rattle.replacement.proofs.FitLaws.{staying_in}
 use Rattle.replacement.proofs.fits.staying.Given as goal
 
 abbrev pub invariant-loop-i : goal.invariant-loop-i

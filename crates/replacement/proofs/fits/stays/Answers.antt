@@ -1,7 +1,6 @@
 -- `stays` meets its contract: the bound is read where it stands, and `unbeaten` decides for a record up to the limit.
 use mathlib.Core.Path.{◌∙◌}
 use native.Mathlib.Omega.{arith}
-use borrow.Author.Rules.{rules}
 use lib.ListN.{get_or}
 use Rattle.stops.specs.Code.{empty_record}
 use Rattle.records.specs.Code.{records, slots}

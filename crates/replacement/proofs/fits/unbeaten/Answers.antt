@@ -1,15 +1,10 @@
 -- The goals of `fits::unbeaten` that the search leaves.
 use mathlib.Core.Path.{◌≡◌, refl, sym, ◌∙◌}
-use mathlib.Core.List.{List}
-use Prim.Native.Nat.{◌^◌, ◌<◌}
 use native.Mathlib.Omega.{arith}
 use lib.ListN.{get_or}
-use Rattle.sizes.specs.Sizes.{most_stops}
 use Rattle.stops.specs.Code.{empty_record, rec_dominates}
-use Rattle.stops.specs.declared.node_record.Record.{Record}
-use Rattle.records.specs.Code.{records, in_slot, slots}
+use Rattle.records.specs.Code.{records, in_slot}
 use Rattle.lanes.specs.Code.{sized}
-use Rattle.replacement.specs.Code.{is_beaten}
 use Rattle.replacement.proofs.FitLaws.{beaten_none, beaten_here, beaten_later}
 use Rattle.replacement.proofs.fits.unbeaten.Goals as goal
 use Rattle.replacement.proofs.fits.unbeaten.Goals.{After-beaten}

@@ -1,16 +1,12 @@
 -- `unbeaten` meets its contract. The loop's invariant: whether a child dominates the record lies with the stops left.
-use mathlib.Core.Path.{◌≡◌, refl, sym, ◌∙◌}
-use mathlib.Core.List.{List}
+use mathlib.Core.Path.{◌≡◌}
 use Prim.Native.Nat.{◌^◌, ◌<◌}
-use native.Mathlib.Omega.{arith}
 use lib.ListN.{get_or}
 use Rattle.sizes.specs.Sizes.{most_stops}
-use Rattle.stops.specs.Code.{empty_record, rec_dominates}
-use Rattle.stops.specs.declared.node_record.Record.{Record}
-use Rattle.records.specs.Code.{records, in_slot, slots}
+use Rattle.stops.specs.Code.{empty_record}
+use Rattle.records.specs.Code.{records, slots}
 use Rattle.lanes.specs.Code.{sized}
 use Rattle.replacement.specs.Code.{is_beaten}
-use Rattle.replacement.proofs.FitLaws.{beaten_none, beaten_here, beaten_later}
 use Rattle.replacement.proofs.fits.unbeaten.Given as goal
 
 abbrev pub invariant-loop-left : goal.invariant-loop-left

@@ -1,6 +1,5 @@
 -- `beaten` meets its contract: records of other sets do not dominate, and else `dominates` decides.
 use mathlib.Core.Path.{sym, ◌∙◌}
-use borrow.Author.Rules.{rules}
 use Rattle.lanes.specs.Code.{sized}
 use Rattle.chains.proofs.WalkLaws.{sets_apart}
 use Rattle.replacement.proofs.strike.beaten.Goals as goal

@@ -1,5 +1,4 @@
 -- `leave` meets its contract: links and keys are as they were, and the minimum of the record's block is found anew where they are kept.
-use borrow.Author.Rules.{rules}
 use Rattle.records.specs.Code.{records}
 use Rattle.blocks.proofs.KeepLaws.{same_none}
 use Rattle.replacement.proofs.StrikeLaws.{laid_marked}

@@ -3,7 +3,6 @@ use mathlib.Core.Path.{◌≡◌, refl, sym, ◌∙◌}
 use mathlib.Core.Bool.{cond}
 use Prim.Native.Nat.{◌+◌, ◌-◌, ◌≤◌, ◌<◌}
 use native.Mathlib.Omega.{arith}
-use borrow.Author.Rules.{rules}
 use lib.ListN.{length, get_or}
 use Rattle.stops.specs.Code.{empty_record, rec_dominates}
 use Rattle.records.specs.Code.{records}
@@ -11,7 +10,6 @@ use Rattle.lanes.specs.Sizes.{active_heads}
 use Rattle.lanes.proofs.LiveLaws.{live_few}
 use Rattle.chains.specs.Code.{bucket_of}
 use Rattle.chains.proofs.WalkLaws.{dominates_bucket, bucket_head}
-use Rattle.pool.specs.Code.{Laid}
 use Rattle.replacement.proofs.StrikeLaws.{struck-count}
 use Rattle.replacement.proofs.StrikeWalk.{Striking, striking_starts, striking_again, striking_ends}
 use Rattle.replacement.proofs.strike.strike.Goals as goal

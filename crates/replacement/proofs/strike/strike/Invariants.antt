@@ -1,20 +1,12 @@
 -- `strike` meets its contract. The loop's invariant: the walk stands at c; the records that it has passed, or that are of other buckets, are as
 -- they should be (`Striking`). Marking changes neither links nor keys, so that it goes on as it would have.
-use mathlib.Core.Path.{◌≡◌, refl, sym, ◌∙◌}
-use mathlib.Core.Bool.{cond}
-use Prim.Native.Nat.{◌+◌, ◌-◌, ◌≤◌, ◌<◌}
-use native.Mathlib.Omega.{arith}
-use borrow.Author.Rules.{rules}
+use mathlib.Core.Path.{◌≡◌}
 use lib.ListN.{length, get_or}
 use Rattle.stops.specs.Code.{empty_record, rec_dominates}
 use Rattle.records.specs.Code.{records}
-use Rattle.lanes.specs.Sizes.{active_heads}
-use Rattle.lanes.proofs.LiveLaws.{live_few}
 use Rattle.chains.specs.Code.{bucket_of}
-use Rattle.chains.proofs.WalkLaws.{dominates_bucket, bucket_head}
 use Rattle.pool.specs.Code.{Laid}
-use Rattle.replacement.proofs.StrikeLaws.{struck-count}
-use Rattle.replacement.proofs.StrikeWalk.{Striking, striking_starts, striking_again, striking_ends}
+use Rattle.replacement.proofs.StrikeWalk.{Striking}
 use Rattle.replacement.proofs.strike.strike.Given as goal
 
 abbrev pub invariant-loop-c : goal.invariant-loop-c

@@ -6,9 +6,8 @@ use lib.ListN.{length, get_or}
 use Rattle.stops.specs.Code.{empty_record, rec_dominates}
 use Rattle.records.specs.Code.{records, in_slot}
 use Rattle.lanes.proofs.LiveLaws.{live_few}
-use Rattle.pool.specs.Code.{Laid}
 use Rattle.replacement.specs.Code.{Strikes}
-use Rattle.replacement.proofs.StrikeLaws.{StrikingAll, striking_all_starts, striking_all_again, striking_all_ends}
+use Rattle.replacement.proofs.StrikeLaws.{striking_all_starts, striking_all_again, striking_all_ends}
 use Rattle.replacement.proofs.strike.strike_all.Goals as goal
 use Rattle.replacement.proofs.strike.strike_all.Goals.{After-slot, After-strike-lost}
 
@@ -18,11 +17,10 @@ child :
     → let kids = records c.args.kids.now in
     (get_or kids c.slot.result empty_record ≡ in_slot kids c.next-s.result) × (c.slot.result < length kids)
 unfolding in_slot
-child c =
-    (
-      ap (λ (j : ℕ). get_or (records c.args.kids.now) j empty_record) c.slot.ensures,
-      omega (arith, c.slot.ensures, c.next-s.ensures.some, c.next-s.ensures.few, c.requires.1.0.room),
-    )
+child c = (
+  ap (λ (j : ℕ). get_or (records c.args.kids.now) j empty_record) c.slot.ensures,
+  omega (arith, c.slot.ensures, c.next-s.ensures.some, c.next-s.ensures.few, c.requires.1.0.room),
+)
 
 pub strike-lost-requires : goal.strike-lost-requires
 strike-lost-requires c =

@@ -1,14 +1,9 @@
 -- `strike_all` meets its contract. The loop's invariant: what a child passed dominates is struck out, and so much is lost (`StrikingAll`).
-use mathlib.Core.Path.{◌≡◌, refl, ap, ◌∙◌}
-use Prim.Native.Nat.{ℕ, ◌<◌}
-use native.Mathlib.Omega.{arith}
-use lib.ListN.{length, get_or}
-use Rattle.stops.specs.Code.{empty_record, rec_dominates}
-use Rattle.records.specs.Code.{records, in_slot}
-use Rattle.lanes.proofs.LiveLaws.{live_few}
+use mathlib.Core.Path.{◌≡◌}
+use lib.ListN.{length}
+use Rattle.records.specs.Code.{records}
 use Rattle.pool.specs.Code.{Laid}
-use Rattle.replacement.specs.Code.{Strikes}
-use Rattle.replacement.proofs.StrikeLaws.{StrikingAll, striking_all_starts, striking_all_again, striking_all_ends}
+use Rattle.replacement.proofs.StrikeLaws.{StrikingAll}
 use Rattle.replacement.proofs.strike.strike_all.Given as goal
 
 abbrev pub invariant-loop-left : goal.invariant-loop-left

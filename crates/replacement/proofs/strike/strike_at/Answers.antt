@@ -1,7 +1,5 @@
 -- `strike_at` meets its contract: a record that is gone, or that the child does not dominate, stays as it is.
 use mathlib.Core.Path.{sym, ◌∙◌}
-use borrow.Author.Rules.{rules}
-use borrow.Author.Tests.{not-true, not-false}
 use lib.ListN.{get_or}
 use Rattle.stops.specs.Code.{empty_record, rec_dominates}
 use Rattle.records.specs.Code.{records}

@@ -1,16 +1,10 @@
 -- The goals of `open_nodes::first_open` that the search leaves.
-use mathlib.Core.Path.{◌≡◌, refl}
-use mathlib.Core.Bool.{false}
+use mathlib.Core.Path.{refl}
 use mathlib.Core.Logic.{⊎_elim}
-use Prim.Native.Nat.{ℕ, ◌-◌, ◌/◌, ◌^◌, ◌≤◌, ◌<◌}
+use Prim.Native.Nat.{◌/◌, ◌^◌, ◌<◌}
 use native.Mathlib.Omega.{arith}
-use lib.ListN.{get_or}
 use Rattle.lists.proofs.Tests.{compared}
-use Rattle.stops.specs.Code.{empty_record}
-use Rattle.records.specs.Code.{records}
-use Rattle.blocks.specs.Code.{in_block}
-use Rattle.selection.specs.Code.{is_open}
-use Rattle.selection.proofs.WalkLaws.{Walked, nth_in, walked_none, walked_more, walked_all, walked_before, before_block}
+use Rattle.selection.proofs.WalkLaws.{nth_in, walked_none, walked_more, walked_all, walked_before, before_block}
 use Rattle.selection.proofs.open_nodes.first_open.Goals as goal
 use Rattle.selection.proofs.open_nodes.first_open.Goals.{After-nth}
 

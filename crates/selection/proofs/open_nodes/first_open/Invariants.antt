@@ -1,17 +1,14 @@
 -- `first_open` meets its contract. The invariant: no record of a block that the walk has passed is open, so one that is, once it is met, is the
 -- first such.
-use mathlib.Core.Path.{◌≡◌, refl}
+use mathlib.Core.Path.{◌≡◌}
 use mathlib.Core.Bool.{false}
-use mathlib.Core.Logic.{⊎_elim}
-use Prim.Native.Nat.{ℕ, ◌-◌, ◌/◌, ◌^◌, ◌≤◌, ◌<◌}
-use native.Mathlib.Omega.{arith}
+use Prim.Native.Nat.{ℕ, ◌-◌, ◌^◌, ◌≤◌}
 use lib.ListN.{get_or}
-use Rattle.lists.proofs.Tests.{compared}
 use Rattle.stops.specs.Code.{empty_record}
 use Rattle.records.specs.Code.{records}
 use Rattle.blocks.specs.Code.{in_block}
 use Rattle.selection.specs.Code.{is_open}
-use Rattle.selection.proofs.WalkLaws.{Walked, nth_in, walked_none, walked_more, walked_all, walked_before, before_block}
+use Rattle.selection.proofs.WalkLaws.{Walked}
 use Rattle.selection.proofs.open_nodes.first_open.Given as goal
 
 abbrev pub invariant-loop-c : goal.invariant-loop-c

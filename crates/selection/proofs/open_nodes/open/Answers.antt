@@ -1,6 +1,5 @@
 -- `open` meets its contract: what is above the limit is not open, and another record is if its size is not n.
 use mathlib.Core.Path.{sym}
-use borrow.Author.Rules.{rules}
 use lib.ListN.{get_or}
 use Rattle.stops.specs.Code.{empty_record}
 use Rattle.records.specs.Code.{records}

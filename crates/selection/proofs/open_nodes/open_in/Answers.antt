@@ -1,13 +1,13 @@
 -- The goals of `open_nodes::open_in` that the search leaves.
 use mathlib.Core.Path.{◌≡◌, sym, ◌∙◌}
 use mathlib.Core.Bool.{false}
-use Prim.Native.Nat.{ℕ, ◌-◌, ◌≤◌, ◌<◌}
+use Prim.Native.Nat.{ℕ, ◌≤◌, ◌<◌}
 use native.Mathlib.Omega.{arith}
 use lib.ListN.{get_or}
 use Rattle.stops.specs.Code.{empty_record}
 use Rattle.records.specs.Code.{records}
 use Rattle.selection.specs.Code.{is_open}
-use Rattle.selection.proofs.WalkLaws.{Walked, nth_in, walked_none, walked_more, walked_all, walked_before}
+use Rattle.selection.proofs.WalkLaws.{nth_in, walked_none, walked_more, walked_all, walked_before}
 use Rattle.selection.proofs.open_nodes.open_in.Goals as goal
 use Rattle.selection.proofs.open_nodes.open_in.Goals.{After-nth-i}
 

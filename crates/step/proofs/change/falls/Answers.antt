@@ -1,5 +1,4 @@
 -- `falls` meets its contract.
-use borrow.Author.Rules.{rules}
 use Rattle.step.proofs.change.falls.Goals as goal
 
 pub returns-then-on : goal.returns-then-on

@@ -1,6 +1,4 @@
 -- `holding` meets its contract.
-use native.Mathlib.Omega.{arith}
-use borrow.Author.Rules.{rules}
 use Rattle.step.proofs.change.holding.Goals as goal
 
 pub returns-then-on : goal.returns-then-on

@@ -1,5 +1,4 @@
 -- `taking_of` meets its contract.
-use borrow.Author.Rules.{rules}
 use Rattle.step.proofs.change.taking_of.Goals as goal
 
 pub returns-then-on : goal.returns-then-on

@@ -1,7 +1,6 @@
 -- `stops::bound::ahead` meets its contract: with no stop left it is the leg home, else the remainder for close and nothing for plain.
 use mathlib.Core.Path.{sym, ◌∙◌}
 use native.Mathlib.Omega.{arith}
-use borrow.Author.Rules.{rules}
 use Rattle.stops.specs.Legs.{legs}
 use Rattle.stops.specs.Code.{reckoning, reckon_on}
 use Rattle.stops.proofs.SetLoops.{ahead_none, ahead-plain, ahead-close}

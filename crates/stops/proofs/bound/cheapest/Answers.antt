@@ -2,11 +2,8 @@
 use mathlib.Core.Path.{ap, ◌∙◌}
 use Prim.Native.Nat.{min}
 use native.Mathlib.Omega.{arith}
-use borrow.Author.Rules.{rules}
-use Rattle.lists.specs.Lists.{least}
 use Rattle.stops.specs.Legs.{row_leg}
-use Rattle.stops.specs.Code.{stops_in}
-use Rattle.stops.proofs.SetLoops.{Lowered, lowered_starts, lowered_again, lowered_ends}
+use Rattle.stops.proofs.SetLoops.{lowered_starts, lowered_again, lowered_ends}
 use Rattle.stops.proofs.bound.cheapest.Goals as goal
 
 pub loop-left-init : goal.loop-left-init

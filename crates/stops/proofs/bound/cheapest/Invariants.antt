@@ -1,13 +1,9 @@
 -- `stops::bound::cheapest` meets its contract. The loop's invariant: the least of what it has and of the legs from the stops left is the
 -- cheapest leg. The measure is the set of the stops left, as a number.
-use mathlib.Core.Path.{ap, ◌∙◌}
-use Prim.Native.Nat.{min}
-use native.Mathlib.Omega.{arith}
-use borrow.Author.Rules.{rules}
 use Rattle.lists.specs.Lists.{least}
 use Rattle.stops.specs.Legs.{row_leg}
 use Rattle.stops.specs.Code.{stops_in}
-use Rattle.stops.proofs.SetLoops.{Lowered, lowered_starts, lowered_again, lowered_ends}
+use Rattle.stops.proofs.SetLoops.{Lowered}
 use Rattle.stops.proofs.bound.cheapest.Given as goal
 
 abbrev pub invariant-loop-left : goal.invariant-loop-left

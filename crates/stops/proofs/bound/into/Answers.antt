@@ -3,7 +3,6 @@
 use mathlib.Core.Path.{ap₂, ◌∙◌}
 use Prim.Native.Nat.{min}
 use native.Mathlib.Omega.{arith}
-use borrow.Author.Rules.{rules}
 use Rattle.stops.specs.Legs.{row_leg}
 use Rattle.stops.proofs.SetLoops.{least_alone, least_beside}
 use Rattle.stops.proofs.bound.into.Goals as goal

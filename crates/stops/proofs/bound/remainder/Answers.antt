@@ -2,14 +2,13 @@
 use mathlib.Core.Path.{◌≡◌, ap}
 use Prim.Native.Nat.{ℕ, ◌+◌, ◌*◌, ◌≤◌}
 use native.Mathlib.Omega.{arith}
-use borrow.Author.Rules.{rules}
 use Rattle.sizes.specs.Sizes.{places, dearest}
 use Rattle.lists.specs.Lists.{In}
 use Rattle.stops.specs.Legs.{legs}
 use Rattle.stops.specs.Bounds.{cheapest_into, remainder}
 use Rattle.stops.specs.Code.{stops_in}
 use Rattle.stops.proofs.SetBits.{stops_in_few}
-use Rattle.stops.proofs.SetLoops.{Summed, summed_starts, summed_most, summed_again, summed_ends, into_set, remainder_small}
+use Rattle.stops.proofs.SetLoops.{summed_starts, summed_most, summed_again, summed_ends, into_set, remainder_small}
 use Rattle.stops.proofs.bound.remainder.Goals as goal
 use Rattle.stops.proofs.bound.remainder.Goals.{After-into-sum, After-next-s, Start}
 

@@ -1,17 +1,10 @@
 -- `stops::bound::remainder` meets its contract. The loop's invariant: the sum so far and the cheapest legs into the stops left make the
 -- remainder, and the stops left are of the set. The remainder is at most the dearest cost for each place, so no sum on the way wraps. The measure is the
 -- set of the stops left, as a number.
-use mathlib.Core.Path.{◌≡◌, ap}
-use Prim.Native.Nat.{ℕ, ◌+◌, ◌*◌, ◌≤◌}
-use native.Mathlib.Omega.{arith}
-use borrow.Author.Rules.{rules}
-use Rattle.sizes.specs.Sizes.{places, dearest}
-use Rattle.lists.specs.Lists.{In}
 use Rattle.stops.specs.Legs.{legs}
 use Rattle.stops.specs.Bounds.{cheapest_into, remainder}
 use Rattle.stops.specs.Code.{stops_in}
-use Rattle.stops.proofs.SetBits.{stops_in_few}
-use Rattle.stops.proofs.SetLoops.{Summed, summed_starts, summed_most, summed_again, summed_ends, into_set, remainder_small}
+use Rattle.stops.proofs.SetLoops.{Summed}
 use Rattle.stops.proofs.bound.remainder.Given as goal
 
 abbrev pub invariant-loop-left : goal.invariant-loop-left

@@ -1,11 +1,11 @@
 -- The goals of `cost::order_cost` that the search leaves.
-use Prim.Native.Nat.{◌*◌, ◌-◌, ◌≤◌}
+use Prim.Native.Nat.{◌*◌, ◌≤◌}
 use native.Mathlib.Omega.{arith}
-use lib.ListN.{length, get_or}
+use lib.ListN.{get_or}
 use Rattle.sizes.specs.Sizes.{most_stops, places, dearest}
 use Rattle.lists.proofs.Elements.{get_or_small}
 use Rattle.stops.specs.Legs.{legs, cost}
-use Rattle.stops.proofs.Paths.{cost_small, Spent, spent_none, spent_more, spent_whole}
+use Rattle.stops.proofs.Paths.{cost_small, spent_none, spent_more, spent_whole}
 use Rattle.stops.proofs.cost.order_cost.Goals as goal
 use Rattle.stops.proofs.cost.order_cost.Goals.{In-loop-k, Start}
 

@@ -1,12 +1,10 @@
 -- `stops::cost::order_cost` meets its contract. The loop's invariant: `Spent`, and that it has got to one of the places. No sum on the way
 -- is above the cost, which is at most the dearest for each place, so none wraps. The measure is how many stops are left.
-use Prim.Native.Nat.{◌*◌, ◌-◌, ◌≤◌}
-use native.Mathlib.Omega.{arith}
-use lib.ListN.{length, get_or}
-use Rattle.sizes.specs.Sizes.{most_stops, places, dearest}
-use Rattle.lists.proofs.Elements.{get_or_small}
-use Rattle.stops.specs.Legs.{legs, cost}
-use Rattle.stops.proofs.Paths.{cost_small, Spent, spent_none, spent_more, spent_whole}
+use Prim.Native.Nat.{◌-◌, ◌≤◌}
+use lib.ListN.{length}
+use Rattle.sizes.specs.Sizes.{most_stops}
+use Rattle.stops.specs.Legs.{legs}
+use Rattle.stops.proofs.Paths.{Spent}
 use Rattle.stops.proofs.cost.order_cost.Given as goal
 
 abbrev pub invariant-loop-k : goal.invariant-loop-k

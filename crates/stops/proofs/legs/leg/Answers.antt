@@ -1,6 +1,5 @@
 -- `stops::legs::leg` meets its contract.
 use mathlib.Core.Path.{refl}
-use native.Mathlib.Omega.{arith}
 use Rattle.stops.specs.Legs.{row_leg}
 use Rattle.stops.proofs.legs.leg.Goals as goal
 

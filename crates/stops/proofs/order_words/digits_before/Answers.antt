@@ -1,8 +1,7 @@
 -- The goals of `order_words::digits_before` that the search leaves.
-use mathlib.Core.Path.{◌≡◌, refl, ap, sym, ◌∙◌}
+use mathlib.Core.Path.{refl, ap, sym, ◌∙◌}
 use Prim.Native.Nat.{ℕ}
 use native.Mathlib.Omega.{arith}
-use Rattle.sizes.specs.Sizes.{word_stops}
 use Rattle.stops.specs.Code.{digits_before}
 use Rattle.stops.proofs.WordsBefore.{digits_differ, digits_agree}
 use Rattle.stops.proofs.order_words.digits_before.Goals as goal

@@ -1,10 +1,7 @@
 -- `digits_before` meets its contract. The invariant: the digits left tell what all of them do. The measure is how many are left.
-use mathlib.Core.Path.{◌≡◌, refl, ap, sym, ◌∙◌}
-use Prim.Native.Nat.{ℕ}
-use native.Mathlib.Omega.{arith}
+use mathlib.Core.Path.{◌≡◌}
 use Rattle.sizes.specs.Sizes.{word_stops}
 use Rattle.stops.specs.Code.{digits_before}
-use Rattle.stops.proofs.WordsBefore.{digits_differ, digits_agree}
 use Rattle.stops.proofs.order_words.digits_before.Given as goal
 
 abbrev pub invariant-loop-left : goal.invariant-loop-left

@@ -1,6 +1,5 @@
 -- `words_before` meets its contract: the first words tell, or where these are equal the second.
 use mathlib.Core.Path.{sym, ◌∙◌}
-use borrow.Author.Rules.{rules}
 use Rattle.stops.proofs.WordsBefore.{firsts_differ, firsts_agree}
 use Rattle.stops.proofs.order_words.words_before.Goals as goal
 

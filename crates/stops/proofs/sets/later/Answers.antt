@@ -2,7 +2,6 @@
 -- and that one is the first stop's.
 use mathlib.Core.Path.{◌∙◌, ap}
 use Prim.Native.Nat.{ℕ, ◌-◌, ◌^◌}
-use native.Mathlib.Omega.{arith}
 use Rattle.stops.proofs.SetAnd.{stops_in-later}
 use Rattle.stops.proofs.SetLoops.{first_only}
 use Rattle.stops.proofs.sets.later.Goals as goal

@@ -1,5 +1,4 @@
 -- `stops::table::further` meets its contract: what a stop adds is what flying there costs.
-use native.Mathlib.Omega.{arith}
 use Rattle.stops.specs.Legs.{legs}
 use Rattle.stops.specs.Code.{reckoning, reckon_on}
 use Rattle.stops.proofs.table.further.Goals as goal

@@ -1,9 +1,7 @@
 -- The goals of `table::row` that the search leaves.
-use mathlib.Core.Path.{◌≡◌, ◌∙◌}
-use Prim.Native.Nat.{suc, ◌≤◌, ◌-◌}
+use mathlib.Core.Path.{◌∙◌}
 use native.Mathlib.Omega.{arith}
-use Rattle.stops.specs.Tables.{flying}
-use Rattle.stops.proofs.RowLaws.{filled, filled_none, filled_more, filled_row}
+use Rattle.stops.proofs.RowLaws.{filled_none, filled_more, filled_row}
 use Rattle.stops.proofs.table.row.Goals as goal
 
 pub flying-requires : goal.flying-requires

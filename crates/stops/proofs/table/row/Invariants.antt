@@ -1,10 +1,9 @@
 -- `stops::table::row` meets its contract. The loop's invariant: the array is filled with what flying costs to the places before j, with zeros
 -- behind. The measure is what is left of n + 1.
-use mathlib.Core.Path.{◌≡◌, ◌∙◌}
+use mathlib.Core.Path.{◌≡◌}
 use Prim.Native.Nat.{suc, ◌≤◌, ◌-◌}
-use native.Mathlib.Omega.{arith}
 use Rattle.stops.specs.Tables.{flying}
-use Rattle.stops.proofs.RowLaws.{filled, filled_none, filled_more, filled_row}
+use Rattle.stops.proofs.RowLaws.{filled}
 use Rattle.stops.proofs.table.row.Given as goal
 
 abbrev pub invariant-loop-j : goal.invariant-loop-j

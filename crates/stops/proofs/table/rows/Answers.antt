@@ -1,12 +1,9 @@
 -- The goals of `table::rows` that the search leaves.
 use mathlib.Core.Path.{◌≡◌, sym, ap, ◌∙◌}
 use mathlib.Core.Bool.{Bool, false}
-use Prim.Native.Nat.{suc, ◌≤◌, ◌-◌}
 use native.Mathlib.Omega.{arith}
-use borrow.Author.Rules.{rules}
 use Rattle.stops.specs.Tables.{rows}
-use Rattle.stops.specs.Code.{row_of}
-use Rattle.stops.proofs.RowLaws.{zeros, filled, filled_none, filled_more, filled-rows, uncounted, uncounted-none, uncounted_more, uncounted-all}
+use Rattle.stops.proofs.RowLaws.{zeros, filled_none, filled_more, filled-rows, uncounted-none, uncounted_more, uncounted-all}
 use Rattle.stops.proofs.table.rows.Goals as goal
 use Rattle.stops.proofs.table.rows.Goals.{After-ends_away}
 

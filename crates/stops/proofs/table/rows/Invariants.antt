@@ -1,13 +1,9 @@
 -- `stops::table::rows` meets its contract. The first loop's invariant: the rows before i are those of the table, with rows of zeros behind. The
 -- second's: the rows before s have lost their legs home. The measures are what is left of n + 1.
-use mathlib.Core.Path.{◌≡◌, sym, ap, ◌∙◌}
-use mathlib.Core.Bool.{Bool, false}
+use mathlib.Core.Path.{◌≡◌}
 use Prim.Native.Nat.{suc, ◌≤◌, ◌-◌}
-use native.Mathlib.Omega.{arith}
-use borrow.Author.Rules.{rules}
-use Rattle.stops.specs.Tables.{rows}
 use Rattle.stops.specs.Code.{row_of}
-use Rattle.stops.proofs.RowLaws.{zeros, filled, filled_none, filled_more, filled-rows, uncounted, uncounted-none, uncounted_more, uncounted-all}
+use Rattle.stops.proofs.RowLaws.{zeros, filled, uncounted}
 use Rattle.stops.proofs.table.rows.Given as goal
 
 abbrev pub invariant-loop-i : goal.invariant-loop-i

@@ -1,12 +1,10 @@
 -- The goals of `table::small` that the search leaves.
-use Prim.Native.Nat.{◌≤◌, ◌-◌}
 use mathlib.Core.Path.{refl}
 use native.Mathlib.Omega.{arith}
 use lib.Dec.{ltb}
-use lib.ListN.{length}
 use borrow.Author.Tests.{lt-ltb, le-ltb}
 use Rattle.sizes.specs.Sizes.{dearest_leg}
-use Rattle.lists.proofs.Elements.{Rest, any_finds, any_skips, any-ends}
+use Rattle.lists.proofs.Elements.{any_finds, any_skips, any-ends}
 use Rattle.stops.proofs.table.small.Goals as goal
 
 pub returns-then-table-k-gt-DEAREST_LEG : goal.returns-then-table-k-gt-DEAREST_LEG

@@ -1,13 +1,10 @@
 -- `stops::table::small` meets its contract. The loop's invariant: whether some number is above the dearest leg lies with the numbers from k
 -- on. The measure is what is left of the length.
 use Prim.Native.Nat.{◌≤◌, ◌-◌}
-use mathlib.Core.Path.{refl}
-use native.Mathlib.Omega.{arith}
 use lib.Dec.{ltb}
 use lib.ListN.{length}
-use borrow.Author.Tests.{lt-ltb, le-ltb}
 use Rattle.sizes.specs.Sizes.{dearest_leg}
-use Rattle.lists.proofs.Elements.{Rest, any_finds, any_skips, any-ends}
+use Rattle.lists.proofs.Elements.{Rest}
 use Rattle.stops.proofs.table.small.Given as goal
 
 abbrev pub invariant-loop-k : goal.invariant-loop-k

@@ -1,8 +1,7 @@
 -- The goals of `table::small_charges` that the search leaves.
 use mathlib.Core.Path.{refl}
-use Prim.Native.Nat.{suc, ◌≤◌, ◌-◌}
 use native.Mathlib.Omega.{arith}
-use Rattle.stops.proofs.RowLaws.{Clear, charge_finds, charge_skips, charges_end}
+use Rattle.stops.proofs.RowLaws.{charge_finds, charge_skips, charges_end}
 use Rattle.stops.proofs.table.small_charges.Goals as goal
 
 pub charge-requires : goal.charge-requires

@@ -1,7 +1,6 @@
 -- `Record::dominates` meets its contract: each `return` is decided by one thing that `rec_dominates` asks (`Dominance`).
 use mathlib.Core.Path.{◌∙◌}
 use native.Mathlib.Omega.{arith}
-use borrow.Author.Rules.{rules}
 use Rattle.stops.specs.Code.{rec_smaller}
 use Rattle.stops.proofs.Dominance.{refused, path_dearer, path_cheaper, paths_agree}
 use Rattle.stops.proofs.node_record.Record.dominates.Goals as goal

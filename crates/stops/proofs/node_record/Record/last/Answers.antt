@@ -6,7 +6,6 @@ use borrow.Author.Tests.{eq-eqb, ne_eqb, le-leb, lt-leb}
 use Rattle.sizes.specs.Sizes.{most_stops, word_stops}
 use Rattle.stops.specs.Code.{last_stop}
 use Rattle.stops.proofs.Digits.{digit_pow}
-use borrow.Author.Rules.{rules}
 use Rattle.stops.proofs.node_record.Record.last.Goals as goal
 
 pub returns-then-size-eq0 : goal.returns-then-size-eq0
