@@ -1,0 +1,12 @@
+-- `put_line` meets its contract: the name, the number and the line's end.
+use native.Mathlib.Omega.{arith}
+use lib.ListN.{length-set}
+use Rattle.printing.proofs.PutLaws.{put_last, put_then}
+use Rattle.printing.proofs.put.put_line.Goals as goal
+
+pub returns : goal.returns
+returns c =
+    (put_last (put_then c.put_bytes-from.ensures c.put_decimal-end.ensures.0) 10, omega arith)
+
+pub shape_of-buffer : goal.shape_of-buffer
+shape_of-buffer c = simp length-set (omega arith)
