@@ -18,6 +18,7 @@ use Rattle.lists.proofs.Tests.{to_true, ordered}
 use Rattle.lists.proofs.Members.{in_head}
 use Rattle.first_answer.specs.Nearest.{cheapest}
 use Rattle.first_answer.specs.Request.{FirstCheapest}
+use Rattle.first_answer.specs.Examples
 
 module _ {A : Type 0} (f : A → ℕ) where
   -- a cheaper element takes the place of the one before it

@@ -12,6 +12,7 @@ use Rattle.lists.proofs.Tests.{compared}
 use Rattle.orders.specs.Orders.{Node, Order, count}
 use Rattle.orders.proofs.Order.{count_set, order_counts}
 use Rattle.first_answer.specs.Exchanges.{exchanged}
+use Rattle.first_answer.specs.Examples
 
 module _ (x : Node) where
   pub exchanged-length : (p q : ℕ) → length (exchanged x p q) ≡ length x

@@ -19,6 +19,7 @@ use Rattle.lists.proofs.Map.{map-from}
 use Rattle.lists.proofs.Members.{in_head, length_from}
 use Rattle.job_format.specs.Bytes.{least_first, value_of, word, word_at, overwrite, AllBytes}
 use Rattle.job_format.specs.Reader.{words_in}
+use Rattle.job_format.specs.Cases
 
 pub overwrite-none : (buffer : List ℕ) → buffer ≡ overwrite [] buffer
 unfolding overwrite

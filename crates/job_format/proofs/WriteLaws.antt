@@ -18,6 +18,7 @@ use Rattle.job_format.specs.Bytes.{overwrite}
 use Rattle.job_format.specs.Contents.{Contents, bytes_of}
 use Rattle.job_format.specs.Writer.{Writing, write_cause, writing_by, write}
 use Rattle.job_format.specs.Demands.{Passes}
+use Rattle.job_format.specs.Cases
 
 module _ (c : Contents) (buffer : List ℕ) where
   by_number : (k : ℕ) → write_cause c buffer ≡ k → write c buffer ≡ writing_by k c buffer
