@@ -1,4 +1,1 @@
 pub mod Indices
-pub mod Walk
-pub mod Reading
-pub mod Extending

@@ -1,6 +1,6 @@
 // Node records in a run that a host holds: thin functions over `&[Record]` and `&mut [Record]`, open to a host. Their answers are those of
-// crate `node_answers`. Those that inspect or extend a record take it apart and call a covered function of crate `inspection` on its
-// words, which carries the meaning. Nothing is asked of the arguments: an index past the end gives an answer that says so, and changes
+// crate `node_answers`. Those that inspect or extend a record take it apart and call a function of crate `inspection` on its words,
+// which carries the meaning. Nothing is asked of the arguments: an index past the end gives an answer that says so, and changes
 // nothing.
 #![tactic(auto)]
 
