@@ -1,6 +1,7 @@
 -- A stop and its leg on a record: what `extend::fits_on` tests is whether they fit, and what `extended` makes of a record that they fit on
 -- is the longer one.
---   unfit, unfit_record, unfit_stop, unfit_flown    where they do not fit
+--   unfit, unfit_record, unfit_stop, unfit_above,   where they do not fit
+--   unfit_flown
 --   fits_last                                       what is left to test
 --   fits_wide, fits-extended                        where they fit
 use mathlib.Core.Path.{◌≡◌, refl, ap, sym, ◌∙◌, subst}
@@ -47,6 +48,9 @@ module _ (x : Record) (stop leg : ℕ) where
       go : (stop ≡ 0) ⊎ (most_stops < stop) → (1 ≤ stop) × (stop ≤ most_stops) × T (not (flown (flown_stops x) stop)) → ⊥
       go (inl e) h = absurd (omega (arith, h.0))
       go (inr k) h = absurd (omega (arith, h.1))
+
+  pub unfit_above : most_stops < stop → false ≡ fits x stop leg
+  unfit_above h = unfit_stop (inr h)
 
   -- a record that is a node's, and a stop of 1 to 16: its set holds the stop just when the node flies it
   module _ (node : is_node most_stops x ≡ true) (some : 1 ≤ stop) (few : stop ≤ most_stops) where

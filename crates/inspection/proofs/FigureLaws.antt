@@ -93,11 +93,13 @@ module _ (x : Record) (job : Job) (table : List ℕ) where
   unfolding figures
   figures_outside = refl
 
-  pub figures-refused : (number : ℕ) → number ≡ job_cause job table [] 0 → number ≢ 0 → no_figures true number ≡ figures true x job table
+  pub figures_refused :
+      (inside : Bool) → inside ≡ true → job_cause job table [] 0 ≢ 0
+      → figures inside x job table ≡ no_figures true (job_cause job table [] 0)
   unfolding figures figures_by
-  figures-refused number e h = rw (← e) (go (is_node job.n x) number h)
+  figures_refused inside e h = rw e (go (is_node job.n x) (job_cause job table [] 0) h)
     where
-      go : (b : Bool) (k : ℕ) → k ≢ 0 → no_figures true k ≡ figures_by b k x job (day_on job.n (rows job.n (ends_away job.bound) table))
+      go : (b : Bool) (k : ℕ) → k ≢ 0 → figures_by b k x job (day_on job.n (rows job.n (ends_away job.bound) table)) ≡ no_figures true k
       go true zero h = absurd (h refl)
       go true (suc k) h = refl
       go false k h = refl

@@ -72,6 +72,7 @@ fn reckoned(size: u32, set: u32, first: u32, second: u32, job: Job, table: &[u32
 }
 
 // The figures of a record; none for one that is not inside, whose job has a cause, or that is no node's.
+#[tactic(auto, using(crate::proofs::FigureLaws::figures_refused))]
 pub fn figures_of(
     inside: bool,
     size: u32,

@@ -16,6 +16,7 @@ pub struct Added {
 }
 
 // Whether a stop and its leg fit on a record.
+#[tactic(auto, using(crate::proofs::ExtendLaws::unfit_above))]
 fn fits_on(x: Record, added: Added) -> bool
     ensures { result ≡ fits x added.stop added.leg }
 {

@@ -1,16 +1,15 @@
 -- `extend::fits_on` meets its contract: each `return` is a test of `fits` that fails, and the last one is the test that is left
--- (`ExtendLaws`).
+-- (`ExtendLaws`). That a stop above 16 does not fit is found by `unfit_above`.
 use mathlib.Core.Path.{◌≡◌, sym, ◌∙◌}
 use mathlib.Core.Bool.{true}
-use mathlib.Core.Logic.{inl, inr}
-use Prim.Native.Nat.{◌≤◌}
+use mathlib.Core.Logic.{inl}
 use native.Mathlib.Omega.{arith}
 use borrow.Author.Rules.{rules}
 use Rattle.sizes.specs.Sizes.{most_stops}
 use Rattle.node_answers.specs.Nodes.{is_node}
 use Rattle.inspection.proofs.ExtendLaws.{node_same, unfit_record, unfit_stop, unfit_flown, fits_last}
 use Rattle.inspection.proofs.extend.fits_on.Goals as goal
-use Rattle.inspection.proofs.extend.fits_on.Goals.{Else-added-gt-MOST_STOPS, Else-not-is_record}
+use Rattle.inspection.proofs.extend.fits_on.Goals.{Else-not-is_record}
 
 pub returns-then-not-is_record : goal.returns-then-not-is_record
 returns-then-not-is_record c =
@@ -28,25 +27,16 @@ returns-then-added-eq0 c =
     let a = c.args in
     unfit_stop a.x a.added.stop a.added.leg (inl c.if-added-eq0.true)
 
-pub returns-then-added-gt-MOST_STOPS : goal.returns-then-added-gt-MOST_STOPS
-returns-then-added-gt-MOST_STOPS c =
-    let a = c.args in
-    unfit_stop a.x a.added.stop a.added.leg (inr c.if-added-gt-MOST_STOPS.true)
-
--- the stop is one of 1 to 16
-some : (c : Else-added-gt-MOST_STOPS) → 1 ≤ c.args.added.stop
-some c = let h = c.if-added-eq0.false in omega arith
-
 pub returns-then-holds : goal.returns-then-holds
 returns-then-holds c =
     let a = c.args in
     let g = goal.at.returns-then-holds c in
-    unfit_flown a.x a.added.stop a.added.leg (node g.Else-not-is_record) (some g.Else-added-gt-MOST_STOPS) c.if-added-gt-MOST_STOPS.false
+    unfit_flown a.x a.added.stop a.added.leg (node g.Else-not-is_record) (omega arith) (omega arith)
     (sym c.holds.ensures ∙ c.if-holds.true)
 
 pub returns : goal.returns
 returns c =
     let a = c.args in
     let g = goal.at.returns c in
-    fits_last a.x a.added.stop a.added.leg (node g.Else-not-is_record) (some g.Else-added-gt-MOST_STOPS) c.if-added-gt-MOST_STOPS.false
+    fits_last a.x a.added.stop a.added.leg (node g.Else-not-is_record) (omega arith) (omega arith)
     (sym c.holds.ensures ∙ c.if-holds.false) (search rules)
