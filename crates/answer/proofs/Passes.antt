@@ -24,6 +24,11 @@ use Rattle.records.specs.Records.{records_in}
 use Rattle.answer.specs.Call.{Call}
 use Rattle.answer.specs.declared.Job.{Job}
 use Rattle.answer.specs.Checks.{cause₁, cause₂, cause₃, no_such_bound, cause₄, cause₅, cause₁₁, against_pairs, cause₆, is_empty, or_later, table_cause, first_cause, job_cause, pair_cause, pool_cause, cause}
+use Rattle.answer.specs.Cases
+use Rattle.answer.specs.BudgetCases
+use Rattle.answer.specs.ChargeCases
+use Rattle.answer.specs.AwayCases
+use Rattle.answer.specs.PairCases
 
 pub record TablePasses (n : ℕ) (table : List ℕ) : Type 0 where
   pub some : 1 ≤ n

@@ -33,6 +33,7 @@ use Rattle.stops.specs.Tables.{rows}
 use Rattle.stops.specs.Legs.{Legs, legs, path, cost}
 use Rattle.stops.specs.Bounds.{cheapest_into, remainder, close, ends_away, bound_by}
 use Rattle.stops.specs.Stops.{day, day_on}
+use Rattle.carried.specs.Examples
 use Rattle.carried.specs.Carried.{held_sum, among, from_place, correction, carried_sum, carried_home, carried, carried_bound, CarriedIsClose, CarriedOnEveryDay}
 
 -- a choice of which the second, where it is taken, is the same as the first

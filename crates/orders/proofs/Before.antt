@@ -14,6 +14,7 @@ use Rattle.lists.proofs.Tests.{and_left, and_right, and_both, or_cases, or_left,
 use Rattle.lists.proofs.Members.{in_head, in_behind}
 use Rattle.orders.specs.Orders.{Node, extend}
 use Rattle.orders.specs.Pairs.{before}
+use Rattle.orders.specs.Examples
 
 pub before_met : (a b : ℕ) (y z : Node) → a ≢ b → (In b y → ⊥) → T (before a b (y ++ (b ∷ z))) → In a y
 before_met a b [] z apart new h = absurd (go (or_cases (eqb b a) (not (eqb b b) && before a b z) h))

@@ -17,6 +17,7 @@ use Rattle.lists.proofs.Empty.{no_members}
 use Rattle.lists.proofs.Numbers.{keep_parts}
 use Rattle.lists.proofs.Keep.{keep_same, keep-keep, any_append}
 use Rattle.lists.proofs.Distinct.{length_without}
+use Rattle.orders.specs.Examples
 use Rattle.orders.specs.Orders.{Node, stops, flown, set_of, left, last_from, last, size, extend, extensions}
 
 -- the stops 1 to n

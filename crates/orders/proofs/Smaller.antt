@@ -14,6 +14,7 @@ use lib.Dec.{T, not_T, ltb, eqb}
 use lib.ListN.{length}
 use Rattle.lists.proofs.Tests.{to_false, compared, ordered, Tied, tied_cases, cases_tied}
 use Rattle.orders.specs.Orders.{Node, smaller, NoLarger}
+use Rattle.orders.specs.Examples
 
 -- one of two numbers is the lesser, or they are the same
 sides : (s t : ℕ) → (s < t) ⊎ ((s ≡ t) ⊎ (t < s))

@@ -17,6 +17,7 @@ use Rattle.orders.specs.Orders.{Node, flown, set_of, left, mask, size, extend}
 use Rattle.orders.proofs.Sets.{distinct-left, left-extend, size-extend}
 use Rattle.stops.specs.Code.{stops_in}
 use Rattle.stops.proofs.SetBits.{stops_in-ones, stops_in-mask, stops_in-others, mask_small, mask-others, all_small}
+use Rattle.records.specs.Examples
 
 pub mask-stops : (n : ℕ) (x : Node) → mask (set_of n x) + mask (left n x) ≡ 2 ^ n - 1
 unfolding mask set_of left

@@ -23,6 +23,7 @@ use Rattle.lists.proofs.Members.{in_head}
 use Rattle.lists.proofs.Tests.{ordered}
 use Rattle.orders.specs.Orders.{Node, extend}
 use Rattle.records.specs.Records.{order_word, stop_at}
+use Rattle.records.specs.Examples
 
 -- each stop fits a digit
 abbrev pub Digits : Node → Type 0

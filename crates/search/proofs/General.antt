@@ -17,6 +17,7 @@ use Rattle.search.specs.Problem.{Problem, State, upper}
 use Rattle.search.specs.Selection.{Choice, nothing, chosen}
 use Rattle.search.specs.Step.{survivors, lost, learn}
 use Rattle.search.specs.Run.{with_branched}
+use Rattle.search.specs.Examples
 
 pub record Tree (N : Type 0) : Type 0 where
   pub problem : Problem N

@@ -19,6 +19,7 @@ use Rattle.days.specs.Days.{Closer}
 use Rattle.stops.specs.Legs.{Legs}
 use Rattle.stops.specs.Bounds.{is_close, cheapest_into, remainder}
 use Rattle.stops.specs.Code.{ahead_by, ahead}
+use Rattle.stops.specs.Examples
 
 -- The stop s, one of the distinct stops `rest`, is flown to from a place. The remainder falls by at most that leg:
 --   into each other stop r, the candidates afterwards are s and the others left, which were candidates before, so the cheapest leg

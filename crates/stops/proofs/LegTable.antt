@@ -22,6 +22,7 @@ use Rattle.lists.proofs.Elements.{get_or-from, get_d_past, get_or_small}
 use Rattle.stops.specs.Tables.{entry, charge, flying, counted, in_rows, rows}
 use Rattle.stops.specs.Legs.{row_leg, legs}
 use Rattle.stops.specs.Code.{Priced, Cheap}
+use Rattle.stops.specs.Examples
 
 -- on a day that ends away the legs to the stops count what they cost
 pub counted_stop : (away : Bool) (costs : ℕ → ℕ → ℕ) (i j : ℕ) → 1 ≤ j → counted away costs i j ≡ costs i j

@@ -18,6 +18,7 @@ use Rattle.orders.proofs.Partial.{partial_size}
 use Rattle.stops.specs.Legs.{Legs, path_from, path, cost}
 use Rattle.stops.specs.Bounds.{dominates}
 use Rattle.stops.specs.Code.{Within, Cheap, Reckonable}
+use Rattle.stops.specs.Examples
 
 module _ (L : Legs) where
   path_from-append : (place : ℕ) (x y : Node) → path_from L place (x ++ y) ≡ path_from L place x + path_from L (last_from place x) y

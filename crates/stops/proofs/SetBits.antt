@@ -28,6 +28,7 @@ use Rattle.lists.proofs.Distinct.{without_absent}
 use Rattle.orders.specs.Orders.{flown, set_of, left, mask}
 use Rattle.orders.proofs.Sets.{empty_set}
 use Rattle.stops.specs.Code.{bits, stops_in}
+use Rattle.stops.specs.Examples
 
 -- Digits k s m xs: m has k digits, and xs are the stops of those that are set, where the lowest digit stands for stop s. A number is
 -- twice its half h, and then its lowest digit is clear, or one more, and then it is set.

@@ -26,6 +26,7 @@ use Rattle.lists.proofs.Numbers.{sum_mono, sum_const, least_small}
 use Rattle.stops.specs.Legs.{Legs, row_leg, legs}
 use Rattle.stops.specs.Bounds.{is_close, cheapest_into, remainder}
 use Rattle.stops.specs.Code.{stops_in, First, ahead_by, ahead, Within}
+use Rattle.stops.specs.Examples
 use Rattle.stops.proofs.SetBits.{stops_in_zero, stops_in-next, stops_in-without}
 use Rattle.stops.proofs.SetJoin.{stops_in_ascends}
 

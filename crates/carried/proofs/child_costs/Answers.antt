@@ -15,8 +15,8 @@ use Rattle.carried.proofs.child_costs.Goals.{Start}
 sums : (c : Start) → (1 ≤ 2 ^ c.args.n) × (2 ^ c.args.n ≤ 2 ^ most_stops)
 sums c = all_small c.args.n c.requires.0
 
-rest-is : (c : Start) → 1 * 2 ^ c.args.n % 2 ^ 32 - 1 - c.args.b.set ≡ 2 ^ c.args.n - 1 - c.args.b.set
-rest-is c = omega (arith, sums c)
+rest_is : (c : Start) → 1 * 2 ^ c.args.n % 2 ^ 32 - 1 - c.args.b.set ≡ 2 ^ c.args.n - 1 - c.args.b.set
+rest_is c = omega (arith, sums c)
 
 pub family_by-family-requires : goal.family_by-family-requires
 family_by-family-requires c =
@@ -27,7 +27,7 @@ returns c =
     record {
       legs = ap (λ (i : ℕ). get_or c.args.t i []) c.last-place.ensures;
       gives =
-          subst (λ (rest : ℕ). Gives c.args.t c.args.bound rest c.family_by-family.result c.family_by-family.new.into) (rest-is (goal.at.returns c).Start)
+          subst (λ (rest : ℕ). Gives c.args.t c.args.bound rest c.family_by-family.result c.family_by-family.new.into) (rest_is (goal.at.returns c).Start)
           c.family_by-family.ensures;
     }
 

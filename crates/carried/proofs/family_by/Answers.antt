@@ -16,19 +16,19 @@ more : (c : After-later) → 0 < c.later.result → Several c.args.rest
 more c h = several c.args.rest c.later.result (omega arith) c.requires.0 c.later.ensures h
 
 -- a family of which only the total counts leaves the zeros as they came
-zeros-stay :
+zeros_stay :
     (c : Start) (x : Family) (total : ℕ) → x ≡ family_of total
     → Gives c.args.t.now c.args.bound c.args.rest (family_of total) (replicate places 0)
     → Gives c.args.t.now c.args.bound c.args.rest x c.args.into.now
-zeros-stay c x total e g = rw (e, c.requires.1.1) g
+zeros_stay c x total e g = rw (e, c.requires.1.1) g
 
 pub returns-then-rest-eq0 : goal.returns-then-rest-eq0
 returns-then-rest-eq0 c =
-    zeros-stay (goal.at.returns-then-rest-eq0 c).Start _ 0 c.only_total.ensures (gives_none c.args.t.now c.args.bound c.args.rest (omega arith))
+    zeros_stay (goal.at.returns-then-rest-eq0 c).Start _ 0 c.only_total.ensures (gives_none c.args.t.now c.args.bound c.args.rest (omega arith))
 
 pub returns-then-later-eq0 : goal.returns-then-later-eq0
 returns-then-later-eq0 c =
-    zeros-stay (goal.at.returns-then-later-eq0 c).Start _ c.leg.result c.only_total-then-later-eq0.ensures
+    zeros_stay (goal.at.returns-then-later-eq0 c).Start _ c.leg.result c.only_total-then-later-eq0.ensures
     (gives_one c.args.t.now c.args.bound c.args.rest c.next.result c.leg.result c.next.ensures
     (sym (c.later.ensures _ c.next.ensures) ∙ omega arith) c.leg.ensures)
 
@@ -44,5 +44,5 @@ returns-then-is_close c =
 
 pub returns : goal.returns
 returns c =
-    zeros-stay (goal.at.returns c).Start _ 0 c.only_total-2.ensures
+    zeros_stay (goal.at.returns c).Start _ 0 c.only_total-2.ensures
     (gives_plain c.args.t.now (more (goal.at.returns c).After-later (omega arith)) c.args.bound (sym c.is_close.ensures ∙ c.if-is_close.false))

@@ -12,14 +12,14 @@ use Rattle.carried.proofs.row_joins.Goals.{After-cells_join-2, After-cells_join-
 abbrev UpTo : ℕ → Start → List ℕ → Type 0
 UpTo k c into = let a = c.args in Entered (lessened a.row a.r a.into.now) a.into.now into 1 (suc k)
 
-to-8 : (c : After-cells_join-2) → UpTo 8 c.before.before.before.before.before.before.before.before c.cells_join-2.new.into
-to-8 c = row_on _ _ 4 c.cells_join.ensures 8 (omega arith) c.cells_join-2.ensures
+to_8 : (c : After-cells_join-2) → UpTo 8 c.before.before.before.before.before.before.before.before c.cells_join-2.new.into
+to_8 c = row_on _ _ 4 c.cells_join.ensures 8 (omega arith) c.cells_join-2.ensures
 
-to-12 : (c : After-cells_join-3) → UpTo 12 c.before.before.before.before.before.before.before.before.before.before.before.before.before c.cells_join-3.new.into
-to-12 c = row_on _ _ 8 (to-8 c.before.before.before.before.before) 12 (omega arith) c.cells_join-3.ensures
+to_12 : (c : After-cells_join-3) → UpTo 12 c.before.before.before.before.before.before.before.before.before.before.before.before.before c.cells_join-3.new.into
+to_12 c = row_on _ _ 8 (to_8 c.before.before.before.before.before) 12 (omega arith) c.cells_join-3.ensures
 
-to-16 : (c : After-cells_join-4) → UpTo 16 c.before.before.before.before.before.before.before.before.before.before.before.before.before.before.before.before.before.before c.cells_join-4.new.into
-to-16 c = row_on _ _ 12 (to-12 c.before.before.before.before.before) 16 (omega arith) c.cells_join-4.ensures
+to_16 : (c : After-cells_join-4) → UpTo 16 c.before.before.before.before.before.before.before.before.before.before.before.before.before.before.before.before.before.before c.cells_join-4.new.into
+to_16 c = row_on _ _ 12 (to_12 c.before.before.before.before.before) 16 (omega arith) c.cells_join-4.ensures
 
 pub returns-then-rest-lt-REACHES_SECOND : goal.returns-then-rest-lt-REACHES_SECOND
 returns-then-rest-lt-REACHES_SECOND c =
@@ -28,17 +28,17 @@ returns-then-rest-lt-REACHES_SECOND c =
 
 pub returns-then-rest-lt-REACHES_THIRD : goal.returns-then-rest-lt-REACHES_THIRD
 returns-then-rest-lt-REACHES_THIRD c =
-    let x = to-8 (goal.at.returns-then-rest-lt-REACHES_THIRD c).After-cells_join-2 in
+    let x = to_8 (goal.at.returns-then-rest-lt-REACHES_THIRD c).After-cells_join-2 in
     (row_ends _ _ 8 x c.requires.0 (omega arith), x.room)
 
 pub returns-then-rest-lt-REACHES_FOURTH : goal.returns-then-rest-lt-REACHES_FOURTH
 returns-then-rest-lt-REACHES_FOURTH c =
-    let x = to-12 (goal.at.returns-then-rest-lt-REACHES_FOURTH c).After-cells_join-3 in
+    let x = to_12 (goal.at.returns-then-rest-lt-REACHES_FOURTH c).After-cells_join-3 in
     (row_ends _ _ 12 x c.requires.0 (omega arith), x.room)
 
 pub returns : goal.returns
 returns c =
-    let x = to-16 (goal.at.returns c).After-cells_join-4 in
+    let x = to_16 (goal.at.returns c).After-cells_join-4 in
     let h = c.requires.0 in
     (row_ends _ _ 16 x h h, x.room)
 

@@ -53,13 +53,13 @@ overflow_sub-rest-2 c =
     omega (arith, shifted s, set-within c.args.job.n (x s) c.requires.0)
 
 -- the stops to come are those that the set leaves
-rest-few : (c : Start) → (1 * 2 ^ c.args.job.n) % 4294967296 - 1 - c.args.set < 2 ^ most_stops
-rest-few c = rw (shifted c) (rest_small c.args.job.n (few c) c.args.set)
+rest_few : (c : Start) → (1 * 2 ^ c.args.job.n) % 4294967296 - 1 - c.args.set < 2 ^ most_stops
+rest_few c = rw (shifted c) (rest_small c.args.job.n (few c) c.args.set)
 
 pub ahead-to_come-requires : goal.ahead-to_come-requires
 ahead-to_come-requires c =
     let g = goal.at.ahead-to_come-requires c in
-    (c.along-w.ensures.place_few, (rest-few g.Start, cheap g.After-rows-t))
+    (c.along-w.ensures.place_few, (rest_few g.Start, cheap g.After-rows-t))
 
 pub overflow_add-result : goal.overflow_add-result
 overflow_add-result c =
@@ -70,7 +70,7 @@ overflow_add-result c =
       c.along-w.ensures.cost_small,
       c.ahead-to_come.ensures,
       ahead_small c.rows-t.result (cheap g.After-rows-t) most_stops c.args.job.bound c.along-w.result.place (stops_in rest)
-          (stops_in_few rest (rest-few g.Start)),
+          (stops_in_few rest (rest_few g.Start)),
     )
 
 pub returns : goal.returns

@@ -9,14 +9,14 @@ use Rattle.pool.proofs.SettleLaws.{length-turned, slide_end, settle_joins}
 use Rattle.pool.proofs.settle.lay_out.Goals as goal
 use Rattle.pool.proofs.settle.lay_out.Goals.{After-turn}
 
-turned-long : (c : After-turn) → length (records c.turn.new.w) ≡ length (records c.args.w.now)
-turned-long c =
+turned_long : (c : After-turn) → length (records c.turn.new.w) ≡ length (records c.args.w.now)
+turned_long c =
     let a = c.args in
     rw c.turn.ensures (length-turned (a.capacity - a.far) a.capacity (records a.w.now) (omega arith))
 
 pub clear-requires : goal.clear-requires
 clear-requires c =
-    let long = turned-long (goal.at.clear-requires c).After-turn in
+    let long = turned_long (goal.at.clear-requires c).After-turn in
     let slid = c.slide-end.ensures in
     omega (arith, long, slid.same_length, slide_end (records c.turn.new.w) _ _ _ _ _ (omega (arith, long)) slid)
 
@@ -27,4 +27,4 @@ returns c =
     c.slide-end.ensures
 
 pub slide-end-requires : goal.slide-end-requires
-slide-end-requires c = omega (arith, turned-long (goal.at.slide-end-requires c).After-turn)
+slide-end-requires c = omega (arith, turned_long (goal.at.slide-end-requires c).After-turn)

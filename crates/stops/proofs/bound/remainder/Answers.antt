@@ -13,8 +13,8 @@ use Rattle.stops.proofs.bound.remainder.Goals as goal
 use Rattle.stops.proofs.bound.remainder.Goals.{After-into-sum, After-next-s, Start}
 
 -- what `next` gives is a stop of the set
-first-in : (c : After-next-s) → In c.next-s.result (stops_in c.args.rest)
-first-in c = c.loop-left.invariant.among c.next-s.result c.next-s.ensures.member
+first_in : (c : After-next-s) → In c.next-s.result (stops_in c.args.rest)
+first_in c = c.loop-left.invariant.among c.next-s.result c.next-s.ensures.member
 
 -- what `into` gives is the cheapest leg into it
 value :
@@ -24,7 +24,7 @@ value :
 value c =
     let a = c.args in
     let o = c.without in
-    rw c.into-sum.ensures (into_set a.t.now a.place a.rest o.result c.next-s.result c.requires.1.1.0 (first-in c.before.before.before) o.ensures)
+    rw c.into-sum.ensures (into_set a.t.now a.place a.rest o.result c.next-s.result c.requires.1.1.0 (first_in c.before.before.before) o.ensures)
 
 -- the remainder is small
 most :
@@ -56,7 +56,7 @@ loop-left-preserved c =
     summed_again l.invariant c.next-s.result c.next-s.ensures rest (ap (λ (v : ℕ). l.sum + v) (value c))
 
 pub without-requires : goal.without-requires
-without-requires c = (c.requires.1.1.0, first-in (goal.at.without-requires c).After-next-s)
+without-requires c = (c.requires.1.1.0, first_in (goal.at.without-requires c).After-next-s)
 
 pub returns : goal.returns
 returns c = summed_ends c.loop-left.invariant (omega arith)

@@ -13,14 +13,14 @@ use Rattle.stops.proofs.table.flying.Goals as goal
 number_small : {n : ℕ} {table : List ℕ} → Priced n table → (i j : ℕ) {v : ℕ} → v ≡ entry n table i j → v ≤ dearest_leg
 number_small {n} {table} priced i j e = omega (arith, e, entry_small n table priced i j)
 
-charge-number : {n : ℕ} {table : List ℕ} → Priced n table → (j : ℕ) {v : ℕ} → v ≡ charge n table j → v ≤ dearest_leg
+charge_number : {n : ℕ} {table : List ℕ} → Priced n table → (j : ℕ) {v : ℕ} → v ≡ charge n table j → v ≤ dearest_leg
 unfolding charge
-charge-number priced j e = number_small priced j j e
+charge_number priced j e = number_small priced j j e
 
 pub overflow_add-result : goal.overflow_add-result
 overflow_add-result c =
     let p = c.requires in
-    omega (arith, number_small p.0 _ _ c.entry.ensures, charge-number p.0 _ c.charge.ensures)
+    omega (arith, number_small p.0 _ _ c.entry.ensures, charge_number p.0 _ c.charge.ensures)
 
 pub returns : goal.returns
 unfolding flying
