@@ -24,6 +24,7 @@ use answer::{Job, Report};
 use first_order::first_order;
 use planner::plan;
 use sizes::{NO_BUDGET, RECORD_WORDS};
+use std::io;
 
 // Records of the pool, and its words.
 const RECORDS: usize = 330;
@@ -220,11 +221,11 @@ fn all_tables(pool: &mut [u32]) -> Tallies {
     t
 }
 
-fn main() {
+fn main(rt: HostRuntime) -> io::Result<()> {
     let mut pool = [0u32; POOL];
     let t = all_tables(&mut pool);
     let typed = t.typed;
-    tell(typed.whole, b" jobs planned\n");
-    tell(t.first, b" jobs planned from the unit's first order\n");
-    tell_limited(typed.limited);
+    tell(&rt, typed.whole, " jobs planned\n")?;
+    tell(&rt, t.first, " jobs planned from the unit's first order\n")?;
+    tell_limited(&rt, typed.limited)
 }

@@ -2,7 +2,7 @@
 use crate::judge::Verdict;
 use crate::stopped::Ending;
 use answer::Report;
-use libc::STDOUT_FILENO;
+use std::io;
 use std::num::wrapping_add_u64;
 
 // Checksums are below it.
@@ -111,40 +111,47 @@ pub fn counted_limited(t: Limited, e: Ending, sum: u64) -> Limited {
 }
 
 // A line: a number and words.
-fn line(n: u64, words: &[u8]) {
-    io::print_decimal(STDOUT_FILENO, n);
-    io::write_all(STDOUT_FILENO, words);
+fn line(rt: &impl Print, n: u64, words: &str) -> io::Result<()> {
+    print!(rt; "{n}{words}")
 }
 
 // What a tally says; the words are for all of its jobs.
-pub fn tell(t: Tally, words: &[u8]) {
+pub fn tell(rt: &impl Print, t: Tally, words: &str) -> io::Result<()> {
     line(
+        rt,
         wrapping_add_u64(wrapping_add_u64(t.best, t.full), t.differed),
         words,
-    );
+    )?;
     line(
+        rt,
         t.best,
-        b" finished, with the smallest of the cheapest orders that respect the pairs\n",
-    );
-    line(t.full, b" filled the pool\n");
-    line(t.differed, b" differed\n");
-    line(t.sum, b" is the checksum over all costs and counts\n");
+        " finished, with the smallest of the cheapest orders that respect the pairs\n",
+    )?;
+    line(rt, t.full, " filled the pool\n")?;
+    line(rt, t.differed, " differed\n")?;
+    line(rt, t.sum, " is the checksum over all costs and counts\n")
 }
 
 // What the jobs within a budget say.
-pub fn tell_limited(t: Limited) {
+pub fn tell_limited(rt: &impl Print, t: Limited) -> io::Result<()> {
     let stopped = wrapping_add_u64(t.with_order, t.with_none);
     let right = wrapping_add_u64(stopped, t.finished);
     line(
+        rt,
         wrapping_add_u64(right, t.differed),
-        b" jobs planned within half of their branchings, one in seven within all of them\n",
-    );
-    line(t.with_order, b" stopped with an order known\n");
-    line(t.with_none, b" stopped with none\n");
-    line(t.finished, b" finished, with the report of the whole run\n");
-    line(t.differed, b" differed\n");
+        " jobs planned within half of their branchings, one in seven within all of them\n",
+    )?;
+    line(rt, t.with_order, " stopped with an order known\n")?;
+    line(rt, t.with_none, " stopped with none\n")?;
     line(
+        rt,
+        t.finished,
+        " finished, with the report of the whole run\n",
+    )?;
+    line(rt, t.differed, " differed\n")?;
+    line(
+        rt,
         t.sum,
-        b" is the checksum over all costs, counts, marks and floors\n",
-    );
+        " is the checksum over all costs, counts, marks and floors\n",
+    )
 }
