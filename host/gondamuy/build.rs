@@ -1,10 +1,10 @@
-// Links the static library that `rt staticlib gondamuy` writes; GONDAMUY_LIB names another folder that holds
+// Links the static library that `rt lib` writes in crates/gondamuy; GONDAMUY_LIB names another folder that holds
 // libgondamuy.a.
 use std::env;
 use std::path::PathBuf;
 
 fn main() {
-    let beside = PathBuf::from(env::var("CARGO_MANIFEST_DIR").unwrap()).join("../../target/staticlib");
+    let beside = PathBuf::from(env::var("CARGO_MANIFEST_DIR").unwrap()).join("../../crates/gondamuy/out");
     let folder = env::var("GONDAMUY_LIB").map(PathBuf::from).unwrap_or(beside);
     println!("cargo:rustc-link-search=native={}", folder.display());
     println!("cargo:rustc-link-lib=static=gondamuy");
