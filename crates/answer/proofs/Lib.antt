@@ -4,6 +4,7 @@ pub mod Instance
 pub mod Known
 pub mod Ending
 pub mod Bounds
+pub mod CasesHold
 pub mod Active
 pub mod Ends
 pub mod Contents

@@ -1,9 +1,9 @@
--- Cases of request A.3: calls with a budget, worked out by hand on document 01's table T and by the second planner (`budget_cases_hold`).
+-- Cases of request A.3: calls with a budget, worked out by hand on document 01's table T and by the second planner (`budget_cases_hold`, in proofs/CasesHold).
 use Rattle.std.specs.Prelude.{refl, List, [], ◌∷◌, ℕ, replicate}
 use Rattle.sizes.specs.Sizes.{order_places, record_words}
 use Rattle.answer.specs.Call.{Call}
 use Rattle.answer.specs.declared.Report.{Report}
-use Rattle.answer.specs.Cases.{call, found, refused, computed, Case, reports, answers, Holds, AllHold, table_t, order123}
+use Rattle.answer.specs.Cases.{call, found, refused, computed, Case, reports, answers, Holds, table_t, order123}
 
 -- the call with a budget
 abbrev pub within : ℕ → Call → Call
@@ -33,98 +33,94 @@ b : Call
 b = call 3 table_t 2 0 0 [] 9
 
 -- Budget 0: nothing is branched, no order is known, and the floor is the bound of e.
-b₀ : Case
+pub b₀ : Case
 b₀ = reports (within 0 b) (so_far 0 (found 0 none 0 1 0 1 1))
 
-nothing_branched : Holds b₀
+pub nothing_branched : Holds b₀
 unfolding b₀ b table_t computed
 nothing_branched = refl
 
 -- Budget 5: 12 was branched, so 123 is known. The floor is the least bound, that of 23, and not the bound of 13, which is chosen next.
-b₅ : Case
+pub b₅ : Case
 b₅ = reports (within 5 b) (so_far 8 (found 13 order123 5 11 0 6 6))
 
-five_branched : Holds b₅
+pub five_branched : Holds b₅
 unfolding b₅ b table_t computed
 five_branched = refl
 
 -- Budget 9: one branching is lacking, though the order shown is a cheapest one.
-b₉ : Case
+pub b₉ : Case
 b₉ = reports (within 9 b) (so_far 13 (found 13 order123 9 15 0 6 6))
 
-one_lacking : Holds b₉
+pub one_lacking : Holds b₉
 unfolding b₉ b table_t computed
 one_lacking = refl
 
 -- Budget 10 is all that the run needs: the finish test is made before the budget is looked at.
-b₁₀ : Case
+pub b₁₀ : Case
 b₁₀ = reports (within 10 b) (found 13 order123 10 16 0 6 6)
 
-budget_suffices : Holds b₁₀
+pub budget_suffices : Holds b₁₀
 unfolding b₁₀ b table_t computed
 budget_suffices = refl
 
 -- Case c (LIFO, rules 1, plain) with budget 1: the floor is the bound of 1, and not that of 3, which is chosen next.
-c₁ : Case
+pub c₁ : Case
 c₁ = reports (within 1 (call 3 table_t 3 1 0 [] 9)) (so_far 4 (found 0 none 1 4 0 3 3))
 
-least_under_LIFO : Holds c₁
+pub least_under_LIFO : Holds c₁
 unfolding c₁ table_t computed
 least_under_LIFO = refl
 
 -- Case e (LIFO, rules 1, close, from 123) with budget 0: the starting order is shown.
-e₀ : Case
+pub e₀ : Case
 e₀ = reports (within 0 (call 3 table_t 3 1 1 (1 ∷ 2 ∷ 3 ∷ []) 9)) (so_far 10 (found 13 order123 0 1 0 1 1))
 
-start_is_shown : Holds e₀
+pub start_is_shown : Holds e₀
 unfolding e₀ table_t computed
 start_is_shown = refl
 
 -- One stop, close, from the only order: its cost is the bound of e, but e is not complete, so that with budget 0 the run is stopped (request A.8); ..
-one₀ : Case
+pub one₀ : Case
 one₀ = reports (within 0 (call 1 (0 ∷ 3 ∷ 5 ∷ 0 ∷ []) 0 0 1 (1 ∷ []) 9)) (so_far 8 (found 8 (1 ∷ replicate 15 0) 0 1 0 1 1))
 
-stopped_at_its_floor : Holds one₀
+pub stopped_at_its_floor : Holds one₀
 unfolding one₀ computed
 stopped_at_its_floor = refl
 
 -- .. with budget 1 it is finished.
-one₁ : Case
+pub one₁ : Case
 one₁ = reports (within 1 (call 1 (0 ∷ 3 ∷ 5 ∷ 0 ∷ []) 0 0 1 (1 ∷ []) 9)) (found 8 (1 ∷ replicate 15 0) 1 2 0 1 1)
 
-finished_when_complete : Holds one₁
+pub finished_when_complete : Holds one₁
 unfolding one₁ computed
 finished_when_complete = refl
 
 -- Case f₂, one record, where the first step does not fit: with budget 0 the run is stopped before that is asked, and the pool has e ..
-full₀ : Case
+pub full₀ : Case
 full₀ =
     answers (within 0 (call 3 table_t 3 1 1 [] 1))
     (record { report = so_far 10 (found 0 none 0 1 0 1 1); pool = 0 ∷ 0 ∷ 0 ∷ 10 ∷ 0 ∷ 0 ∷ [] })
 
-budget_before_pool : Holds full₀
+pub budget_before_pool : Holds full₀
 unfolding full₀ table_t computed
 budget_before_pool = refl
 
 -- .. with budget 1 the pool is full, and mark and floor are 0.
-full₁ : Case
+pub full₁ : Case
 full₁ = reports (within 1 (call 3 table_t 3 1 1 [] 1)) (refused 7 0 1 0 1 1)
 
-full_is_unmarked : Holds full₁
+pub full_is_unmarked : Holds full₁
 unfolding full₁ table_t computed
 full_is_unmarked = refl
 
 -- A budget changes no refusal by a check.
-j₀ : Case
+pub j₀ : Case
 j₀ = answers (within 0 (call 17 [] 0 0 0 [] 1)) (record { report = refused 1 0 0 0 0 0; pool = replicate record_words 7 })
 
-refused_as_before : Holds j₀
+pub refused_as_before : Holds j₀
 unfolding j₀ computed
 refused_as_before = refl
 
-pub budget_cases : List Case
+unfoldable pub budget_cases : List Case
 budget_cases = b₀ ∷ b₅ ∷ b₉ ∷ b₁₀ ∷ c₁ ∷ e₀ ∷ one₀ ∷ one₁ ∷ full₀ ∷ full₁ ∷ j₀ ∷ []
-
-pub budget_cases_hold : AllHold budget_cases
-unfolding budget_cases
-budget_cases_hold = (nothing_branched, (five_branched, (one_lacking, (budget_suffices, (least_under_LIFO, (start_is_shown, (stopped_at_its_floor, (finished_when_complete, (budget_before_pool, (full_is_unmarked, (refused_as_before, tt)))))))))))

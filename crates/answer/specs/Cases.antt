@@ -1,5 +1,5 @@
 -- Document 01's cases a to k as theorems about the written run itself, e, f and i as request A.8 has them: a list, with one theorem for all of it
--- (`cases_hold`). Our own cases, with the pool's words, are in `OwnCases`. Every pool is dirty before the call: its words are all 7.
+-- (`cases_hold`, in proofs/CasesHold). Our own cases, with the pool's words, are in `OwnCases`. Every pool is dirty before the call: its words are all 7.
 --   Case     what a case says: a call's report; its whole answer; the number of its cause; the bounds of nodes
 --   Holds    that it is true
 use Rattle.std.specs.Prelude.{◌≡◌, refl, List, [], ◌∷◌, map, ℕ, ◌*◌, replicate}
@@ -94,136 +94,132 @@ abbrev pub order123 : List ℕ
 order123 = 1 ∷ 2 ∷ 3 ∷ replicate 13 0
 
 -- a. Selection 0, rules 1, close.
-a : Case
+pub a : Case
 a = reports (call 3 table_t 0 1 1 [] 9) (found 13 order123 3 7 3 1 4)
 
-case_a : Holds a
+pub case_a : Holds a
 unfolding a table_t computed
 case_a = refl
 
 -- b. FIFO, no rules, plain.
-b : Case
+pub b : Case
 b = reports (call 3 table_t 2 0 0 [] 9) (found 13 order123 10 16 0 6 6)
 
-case_b : Holds b
+pub case_b : Holds b
 unfolding b table_t computed
 case_b = refl
 
 -- c. LIFO, rules 1, plain.
-c : Case
+pub c : Case
 c = reports (call 3 table_t 3 1 0 [] 9) (found 13 order123 10 16 5 1 4)
 
-case_c : Holds c
+pub case_c : Holds c
 unfolding c table_t computed
 case_c = refl
 
 -- d. LIFO, rules 1, close.
-d : Case
+pub d : Case
 d = reports (call 3 table_t 3 1 1 [] 9) (found 13 order123 9 15 5 1 4)
 
-case_d : Holds d
+pub case_d : Holds d
 unfolding d table_t computed
 case_d = refl
 
 -- e. As d, starting from 123. Node 12, whose bound is U, is branched too (request A.8).
-e : Case
+pub e : Case
 e = reports (call 3 table_t 3 1 1 (1 ∷ 2 ∷ 3 ∷ []) 9) (found 13 order123 3 7 3 1 1)
 
-case_e : Holds e
+pub case_e : Holds e
 unfolding e table_t computed
 case_e = refl
 
 -- f₁. e's job again, in a pool of one record: its report.
-f₁ : Case
+pub f₁ : Case
 f₁ = reports (call 3 table_t 3 1 1 (1 ∷ 2 ∷ 3 ∷ []) 1) (found 13 order123 3 7 3 1 1)
 
-case_f₁ : Holds f₁
+pub case_f₁ : Holds f₁
 unfolding f₁ table_t computed
 case_f₁ = refl
 
 -- f₂. As d, one record: 7.
-f₂ : Case
+pub f₂ : Case
 f₂ = reports (call 3 table_t 3 1 1 [] 1) (refused 7 0 1 0 1 1)
 
-case_f₂ : Holds f₂
+pub case_f₂ : Holds f₂
 unfolding f₂ table_t computed
 case_f₂ = refl
 
 -- g. FIFO, rules 2, plain.
-g : Case
+pub g : Case
 g = reports (call 3 table_t 2 2 0 [] 9) (found 13 order123 10 16 3 3 6)
 
-case_g : Holds g
+pub case_g : Holds g
 unfolding g table_t computed
 case_g = refl
 
 -- h. One stop: the only order, out and back.
-h : Case
+pub h : Case
 h = reports (call 1 (0 ∷ 3 ∷ 5 ∷ 0 ∷ []) 0 0 0 [] 9) (found 8 (1 ∷ replicate 15 0) 1 2 0 1 1)
 
-case_h : Holds h
+pub case_h : Holds h
 unfolding h computed
 case_h = refl
 
 -- i₀. Two stops, every leg 0: of the two orders selection 0 finds 12 first, and 21, as cheap but larger, does not replace it.
-i₀ : Case
+pub i₀ : Case
 i₀ = reports (call 2 (replicate 9 0) 0 0 1 [] 9) (found 0 (1 ∷ 2 ∷ replicate 14 0) 3 5 0 2 2)
 
-case_i₀ : Holds i₀
+pub case_i₀ : Holds i₀
 unfolding i₀ computed
 case_i₀ = refl
 
 -- i₁. The same under selection 1: the later of equals leads to 21, which 12, as cheap and smaller, replaces (request A.8).
-i₁ : Case
+pub i₁ : Case
 i₁ = reports (call 2 (replicate 9 0) 1 0 1 [] 9) (found 0 (1 ∷ 2 ∷ replicate 14 0) 3 5 0 2 2)
 
-case_i₁ : Holds i₁
+pub case_i₁ : Holds i₁
 unfolding i₁ computed
 case_i₁ = refl
 
 -- j. n = 16 passes check 1; all legs are 0.
-j₁₆ : Case
+pub j₁₆ : Case
 j₁₆ = causes (call 16 (replicate table_numbers 0) 0 0 0 [] 1) 0
 
-sixteen_stops_pass : Holds j₁₆
+pub sixteen_stops_pass : Holds j₁₆
 unfolding j₁₆ computed
 sixteen_stops_pass = refl
 
 -- j. 17 is 1.
-j₁₇ : Case
+pub j₁₇ : Case
 j₁₇ = answers (call 17 [] 0 0 0 [] 1) (record { report = refused 1 0 0 0 0 0; pool = replicate record_words 7 })
 
-seventeen_stops_refused : Holds j₁₇
+pub seventeen_stops_refused : Holds j₁₇
 unfolding j₁₇ computed
 seventeen_stops_refused = refl
 
 -- j. A leg of 1,000,000 passes.
-j_million : Case
+pub j_million : Case
 j_million = causes (call 1 (0 ∷ 1_000_000 ∷ 5 ∷ 0 ∷ []) 0 0 0 [] 1) 0
 
-million_passes : Holds j_million
+pub million_passes : Holds j_million
 unfolding j_million computed
 million_passes = refl
 
 -- j. 1,000,001 is 3.
-j_above : Case
+pub j_above : Case
 j_above = answers (call 1 (0 ∷ 1_000_001 ∷ 5 ∷ 0 ∷ []) 0 0 0 [] 1) (record { report = refused 3 0 0 0 0 0; pool = replicate record_words 7 })
 
-million_and_one_refused : Holds j_above
+pub million_and_one_refused : Holds j_above
 unfolding j_above computed
 million_and_one_refused = refl
 
 -- k. Close bounds in T: of e, and of the nodes 1, 2 and 3.
-k : Case
+pub k : Case
 k = bounds (call 3 table_t 0 0 1 [] 9) ([] ∷ (1 ∷ []) ∷ (2 ∷ []) ∷ (3 ∷ []) ∷ []) (10 ∷ 10 ∷ 18 ∷ 19 ∷ [])
 
-case_k : Holds k
+pub case_k : Holds k
 unfolding k table_t computed
 case_k = refl
 
-pub cases : List Case
+unfoldable pub cases : List Case
 cases = a ∷ b ∷ c ∷ d ∷ e ∷ f₁ ∷ f₂ ∷ g ∷ h ∷ i₀ ∷ i₁ ∷ j₁₆ ∷ j₁₇ ∷ j_million ∷ j_above ∷ k ∷ []
-
-pub cases_hold : AllHold cases
-unfolding cases
-cases_hold = (case_a, (case_b, (case_c, (case_d, (case_e, (case_f₁, (case_f₂, (case_g, (case_h, (case_i₀, (case_i₁, (sixteen_stops_pass, (seventeen_stops_refused, (million_passes, (million_and_one_refused, (case_k, tt))))))))))))))))

@@ -1,12 +1,12 @@
 -- Cases of our own, beside document 01's: rules 8, 10 and 15 on tables with ties, a refusal by 7 under rule 4, and case i's table under FIFO, each
--- with the whole report and every word of the pool at the end (`own_cases_hold`); and each cause at its edge. They were worked out by hand and by the
+-- with the whole report and every word of the pool at the end (`own_cases_hold`, in proofs/CasesHold); and each cause at its edge. They were worked out by hand and by the
 -- second planner (host/witness). Further cases of ties, rule 4 among them, are in `TieCases`.
 use Rattle.std.specs.Prelude.{◌≡◌, refl, cond, List, [], ◌∷◌, ◌++◌, map, ℕ, suc, ◌*◌, ◌%◌, eqb, replicate}
 use Rattle.sizes.specs.Sizes.{record_words}
 use Rattle.lists.specs.Lists.{each, from}
 use Rattle.answer.specs.Call.{Call}
 use Rattle.answer.specs.Checks.{cause}
-use Rattle.answer.specs.Cases.{call, found, refused, computed, Case, answers, Holds, AllHold, table_t}
+use Rattle.answer.specs.Cases.{call, found, refused, computed, Case, answers, Holds, table_t}
 
 -- the table of n stops whose legs all cost 1
 unfoldable pub ones : ℕ → List ℕ
@@ -21,7 +21,7 @@ abbrev pub pool_of : List (List ℕ) → ℕ → List ℕ
 pool_of records zeros = each (λ r. r) records ++ replicate (record_words * zeros) 0
 
 -- Case i's table under FIFO: 12 is found first, and 21, as cheap but larger, does not replace it.
-fifo_on_case_i : Case
+pub fifo_on_case_i : Case
 fifo_on_case_i =
     answers (call 2 (replicate 9 0) 2 0 1 [] 3)
     (record {
@@ -34,12 +34,12 @@ fifo_on_case_i =
           1;
     })
 
-holds_fifo_on_case_i : Holds fifo_on_case_i
+pub holds_fifo_on_case_i : Holds fifo_on_case_i
 unfolding fifo_on_case_i computed
 holds_fifo_on_case_i = refl
 
 -- FIFO, rule 4, plain, eight records: after three steps five active and three branched nodes fill the pool; the fourth step would keep ten.
-rule_4_fills : Case
+pub rule_4_fills : Case
 rule_4_fills =
     answers (call 3 (ones 3) 2 4 0 [] 8)
     (record {
@@ -58,13 +58,13 @@ rule_4_fills =
           0;
     })
 
-holds_rule_4_fills : Holds rule_4_fills
+pub holds_rule_4_fills : Holds rule_4_fills
 unfolding rule_4_fills ones computed
 holds_rule_4_fills = refl
 
 -- LIFO, rule 8, close, five records: of two equal orders with one last stop the child, which is the smaller, eliminates the earlier one, and at last 123
 -- is the order known.
-rule_8_keeps_smaller : Case
+pub rule_8_keeps_smaller : Case
 rule_8_keeps_smaller =
     answers (call 3 (ones 3) 3 8 1 [] 5)
     (record {
@@ -78,12 +78,12 @@ rule_8_keeps_smaller =
           2;
     })
 
-holds_rule_8_keeps_smaller : Holds rule_8_keeps_smaller
+pub holds_rule_8_keeps_smaller : Holds rule_8_keeps_smaller
 unfolding rule_8_keeps_smaller ones computed
 holds_rule_8_keeps_smaller = refl
 
 -- Selection 1, rules 2 and 8, plain, six records: three complete children fall to equal active ones that are smaller, and eliminate nothing.
-rules_2_and_8 : Case
+pub rules_2_and_8 : Case
 rules_2_and_8 =
     answers (call 3 (ones 3) 1 10 0 [] 6)
     (record {
@@ -97,13 +97,13 @@ rules_2_and_8 =
           3;
     })
 
-holds_rules_2_and_8 : Holds rules_2_and_8
+pub holds_rules_2_and_8 : Holds rules_2_and_8
 unfolding rules_2_and_8 ones computed
 holds_rules_2_and_8 = refl
 
 -- Selection 0, all rules, close, thirteen records: every bound is 4, so that all nodes that are not complete are branched before a complete one is
 -- chosen; three complete children fall to smaller orders.
-all_rules_tied : Case
+pub all_rules_tied : Case
 all_rules_tied =
     answers (call 3 (ones 3) 0 15 1 [] 13)
     (record {
@@ -127,12 +127,12 @@ all_rules_tied =
           0;
     })
 
-holds_all_rules_tied : Holds all_rules_tied
+pub holds_all_rules_tied : Holds all_rules_tied
 unfolding all_rules_tied ones computed
 holds_all_rules_tied = refl
 
 -- Selection 0, all rules, plain, from 123 in nine records: rule 1 eliminates five children, and the pool is just large enough.
-all_rules_started : Case
+pub all_rules_started : Case
 all_rules_started =
     answers (call 3 table_t 0 15 0 (1 ∷ 2 ∷ 3 ∷ []) 9)
     (record {
@@ -152,16 +152,12 @@ all_rules_started =
           0;
     })
 
-holds_all_rules_started : Holds all_rules_started
+pub holds_all_rules_started : Holds all_rules_started
 unfolding all_rules_started table_t computed
 holds_all_rules_started = refl
 
-pub own_cases : List Case
+unfoldable pub own_cases : List Case
 own_cases = fifo_on_case_i ∷ rule_4_fills ∷ rule_8_keeps_smaller ∷ rules_2_and_8 ∷ all_rules_tied ∷ all_rules_started ∷ []
-
-pub own_cases_hold : AllHold own_cases
-unfolding own_cases
-own_cases_hold = (holds_fifo_on_case_i, (holds_rule_4_fills, (holds_rule_8_keeps_smaller, (holds_rules_2_and_8, (holds_all_rules_tied, (holds_all_rules_started, tt))))))
 
 -- Each cause by itself, at its edge: document 01's table of causes, row by row, with 3 as request A.4 has it and 4 as A.5 has it. h is case h's table.
 h : List ℕ

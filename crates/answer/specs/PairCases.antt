@@ -1,9 +1,9 @@
--- Cases of request A.6: days with pairs, worked out by hand and by the second planner (`pair_cases_hold`); and checks 5 and 11 fault by fault.
+-- Cases of request A.6: days with pairs, worked out by hand and by the second planner (`pair_cases_hold`, in proofs/CasesHold); and checks 5 and 11 fault by fault.
 use Rattle.std.specs.Prelude.{◌≡◌, refl, true, false, List, [], ◌∷◌, map, ℕ, replicate}
 use Rattle.lists.specs.Lists.{from}
 use Rattle.answer.specs.Call.{Call}
 use Rattle.answer.specs.Checks.{cause₁₁, cause}
-use Rattle.answer.specs.Cases.{call, found, refused, computed, Case, reports, answers, Holds, AllHold, table_t}
+use Rattle.answer.specs.Cases.{call, found, refused, computed, Case, reports, answers, Holds, table_t}
 use Rattle.answer.specs.BudgetCases.{within, so_far, none}
 
 -- a call with the bytes of a pair file
@@ -18,23 +18,23 @@ order231 = 2 ∷ 3 ∷ 1 ∷ replicate 13 0
 unfoldable three_first : Call
 three_first = paired (3 ∷ 1 ∷ []) (call 3 table_t 0 0 0 [] 9)
 
-all_respecting : Case
+pub all_respecting : Case
 all_respecting = reports three_first (found 18 order231 6 9 0 3 3)
 
-holds_all_respecting : Holds all_respecting
+pub holds_all_respecting : Holds all_respecting
 unfolding all_respecting three_first table_t computed
 holds_all_respecting = refl
 
 -- The pilot's choices, from 312.
-pilot : Case
+pub pilot : Case
 pilot = reports (paired (3 ∷ 1 ∷ []) (call 3 table_t 3 1 1 (3 ∷ 1 ∷ 2 ∷ []) 9)) (found 18 order231 5 8 2 1 2)
 
-holds_pilot : Holds pilot
+pub holds_pilot : Holds pilot
 unfolding pilot table_t computed
 holds_pilot = refl
 
 -- Every rule on. What is left is 231; then come the nodes branched, e, 2, 23, 3, 32 and 31.
-all-rules : Case
+pub all-rules : Case
 all-rules =
     answers (paired (3 ∷ 1 ∷ []) (call 3 table_t 0 15 0 [] 8))
     (record {
@@ -50,27 +50,27 @@ all-rules =
           ∷ replicate 6 0;
     })
 
-holds_all_rules : Holds all-rules
+pub holds_all_rules : Holds all-rules
 unfolding all-rules table_t computed
 holds_all_rules = refl
 
 -- FIFO, after three branchings: 23, 31 and 32 are active.
-stops_early : Case
+pub stops_early : Case
 stops_early =
     answers (within 3 (paired (3 ∷ 1 ∷ []) (call 3 table_t 2 0 0 [] 3)))
     (record { report = so_far 8 (found 0 none 3 6 0 3 3); pool = 2 ∷ 6 ∷ 8 ∷ 8 ∷ 33 ∷ 0 ∷ 2 ∷ 5 ∷ 14 ∷ 14 ∷ 2 ∷ 0 ∷ 2 ∷ 6 ∷ 13 ∷ 13 ∷ 18 ∷ 0 ∷ [] })
 
-holds_stops_early : Holds stops_early
+pub holds_stops_early : Holds stops_early
 unfolding stops_early table_t computed
 holds_stops_early = refl
 
 -- The same in two records: 3 has two children, and 23 waits.
-fills : Case
+pub fills : Case
 fills =
     answers (paired (3 ∷ 1 ∷ []) (call 3 table_t 2 0 0 [] 2))
     (record { report = refused 7 2 4 0 2 2; pool = 1 ∷ 4 ∷ 9 ∷ 9 ∷ 2 ∷ 0 ∷ 2 ∷ 6 ∷ 8 ∷ 8 ∷ 33 ∷ 0 ∷ [] })
 
-holds_fills : Holds fills
+pub holds_fills : Holds fills
 unfolding fills table_t computed
 holds_fills = refl
 
@@ -78,19 +78,15 @@ holds_fills = refl
 unfoldable table_four : List ℕ
 table_four = 0 ∷ 3 ∷ 8 ∷ 1 ∷ 9 ∷ 4 ∷ 0 ∷ 2 ∷ 7 ∷ 5 ∷ 6 ∷ 1 ∷ 0 ∷ 3 ∷ 8 ∷ 2 ∷ 9 ∷ 4 ∷ 0 ∷ 7 ∷ 5 ∷ 6 ∷ 3 ∷ 8 ∷ 0 ∷ []
 
-two_pairs : Case
+pub two_pairs : Case
 two_pairs = reports (paired (3 ∷ 1 ∷ 2 ∷ 4 ∷ []) (call 4 table_four 2 0 1 [] 9)) (found 16 (3 ∷ 2 ∷ 1 ∷ 4 ∷ replicate 12 0) 13 19 0 6 6)
 
-holds_two_pairs : Holds two_pairs
+pub holds_two_pairs : Holds two_pairs
 unfolding two_pairs table_four computed
 holds_two_pairs = refl
 
-pub pair_cases : List Case
+unfoldable pub pair_cases : List Case
 pair_cases = all_respecting ∷ pilot ∷ all-rules ∷ stops_early ∷ fills ∷ two_pairs ∷ []
-
-pub pair_cases_hold : AllHold pair_cases
-unfolding pair_cases
-pair_cases_hold = (holds_all_respecting, (holds_pilot, (holds_all_rules, (holds_stops_early, (holds_fills, (holds_two_pairs, tt))))))
 
 -- Pair files that pass where there are three stops: none, one pair, and one the other way round; where there are sixteen, eight pairs.
 pairs_pass_at : (map (cause₁₁ 3) ([] ∷ (3 ∷ 1 ∷ []) ∷ (1 ∷ 3 ∷ []) ∷ []) ≡ false ∷ false ∷ false ∷ []) × (cause₁₁ 16 (from 1 16) ≡ false)
