@@ -1,4 +1,5 @@
--- Cases of request A.3: calls with a budget, worked out by hand on document 01's table T and by the second planner (`budget_cases_hold`, in proofs/CasesHold).
+-- Cases of request A.3: calls with a budget, worked out by hand on document 01's table T and by the second planner (`budget_cases_hold`, in
+-- proofs/CasesHold).
 use Rattle.std.specs.Prelude.{refl, List, [], ◌∷◌, ℕ, replicate}
 use Rattle.sizes.specs.Sizes.{order_places, record_words}
 use Rattle.answer.specs.Call.{Call}

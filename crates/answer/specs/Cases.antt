@@ -1,5 +1,6 @@
 -- Document 01's cases a to k as theorems about the written run itself, e, f and i as request A.8 has them: a list, with one theorem for all of it
--- (`cases_hold`, in proofs/CasesHold). Our own cases, with the pool's words, are in `OwnCases`. Every pool is dirty before the call: its words are all 7.
+-- (`cases_hold`, in proofs/CasesHold). Our own cases, with the pool's words, are in `OwnCases`. Every pool is dirty before the call: its words are
+-- all 7.
 --   Case     what a case says: a call's report; its whole answer; the number of its cause; the bounds of nodes
 --   Holds    that it is true
 use Rattle.std.specs.Prelude.{◌≡◌, refl, List, [], ◌∷◌, map, ℕ, ◌*◌, replicate}

@@ -1,6 +1,6 @@
 -- Cases of our own, beside document 01's: rules 8, 10 and 15 on tables with ties, a refusal by 7 under rule 4, and case i's table under FIFO, each
--- with the whole report and every word of the pool at the end (`own_cases_hold`, in proofs/CasesHold); and each cause at its edge. They were worked out by hand and by the
--- second planner (host/witness). Further cases of ties, rule 4 among them, are in `TieCases`.
+-- with the whole report and every word of the pool at the end (`own_cases_hold`, in proofs/CasesHold); and each cause at its edge. They were worked
+-- out by hand and by the second planner (host/witness). Further cases of ties, rule 4 among them, are in `TieCases`.
 use Rattle.std.specs.Prelude.{◌≡◌, refl, cond, List, [], ◌∷◌, ◌++◌, map, ℕ, suc, ◌*◌, ◌%◌, eqb, replicate}
 use Rattle.sizes.specs.Sizes.{record_words}
 use Rattle.lists.specs.Lists.{each, from}

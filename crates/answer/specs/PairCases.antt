@@ -1,4 +1,5 @@
--- Cases of request A.6: days with pairs, worked out by hand and by the second planner (`pair_cases_hold`, in proofs/CasesHold); and checks 5 and 11 fault by fault.
+-- Cases of request A.6: days with pairs, worked out by hand and by the second planner (`pair_cases_hold`, in proofs/CasesHold); and checks 5 and 11
+-- fault by fault.
 use Rattle.std.specs.Prelude.{◌≡◌, refl, true, false, List, [], ◌∷◌, map, ℕ, replicate}
 use Rattle.lists.specs.Lists.{from}
 use Rattle.answer.specs.Call.{Call}
