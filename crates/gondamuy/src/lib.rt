@@ -1,5 +1,5 @@
-// What a host in C or Rust calls. Each function is one of ours under a C name, and so is its promise; this crate holds nothing else, so
-// that building the static library proves nothing twice.
+// What a host in C or Rust calls. Each function is one of ours under a C name, and so is its promise; this crate holds nothing
+// else.
 #![tactic(auto)]
 
 ghost use Rattle.std.specs.Prelude.{◌≡◌};

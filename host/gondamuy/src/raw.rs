@@ -1,6 +1,6 @@
 //! The calls as C has them: plain numbers go in, and plain structs, whose layout is C's, come out. They are safe, and
 //! nothing is asked of a number: what does not fit is refused. What they answer is, over all inputs, that of `answer`
-//! (crates/answer/specs/Answer.antt), of `firstAnswer` (crates/first_answer/specs/First.antt), of `read` and of `write`
+//! (crates/answer/specs/Answer.antt), of `first_answer` (crates/first_answer/specs/First.antt), of `read` and of `write`
 //! (crates/job_format/specs/Reader.antt and Writer.antt).
 //!
 //! **Number 0 alone does not say "cheapest"**: a search that its budget stopped has number 0 too, and mark 1. A report
