@@ -1,5 +1,7 @@
 -- `report_text` meets its contract: a refusal's line, or the lines of a run in an array of zeros.
 use mathlib.Core.Path.{◌≡◌, ap, sym, ◌∙◌}
+use mathlib.Core.Logic.{◌≢◌}
+use native.Mathlib.Omega.{arith}
 use lib.ListN.{length}
 use Rattle.sizes.specs.Sizes.{order_places}
 use Rattle.printing.specs.Promise.{text_of}
@@ -13,9 +15,12 @@ sixteen : (c : Start) → length c.args.report.order ≡ order_places
 sixteen c = search rules
 
 pub returns-then-number-ne0 : goal.returns-then-number-ne0
-returns-then-number-ne0 c = c.refusal_text.ensures ∙ ap text_of (sym (printed-refused _ c.args.report c.if-number-ne0.true))
+returns-then-number-ne0 c =
+    let refused : c.args.report.number ≢ 0 = omega arith in
+    c.refusal_text.ensures ∙ ap text_of (sym (printed-refused _ c.args.report refused))
 
 pub returns : goal.returns
 returns c =
+    let given : c.args.report.number ≡ 0 = omega arith in
     put_text c.put_lines-length.ensures.1 c.put_lines-length.ensures.0
-    ∙ ap text_of (printed_lines _ _ c.args.report c.places.ensures (sixteen (goal.at.returns c).Start) c.if-number-ne0.false)
+    ∙ ap text_of (printed_lines _ _ c.args.report c.places.ensures (sixteen (goal.at.returns c).Start) given)
