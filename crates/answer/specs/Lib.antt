@@ -1,4 +1,5 @@
 pub mod Call
+pub mod Refusals
 pub mod Checks
 pub mod Answer
 pub mod Cases

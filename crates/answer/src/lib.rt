@@ -1,7 +1,9 @@
 // Calls, checks, reports and the answer to a call, as definitions, and the letter's demands of a planner, as statements (specs/, specs/Demands),
-// proved of the written run (proofs/). No function: the two structs that cross the border stand here, so that what reads a job or prints a
-// report need not rest on the planner.
+// proved of the written run (proofs/). What crosses the border stands here, a job and a report, and why a call is refused, so that what reads a job
+// or prints a report need not rest on the planner.
 #![tactic(auto)]
+
+pub mod refusal;
 
 use sizes::ORDER_PLACES;
 

@@ -7,7 +7,7 @@ ghost use Rattle.stops.specs.Bounds.{ends_away, is_close, remainder};
 ghost use Rattle.stops.specs.Code.{stops_in, reckon_on, Cheap};
 
 use crate::legs::leg;
-use crate::sets::{later, next, without};
+use crate::sets::{later, next, stops_of, without};
 use crate::table::Rows;
 
 // Whether a bound is for a day that ends away (request A.5).
@@ -39,13 +39,9 @@ pub fn cheapest(t: &Rows, stops: u32, to: u32) -> u32
     requires { (0 < stops) × ((stops < 2 ^ most_stops) × (to ≤ most_stops)) }
     ensures { result ≡ least (λ s. row_leg t.now s to) (stops_in stops) }
 {
-    let first = next(stops);
-    let mut least = leg(t, first, to);
-    let mut left = later(stops);
-    while left != 0 {
-        let s = next(left);
-        left = later(left);
-        least = lesser(least, leg(t, s, to));
+    let mut least = leg(t, next(stops), to);
+    for s in stops_of(later(stops)) {
+        least = least.min(leg(t, s, to));
     }
     least
 }
@@ -68,10 +64,7 @@ fn remainder(t: &Rows, place: u32, rest: u32) -> u32
     ensures { result ≡ remainder (legs t.now) place (stops_in rest) }
 {
     let mut sum = cheapest(t, rest, 0);
-    let mut left = rest;
-    while left != 0 {
-        let s = next(left);
-        left = later(left);
+    for s in stops_of(rest) {
         sum += into(t, place, without(rest, s), s);
     }
     sum

@@ -1,5 +1,6 @@
 // Sets of stops, each a word: bit s-1 is stop s's.
-ghost use Rattle.std.specs.Prelude.{◌≡◌, cond, ℕ, ◌+◌, ◌-◌, ◌^◌, ◌≤◌, ◌<◌, length};
+ghost use Rattle.std.specs.Prelude.{◌≡◌, cond, ℕ, ◌+◌, ◌-◌, ◌^◌, ◌≤◌, ◌<◌, length, MatchOption};
+ghost use Rattle.std.specs.Iterator.{at_most};
 ghost use Rattle.sizes.specs.Sizes.{most_stops};
 ghost use Rattle.lists.specs.Lists.{In};
 ghost use Rattle.stops.specs.Code.{stops_in, First};
@@ -42,6 +43,39 @@ pub fn with_if(test: bool, set: u32, stop: u32) -> u32
     ensures { result ≡ cond test (set + 2 ^ (stop - 1)) set }
 {
     set + ((test as u32) << (stop - 1))
+}
+
+// The stops of a set, one after another, the lowest first.
+#[derive(Clone, Copy)]
+pub struct Stops {
+    left: u32,
+    ghost few: { left < 2 ^ most_stops },
+}
+
+// The stops of a set, to be gone through.
+pub fn stops_of(set: u32) -> Stops
+    requires { set < 2 ^ most_stops }
+    ensures { result.left ≡ set }
+{
+    Stops { left: set }
+}
+
+impl Iterator for Stops {
+    type Item = u32;
+
+    ghost next_gives = { λ old r new. MatchOption r (old.left ≡ 0) (λ s. First old.left s × (new.left ≡ old.left - 2 ^ (s - 1))) };
+
+    ghost remaining = { λ stops. at_most stops.left };
+
+    fn next(&mut self) -> Option<u32> {
+        let set = self.left;
+        if set == 0 {
+            return None;
+        }
+        let first = next(set);
+        self.left = later(set);
+        Some(first)
+    }
 }
 
 // How many stops a set has.

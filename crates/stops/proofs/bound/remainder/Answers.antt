@@ -3,28 +3,24 @@ use mathlib.Core.Path.{◌≡◌, ap}
 use Prim.Native.Nat.{ℕ, ◌+◌, ◌*◌, ◌≤◌}
 use native.Mathlib.Omega.{arith}
 use Rattle.sizes.specs.Sizes.{places, dearest}
-use Rattle.lists.specs.Lists.{In}
 use Rattle.stops.specs.Legs.{legs}
 use Rattle.stops.specs.Bounds.{cheapest_into, remainder}
 use Rattle.stops.specs.Code.{stops_in}
 use Rattle.stops.proofs.SetBits.{stops_in_few}
 use Rattle.stops.proofs.SetLoops.{summed_starts, summed_most, summed_again, summed_ends, into_set, remainder_small}
 use Rattle.stops.proofs.bound.remainder.Goals as goal
-use Rattle.stops.proofs.bound.remainder.Goals.{After-into-sum, After-next-s, Start}
+use Rattle.stops.proofs.bound.remainder.Goals.{After-into-sum, Start}
 
--- what `next` gives is a stop of the set
-first_in : (c : After-next-s) → In c.next-s.result (stops_in c.args.rest)
-first_in c = c.loop-left.invariant.among c.next-s.result c.next-s.ensures.member
-
--- what `into` gives is the cheapest leg into it
+-- what `into` gives is the cheapest leg into the stop
 value :
     (c : After-into-sum) →
     let a = c.args in
-    c.into-sum.result ≡ cheapest_into (legs a.t.now) a.place (stops_in a.rest) c.next-s.result
+    c.into-sum.result ≡ cheapest_into (legs a.t.now) a.place (stops_in a.rest) c.in-Some.s
 value c =
     let a = c.args in
-    let o = c.without in
-    rw c.into-sum.ensures (into_set a.t.now a.place a.rest o.result c.next-s.result c.requires.1.1.0 (first_in c.before.before.before) o.ensures)
+    let s = c.in-Some.s in
+    let own = c.loop-s.invariant.among s c.in-Some.ensures.steps.0.member in
+    rw c.into-sum.ensures (into_set a.t.now a.place a.rest c.without.result s c.requires.1.1.0 own c.without.ensures)
 
 -- the remainder is small
 most :
@@ -37,26 +33,24 @@ most c =
       stops_in_few a.rest c.requires.1.1.0,
     )
 
-pub loop-left-init : goal.loop-left-init
+pub loop-s-init : goal.loop-s-init
 unfolding legs remainder
-loop-left-init c = summed_starts c.requires.1.1.0 (rw c.cheapest-sum.ensures)
+loop-s-init c =
+    rw (c.into_iter-s-iterator.ensures.into_iter_gives, c.stops_of-s-items.ensures)
+    (summed_starts c.requires.1.1.0 (rw c.cheapest-sum.ensures))
 
 pub overflow_add-sum : goal.overflow_add-sum
 overflow_add-sum c =
-    omega (arith, value c, summed_most c.loop-left.invariant c.next-s.result c.next-s.ensures, most (goal.at.overflow_add-sum c).Start)
+    omega (arith, value c, summed_most c.loop-s.invariant c.in-Some.s c.in-Some.ensures.steps.0, most (goal.at.overflow_add-sum c).Start)
 
-pub loop-left-smaller : goal.loop-left-smaller
-loop-left-smaller c =
-    omega (arith, c.next-s.ensures.less, c.later-left.ensures _ c.next-s.ensures)
-
-pub loop-left-preserved : goal.loop-left-preserved
-loop-left-preserved c =
-    let l = c.loop-left in
-    let rest = c.later-left.ensures _ c.next-s.ensures in
-    summed_again l.invariant c.next-s.result c.next-s.ensures rest (ap (λ (v : ℕ). l.sum + v) (value c))
+pub loop-s-preserved : goal.loop-s-preserved
+loop-s-preserved c =
+    let l = c.loop-s in
+    let steps = c.in-Some.ensures.steps in
+    summed_again l.invariant c.in-Some.s steps.0 steps.1 (ap (λ (v : ℕ). l.sum + v) (value c))
 
 pub without-requires : goal.without-requires
-without-requires c = (c.requires.1.1.0, first_in (goal.at.without-requires c).After-next-s)
+without-requires c = (c.requires.1.1.0, c.loop-s.invariant.among c.in-Some.s c.in-Some.ensures.steps.0.member)
 
 pub returns : goal.returns
-returns c = summed_ends c.loop-left.invariant (omega arith)
+returns c = summed_ends c.loop-s.invariant c.in-None.ensures.steps
