@@ -18,13 +18,11 @@ pub fn ends_away(bound: u32) -> bool
 }
 
 // Whether a bound is close, for a day that ends at home or away.
+#[tactic(auto, unfolding(crate::specs::Bounds::is_close))]
 pub fn is_close(bound: u32) -> bool
     ensures { result ≡ is_close bound }
 {
-    if bound == 1 {
-        return true;
-    }
-    bound == 3
+    matches!(bound, 1 | 3)
 }
 
 // The lesser of two numbers.
@@ -55,7 +53,7 @@ fn into(t: &Rows, place: u32, others: u32, s: u32) -> u32
     if others == 0 {
         return from_place;
     }
-    lesser(from_place, cheapest(t, others, s))
+    from_place.min(cheapest(t, others, s))
 }
 
 // For each stop to come the cheapest leg into it, and the cheapest leg home.

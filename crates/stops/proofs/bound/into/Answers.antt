@@ -15,5 +15,5 @@ returns-then-others-eq0 c =
 pub returns : goal.returns
 returns c =
     let a = c.args in
-    c.lesser.ensures ∙ ap₂ min c.leg-from_place.ensures c.cheapest.ensures
+    c.min.ensures ∙ ap₂ min c.leg-from_place.ensures c.cheapest.ensures
     ∙ least_beside (λ p. row_leg a.t.now p a.s) a.place a.others (omega arith) c.requires.1.0
