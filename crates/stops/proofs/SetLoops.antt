@@ -1,5 +1,5 @@
 -- What a loop over the stops of a set needs: it takes the first stop of what is left out, and lowers or adds to what it has so far.
---   first_out, first_only    the first stop of a set, by its trailing zeros
+--   first_out, first_only, behind_small    the first stop of a set, by its trailing zeros, and what is behind it
 --   Lowered, lowered_starts, lowered_again, lowered_ends    the invariant of a loop that looks for the least value over a set
 --   least_alone, least_beside    the least value over a place and a set
 --   Summed, summed_starts, summed_again, summed_ends    the same for a sum; summed-most: no sum on the way is above the last
@@ -51,6 +51,10 @@ module _ (m : ℕ) (some : 0 < m) (small : m < 2 ^ most_stops) where
   first_only r o =
       let same : count_trailing_zeros 32 m + 1 ≡ r = ap (λ (xs : List ℕ). get_or xs 0 0) (sym (stops_in-next m small some).2 ∙ o.others) in
       omega arith
+
+-- what is behind the first stop is small
+pub behind_small : {m left r : ℕ} → m < 2 ^ most_stops → First m r → ((s : ℕ) → First m s → left ≡ m - 2 ^ (s - 1)) → left < 2 ^ most_stops
+behind_small {r = r} h o e = omega (arith, e r o)
 
 module _ {A : Type 0} (f : A → ℕ) where
   -- the least of v and of f over xs, taken from the left

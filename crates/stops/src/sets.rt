@@ -67,6 +67,7 @@ impl Iterator for Stops {
 
     ghost remaining = { λ stops. at_most stops.left };
 
+    #[tactic(auto, using(crate::proofs::SetLoops::behind_small))]
     fn next(&mut self) -> Option<u32> {
         let set = self.left;
         if set == 0 {
