@@ -1,28 +1,27 @@
 -- The precedence that a pair file makes.
+--   precedence_none, precedence_some    it has sets where the file has pairs
 --   precedence_pairs    its pairs are those of the file
---   Marking, marking_starts, marking_again, marking_ends    the invariant of the loop that makes it
-use mathlib.Core.Path.{◌≡◌, refl, ap, sym, ◌∙◌}
-use mathlib.Core.Bool.{true, not}
+--   Marking, marking_starts, marking_stops, marking_again, marking_ends    the invariant of the loop that makes it
+use mathlib.Core.Path.{◌≡◌, refl, sym, ◌∙◌}
 use mathlib.Core.List.Memᴰ
-use mathlib.Core.List.{List, [], ◌∷◌}
+use mathlib.Core.List.{List, [], ◌∷◌, ◌++◌}
 use mathlib.Core.Logic.{◌⊎◌, inl, inr, ◌≢◌, ◌↔◌}
-use Prim.Native.Nat.{ℕ, suc, ◌+◌, ◌-◌, ◌^◌, ◌≤◌, ◌<◌}
+use Prim.Native.Nat.{ℕ, ◌-◌, ◌^◌, ◌≤◌, ◌<◌}
 use native.Mathlib.Omega.{arith}
-use lib.Dec.{eqb}
-use lib.ListN.{length, get_or, set, drop, replicate, length-set, length-drop, length-replicate, get_or-replicate}
-use lib.Seq.{get_or-set_same, get_or-set_other, drop-cons}
+use lib.ListN.{length, get_or, set, replicate, length-set, length-replicate, get_or-replicate}
+use lib.Seq.{get_or-set_same, get_or-set_other}
+use Rattle.std.specs.Prelude.{None}
 use Rattle.sizes.specs.Sizes.{most_stops, places}
 use Rattle.lists.specs.Lists.{In, Distinct, more}
-use Rattle.lists.proofs.Tests.{compared, to_false, ne_neqb}
+use Rattle.lists.proofs.Tests.{compared}
 use Rattle.lists.proofs.Members.{in_head}
-use Rattle.lists.proofs.Empty.{in_nonempty}
 use Rattle.orders.specs.Pairs.{Pair, pairs_of}
 use Rattle.orders.proofs.PairFile.{pair_stops}
 use Rattle.stops.specs.Code.{stops_in}
 use Rattle.stops.proofs.SetBits.{stops_in_zero}
 use Rattle.stops.proofs.SetJoin.{stops_in_one}
 use Rattle.pairs.specs.Code.{OfStops, marked, pairs_in, precedence_of}
-use Rattle.pairs.proofs.PairLaws.{Held, pairs_in_lem}
+use Rattle.pairs.proofs.PairLaws.{Held, holding, pairs_in_lem}
 
 -- what is not among the bytes keeps its set
 marked_other : (sets bytes : List ℕ) (s : ℕ) → (In s bytes → ⊥) → get_or (marked sets bytes) s 0 ≡ get_or sets s 0
@@ -75,61 +74,78 @@ marked_in sets (a ∷ b ∷ bytes) long all (c, s) m =
             Memᴰ.eq_of_singleton (rw (e, get_or-set_same sets b (2 ^ (a - 1)) 0 (omega arith), stops_in_one a h.0 h.1) at i)
     go (inr i) (inr e) = inr (rw (get_or-set_other sets b s (2 ^ (a - 1)) 0 e) at i)
 
-paired_some : (bytes : List ℕ) → 1 ≤ length bytes → not (eqb (length bytes) 0) ≡ true
-paired_some bytes h = rw (to_false (eqb (length bytes) 0) (ne_neqb (length bytes) 0 (omega arith)))
+-- a pair file makes sets if it is not empty
+pub precedence_none : (bytes : List ℕ) → length bytes ≡ 0 → precedence_of bytes ≡ record { before = None }
+unfolding precedence_of
+precedence_none [] h = refl
+precedence_none (a ∷ bytes) h = absurd (omega arith)
+
+pub precedence_some : (bytes : List ℕ) → 0 < length bytes → precedence_of bytes ≡ holding (marked (replicate places 0) bytes)
+unfolding precedence_of
+precedence_some [] h = absurd (omega arith)
+precedence_some (a ∷ bytes) h = refl
 
 pub precedence_pairs : (bytes : List ℕ) → OfStops bytes → Distinct bytes → (p : Pair) → In p (pairs_in (precedence_of bytes)) ↔ In p (pairs_of bytes)
-unfolding precedence_of
-precedence_pairs bytes all once p = (λ m. there ((pairs_in_lem (precedence_of bytes) p).0 m), λ m. (pairs_in_lem (precedence_of bytes) p).1 (back m))
+unfolding precedence_of pairs_in
+precedence_pairs [] all once p = (λ m. m, λ m. m)
+precedence_pairs (a ∷ rest) all once p = (λ m. there ((pairs_in_lem sets p).0 m), λ m. (pairs_in_lem sets p).1 (back m))
   where
+    bytes : List ℕ
+    bytes = a ∷ rest
+
+    sets : List ℕ
+    sets = marked (replicate places 0) bytes
+
     none_before : In p.0 (stops_in (get_or (replicate places 0) p.1 0)) → p.1 ≤ most_stops → ⊥
     none_before i h = Memᴰ.not-nil (rw (get_or-replicate {A = ℕ} places p.1 0 0 (omega arith), stops_in_zero) at i)
 
-    there : Held (precedence_of bytes) p → In p (pairs_of bytes)
-    there h = go (marked_in (replicate places 0) bytes (length-replicate {A = ℕ} places 0) all p h.3)
+    there : Held sets p → In p (pairs_of bytes)
+    there h = go (marked_in (replicate places 0) bytes (length-replicate {A = ℕ} places 0) all p h.2)
       where
         go : In p (pairs_of bytes) ⊎ In p.0 (stops_in (get_or (replicate places 0) p.1 0)) → In p (pairs_of bytes)
         go (inl i) = i
-        go (inr i) = absurd (none_before i h.2)
+        go (inr i) = absurd (none_before i h.1)
 
-    back : In p (pairs_of bytes) → Held (precedence_of bytes) p
+    back : In p (pairs_of bytes) → Held sets p
     back m =
         let (i, j) = pair_stops bytes p m in
         let h : (1 ≤ p.0) × (p.0 ≤ most_stops) = all p.0 i in
         let k : (1 ≤ p.1) × (p.1 ≤ most_stops) = all p.1 j in
-        let e : get_or (marked (replicate places 0) bytes) p.1 0 ≡ 2 ^ (p.0 - 1) =
+        let e : get_or sets p.1 0 ≡ 2 ^ (p.0 - 1) =
         marked_pair (replicate places 0) bytes (length-replicate {A = ℕ} places 0) all once p m in
-        (paired_some bytes (in_nonempty i), k.0, k.1, rw (e, stops_in_one p.0 h.0 h.1) in_head)
-
--- After k bytes the pairs that are left make of the sets so far what the whole file makes of empty ones.
-pub record Marking (bytes sets : List ℕ) (k : ℕ) : Type 0 where
-  pub long : length sets ≡ places
-  pub same : marked sets (drop k bytes) ≡ marked (replicate places 0) bytes
-
-pub marking_starts : (bytes : List ℕ) → Marking bytes (replicate places 0) 0
-marking_starts bytes = record { long = length-replicate {A = ℕ} places 0; same = refl }
-
-pub marking_again :
-    {bytes sets : List ℕ} {k one : ℕ} → k + 1 < length bytes → Marking bytes sets k → one ≡ 2 ^ (get_or bytes k 0 - 1)
-    → Marking bytes (set sets (get_or bytes (k + 1) 0) one) (k + 2)
-marking_again {bytes} {sets} {k} {one} h m e = record {
-  long = length-set sets (get_or bytes (k + 1) 0) one ∙ m.long;
-  same = rw e (rw split at m.same);
-}
-  where
-    one_on : suc k ≡ k + 1
-    one_on = omega arith
-
-    two_on : k + 2 ≡ suc (k + 1)
-    two_on = omega arith
-
-    split : drop k bytes ≡ get_or bytes k 0 ∷ get_or bytes (k + 1) 0 ∷ drop (k + 2) bytes
-    split = drop-cons bytes k 0 (omega arith) ∙ ap (λ (l : List ℕ). get_or bytes k 0 ∷ l) (rw (one_on, two_on) (drop-cons bytes (k + 1) 0 h))
+        (k.0, k.1, rw (e, stops_in_one p.0 h.0 h.1) in_head)
 
 short : (sets bytes : List ℕ) → length bytes ≤ 1 → marked sets bytes ≡ sets
 short sets [] h = refl
 short sets (a ∷ []) h = refl
 short sets (a ∷ b ∷ bytes) h = absurd (omega arith)
 
-pub marking_ends : {bytes sets : List ℕ} {k : ℕ} → length bytes ≤ k + 1 → Marking bytes sets k → sets ≡ marked (replicate places 0) bytes
-marking_ends {bytes} {sets} {k} h m = sym (short sets (drop k bytes) (omega (arith, length-drop k bytes))) ∙ m.same
+-- A file is gone through two bytes at a time: the bytes left make of the sets so far what the whole file makes of empty ones.
+pub record Marking (bytes sets left : List ℕ) (size : ℕ) : Type 0 where
+  pub two : size ≡ 2
+  pub stops : OfStops left
+  pub same : marked sets left ≡ marked (replicate places 0) bytes
+
+pub marking_starts : {bytes left : List ℕ} {size : ℕ} → OfStops bytes → size ≡ 2 → left ≡ bytes → Marking bytes (replicate places 0) left size
+marking_starts all two e = record { two = two; stops = rw e all; same = rw e }
+
+module _ {bytes sets left : List ℕ} {size : ℕ} (m : Marking bytes sets left size) where
+  -- the stops of the next pair
+  pub marking_stops :
+      (pair behind : List ℕ) → (left ≡ pair ++ behind) × (length pair ≡ size)
+      → ((1 ≤ get_or pair 0 0) × (get_or pair 0 0 ≤ most_stops)) × ((1 ≤ get_or pair 1 0) × (get_or pair 1 0 ≤ most_stops))
+  marking_stops [] behind (e, l) = absurd (omega (arith, m.two))
+  marking_stops (a ∷ []) behind (e, l) = absurd (omega (arith, m.two))
+  marking_stops (a ∷ b ∷ rest) behind (e, l) = (m.stops a (rw e in_head), m.stops b (rw e (Memᴰ.tail in_head)))
+
+  pub marking_again :
+      (pair : List ℕ) {behind : List ℕ} {size' b one : ℕ} → (left ≡ pair ++ behind) × (length pair ≡ size) → size' ≡ size → b ≡ get_or pair 1 0
+      → one ≡ 2 ^ (get_or pair 0 0 - 1) → Marking bytes (set sets b one) behind size'
+  marking_again [] (e, l) s q r = absurd (omega (arith, m.two))
+  marking_again (a ∷ []) (e, l) s q r = absurd (omega (arith, m.two))
+  marking_again (a ∷ b ∷ []) (e, l) s q r =
+      rw (q, r) record { two = s ∙ m.two; stops = λ t i. m.stops t (rw e (Memᴰ.tail (Memᴰ.tail i))); same = rw e at m.same }
+  marking_again (a ∷ b ∷ c ∷ rest) (e, l) s q r = absurd (omega (arith, m.two))
+
+  pub marking_ends : length left < size → sets ≡ marked (replicate places 0) bytes
+  marking_ends h = sym (short sets left (omega (arith, m.two))) ∙ m.same

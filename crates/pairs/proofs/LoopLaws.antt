@@ -1,6 +1,6 @@
 -- The loops that look for stops that need not wait.
---   Readying, readying_starts, readying_new, readying_keeps, readying_passes, readying_ends    over the stops to come (`ready`)
---   Respecting, respecting_starts, respecting_left, respecting_fails, respecting_again, respecting_ends    along a node (`respected`)
+--   Readying, readying_starts, readying_keeps, readying_passes, readying_ends    over the stops to come (`ready`)
+--   Respecting, respecting_starts, respecting_left, respecting_fails, respecting_again    along a node (`respected`)
 use mathlib.Core.Path.{◌≡◌, ap, sym, ◌∙◌, subst}
 use mathlib.Core.Bool.{true, false, not}
 use mathlib.Core.List.Memᴰ
@@ -11,10 +11,10 @@ use native.Mathlib.Numerals.{add-one}
 use native.Mathlib.Omega.{arith}
 use lib.Dec.{T, not_T}
 use lib.ListN.{length, get_or, take, drop}
-use lib.Seq.{take-suc, take_all, split_at}
+use lib.Seq.{take-suc, split_at}
 use Rattle.sizes.specs.Sizes.{most_stops}
 use Rattle.lists.specs.Lists.{In, keep}
-use Rattle.lists.proofs.Tests.{to_true, to_false}
+use Rattle.lists.proofs.Tests.{to_false}
 use Rattle.orders.specs.Orders.{Node, left, extend, Partial}
 use Rattle.orders.specs.Pairs.{Pair, Pairing, respects, waits, ready}
 use Rattle.orders.proofs.Sets.{left-extend}
@@ -41,10 +41,6 @@ readying_starts pairs rest h = record {
 }
 
 module _ {pairs : List Pair} {rest found left s : ℕ} (l : Readying pairs rest found left) (o : First left s) where
-  -- the first stop of what is left is none of those found
-  pub readying_new : In s (stops_in found) → ⊥
-  readying_new i = omega (arith, l.behind s s i o.member)
-
   pub readying_keeps :
       {found' left' : ℕ} → waits pairs (stops_in rest) s ≡ false → found' ≡ found + 2 ^ (s - 1) → left' ≡ left - 2 ^ (s - 1)
       → Readying pairs rest found' left'
@@ -86,42 +82,38 @@ respecting_starts n pairs x h = record {
   so_far = respects_root pairs;
 }
 
+-- s is the next of them
 module _
-    {n : ℕ} {pairs : List Pair} {x : Node} {rest k : ℕ} (ok : Pairing n pairs) (p : Partial n x) (l : Respecting n pairs x rest k) (inside : k < length x)
+    {n : ℕ} {pairs : List Pair} {x : Node} {rest k s : ℕ} (ok : Pairing n pairs) (p : Partial n x) (l : Respecting n pairs x rest k)
+    (inside : k < length x) (next : s ≡ get_or x k 0)
   where
-    abbrev next : ℕ
-    next = get_or x k 0
+    split : x ≡ take k x ++ (s ∷ drop (suc k) x)
+    split = rw next (split_at x k 0 inside)
 
-    split : x ≡ take k x ++ (next ∷ drop (suc k) x)
-    split = split_at x k 0 inside
+    is_left_lem : In s (left n (take k x))
+    is_left_lem = next-left n (take k x) s (drop (suc k) x) (subst (Partial n) split p)
 
-    is_left_lem : In next (left n (take k x))
-    is_left_lem = next-left n (take k x) next (drop (suc k) x) (subst (Partial n) split p)
+    more : take (k + 1) x ≡ extend (take k x) s
+    more = rw (add-one k, next) (take-suc x k 0 inside)
 
-    more : take (k + 1) x ≡ extend (take k x) next
-    more = rw (add-one k) (take-suc x k 0 inside)
-
-    pub respecting_left : In next (stops_in rest)
+    pub respecting_left : In s (stops_in rest)
     respecting_left = rw l.leaves is_left_lem
 
-    respected_next : respects pairs (extend (take k x) next) ≡ not (waits pairs (stops_in rest) next)
-    respected_next = rw l.leaves (ready-respects ok (take k x) next l.so_far is_left_lem)
+    respected_next : respects pairs (extend (take k x) s) ≡ not (waits pairs (stops_in rest) s)
+    respected_next = rw l.leaves (ready-respects ok (take k x) s l.so_far is_left_lem)
 
-    pub respecting_fails : waits pairs (stops_in rest) next ≡ true → respects pairs x ≡ false
+    pub respecting_fails : waits pairs (stops_in rest) s ≡ true → respects pairs x ≡ false
     respecting_fails w = to_false (respects pairs x) (not_T (respects pairs x) (λ h. subst T (respected_next ∙ ap not w) (front h)))
       where
-        front : T (respects pairs x) → T (respects pairs (extend (take k x) next))
+        front : T (respects pairs x) → T (respects pairs (extend (take k x) s))
         front h =
-            respects-front pairs (extend (take k x) next) (drop (suc k) x)
-            (rw (append_assoc (take k x) (next ∷ []) (drop (suc k) x)) (subst (λ (y : Node). T (respects pairs y)) split h))
+            respects-front pairs (extend (take k x) s) (drop (suc k) x)
+            (rw (append_assoc (take k x) (s ∷ []) (drop (suc k) x)) (subst (λ (y : Node). T (respects pairs y)) split h))
 
     pub respecting_again :
-        {rest' : ℕ} → waits pairs (stops_in rest) next ≡ false → rest' ≡ rest - 2 ^ (next - 1) → Respecting n pairs x rest' (k + 1)
+        {rest' : ℕ} → waits pairs (stops_in rest) s ≡ false → rest' ≡ rest - 2 ^ (s - 1) → Respecting n pairs x rest' (k + 1)
     respecting_again w e = rw e record {
       small = omega (arith, l.small);
-      leaves = rw (more, left-extend n (take k x) next) ((stops_in-without rest l.small next respecting_left).1 ∙ rw l.leaves);
+      leaves = rw (more, left-extend n (take k x) s) ((stops_in-without rest l.small s respecting_left).1 ∙ rw l.leaves);
       so_far = rw more (subst T (sym (respected_next ∙ ap not w)) tt);
     }
-
-pub respecting_ends : {n : ℕ} {pairs : List Pair} {x : Node} {rest k : ℕ} → Respecting n pairs x rest k → length x ≤ k → respects pairs x ≡ true
-respecting_ends {pairs = pairs} {x} {k = k} l h = to_true (respects pairs x) (rw (take_all k x h) at l.so_far)

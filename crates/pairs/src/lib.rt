@@ -10,13 +10,12 @@ ghost use Rattle.orders.specs.Pairs.{Pairing, respects};
 ghost use Rattle.pairs.specs.Code.{OfStops, precedence_of, pairs_in, Readied};
 
 use sizes::PLACES;
-use stops::sets::{later, next, with, without};
+use stops::sets::{stops_of, with, without};
 
-// Whether there are pairs at all, and for each stop the set of the stops that must be flown before it.
+// For each stop the set of the stops that must be flown before it, where there are pairs at all.
 #[derive(Clone, Copy)]
 pub struct Precedence {
-    pub paired: bool,
-    pub before: [u32; PLACES],
+    pub before: Option<[u32; PLACES]>,
 }
 
 // The precedence that the pairs of a pair file make, two bytes a pair.
@@ -24,17 +23,15 @@ pub fn precedence_of(pairs: &[u8]) -> Precedence
     requires { OfStops pairs.now }
     ensures { result ≡ precedence_of pairs.now }
 {
+    if pairs.is_empty() {
+        return Precedence { before: None };
+    }
     let mut before = [0u32; PLACES];
-    let mut k = 0;
-    while k + 1 < pairs.len() {
-        let first = pairs[k];
-        let second = pairs[k + 1];
-        before[second as usize] = 1u32 << (first - 1);
-        k += 2;
+    for pair in pairs.chunks_exact(2) {
+        before[usize::from(pair[1])] = 1u32 << (pair[0] - 1);
     }
     Precedence {
-        paired: pairs.len() != 0,
-        before: before,
+        before: Some(before),
     }
 }
 
@@ -43,15 +40,11 @@ pub fn ready(precedence: Precedence, rest: u32) -> u32
     requires { rest < 2 ^ most_stops }
     ensures { Readied precedence rest result }
 {
-    if !precedence.paired {
+    let Some(before) = precedence.before else {
         return rest;
-    }
-    let before = precedence.before;
+    };
     let mut found = 0;
-    let mut left = rest;
-    while left != 0 {
-        let s = next(left);
-        left = later(left);
+    for s in stops_of(rest) {
         if before[s as usize] & rest == 0 {
             found = with(found, s);
         }
@@ -64,19 +57,16 @@ pub fn respected(precedence: Precedence, n: u32, x: &[u8]) -> bool
     requires { (n ≤ most_stops) × (Pairing n (pairs_in precedence) × Partial n x.now) }
     ensures { result ≡ respects (pairs_in precedence) x.now }
 {
-    if !precedence.paired {
+    let Some(before) = precedence.before else {
         return true;
-    }
-    let before = precedence.before;
+    };
     let mut rest = (1u32 << n) - 1;
-    let mut k = 0;
-    while k < x.len() {
-        let s = x[k] as u32;
+    for s in x {
+        let s = u32::from(*s);
         if before[s as usize] & rest != 0 {
             return false;
         }
         rest = without(rest, s);
-        k += 1;
     }
     true
 }

@@ -1,54 +1,47 @@
 -- The goals of `precedence_of` that the search leaves.
-use mathlib.Core.Path.{ap}
-use mathlib.Core.Bool.{not}
-use mathlib.Core.List.{List}
-use Prim.Native.Nat.{ℕ, ◌+◌, ◌-◌, ◌^◌, ◌≤◌}
+use mathlib.Core.Path.{ap, sym, ◌∙◌}
+use borrow.Author.Rules.{rules}
+use Prim.Native.Nat.{◌-◌, ◌^◌, ◌≤◌}
 use native.Mathlib.Omega.{arith}
-use lib.Dec.{eqb}
-use lib.ListN.{length, get_or}
+use lib.ListN.{get_or}
 use lib.Pow.{pow_mono}
 use Rattle.sizes.specs.Sizes.{most_stops}
-use Rattle.lists.proofs.Parts.{in_get_or}
-use Rattle.pairs.specs.Code.{precedence_of}
-use Rattle.pairs.proofs.FileLaws.{marking_starts, marking_again, marking_ends}
+use Rattle.pairs.proofs.PairLaws.{holding}
+use Rattle.pairs.proofs.FileLaws.{precedence_none, precedence_some, marking_starts, marking_stops, marking_again, marking_ends}
 use Rattle.pairs.proofs.precedence_of.Goals as goal
-use Rattle.pairs.proofs.precedence_of.Goals.{In-loop-k}
+use Rattle.pairs.proofs.precedence_of.Goals.{In-Some}
 
-pub loop-k-init : goal.loop-k-init
-loop-k-init c = (omega arith, marking_starts c.args.pairs.now)
+pub returns-then-is_empty : goal.returns-then-is_empty
+returns-then-is_empty c = sym (precedence_none c.args.pairs.now (search rules))
 
-first : (c : In-loop-k) → let a = get_or c.args.pairs.now c.loop-k.k 0 in (1 ≤ a) × (a ≤ most_stops)
-first c = c.requires _ (in_get_or c.args.pairs.now c.loop-k.k 0 (omega arith))
+pub loop-pair-init : goal.loop-pair-init
+loop-pair-init c =
+    let e = c.chunks_exact-pair-items.ensures in
+    rw c.into_iter-pair-iterator.ensures.into_iter_gives (marking_starts c.requires e.size e.rest)
 
-second : (c : In-loop-k) → let b = get_or c.args.pairs.now (c.loop-k.k + 1) 0 in (1 ≤ b) × (b ≤ most_stops)
-second c = c.requires _ (in_get_or c.args.pairs.now (c.loop-k.k + 1) 0 c.loop-k-test.true)
-
-pub loop-k-preserved : goal.loop-k-preserved
-loop-k-preserved c =
-    let a = get_or c.args.pairs.now c.loop-k.k 0 in
-    let room : 2 ^ (a - 1) ≤ 2 ^ most_stops = pow_mono {i = a - 1} {j = most_stops} (omega (arith, first (goal.at.loop-k-preserved c).In-loop-k)) in
-    (omega arith, marking_again c.loop-k-test.true c.loop-k.invariant.1 (omega arith))
-
-pub returns : goal.returns
-unfolding precedence_of
-returns c =
-    let bytes = c.args.pairs.now in
-    ap (λ (sets : List ℕ). record { paired = not (eqb (length bytes) 0); before = sets }) (marking_ends c.loop-k-test.false c.loop-k.invariant.1)
+-- the stops of the next pair
+stops :
+    (c : In-Some)
+    → let pair = c.in-Some.pair.now in
+    ((1 ≤ get_or pair 0 0) × (get_or pair 0 0 ≤ most_stops)) × ((1 ≤ get_or pair 1 0) × (get_or pair 1 0 ≤ most_stops))
+stops c = marking_stops c.loop-pair.invariant _ _ c.in-Some.ensures.steps.1
 
 pub overflow_sub-before : goal.overflow_sub-before
-overflow_sub-before c = omega (arith, first (goal.at.overflow_sub-before c).In-loop-k, second (goal.at.overflow_sub-before c).In-loop-k)
-
-pub overflow_cast-before : goal.overflow_cast-before
-overflow_cast-before c = omega (arith, first (goal.at.overflow_cast-before c).In-loop-k, second (goal.at.overflow_cast-before c).In-loop-k)
+overflow_sub-before c = omega (arith, stops (goal.at.overflow_sub-before c).In-Some)
 
 pub overflow_shl-before : goal.overflow_shl-before
-overflow_shl-before c = omega (arith, first (goal.at.overflow_shl-before c).In-loop-k, second (goal.at.overflow_shl-before c).In-loop-k)
+overflow_shl-before c = omega (arith, stops (goal.at.overflow_shl-before c).In-Some)
 
-pub overflow_cast-before-in-loop-k : goal.overflow_cast-before-in-loop-k
-overflow_cast-before-in-loop-k c = omega (arith, first (goal.at.overflow_cast-before-in-loop-k c).In-loop-k, second (goal.at.overflow_cast-before-in-loop-k c).In-loop-k)
+pub bounds-before-from : goal.bounds-before-from
+bounds-before-from c = omega (arith, c.from.ensures, stops (goal.at.bounds-before-from c).In-Some)
 
-pub offset_bounds-before-second : goal.offset_bounds-before-second
-offset_bounds-before-second c = omega (arith, first (goal.at.offset_bounds-before-second c).In-loop-k, second (goal.at.offset_bounds-before-second c).In-loop-k)
+pub loop-pair-preserved : goal.loop-pair-preserved
+loop-pair-preserved c =
+    let k = get_or c.in-Some.pair.now 0 0 - 1 in
+    let room : 2 ^ k ≤ 2 ^ most_stops = pow_mono {i = k} {j = most_stops} (omega (arith, stops (goal.at.loop-pair-preserved c).In-Some)) in
+    let steps = c.in-Some.ensures.steps in
+    marking_again c.loop-pair.invariant _ steps.1 steps.0 c.from.ensures (omega arith)
 
-pub bounds-before-second : goal.bounds-before-second
-bounds-before-second c = omega (arith, first (goal.at.bounds-before-second c).In-loop-k, second (goal.at.bounds-before-second c).In-loop-k)
+pub returns : goal.returns
+returns c =
+    ap holding (marking_ends c.loop-pair.invariant c.in-None.ensures.steps.1.0) ∙ sym (precedence_some c.args.pairs.now (search rules))
