@@ -1,5 +1,5 @@
 -- What the loops of this crate need that fill an array of a number for each place.
---   Entering, entering_starts, entering_again, entering_ends    the invariant of a loop that enters a number at each of some places
+--   filled, entered_more      what is filled from a place on, and entered at one place after the other
 --   row_ends, row_on          what a row makes of the places of the stops of a set, some cells after the others
 --   from_another               the leg into a stop from another one, above every cost from the stop itself
 --   Joined, joined_starts, joined_again, joined_ends    the invariant of a loop that goes through the rows of the stops of a set: at last the least
@@ -7,13 +7,15 @@
 use mathlib.Core.Path.{◌≡◌, refl, ap, ◌∙◌}
 use mathlib.Core.Bool.{Bool, true, false, not, cond}
 use mathlib.Core.List.Memᴰ
-use mathlib.Core.List.{List, [], ◌∷◌}
+use mathlib.Core.List.{List, [], ◌∷◌, ◌++◌}
 use mathlib.Core.Logic.{◌⊎◌, inl, inr, ◌≢◌}
 use Prim.Native.Nat.{ℕ, suc, ◌+◌, ◌-◌, ◌^◌, ◌≤◌, ◌<◌, min}
 use native.Mathlib.Omega.{arith}
 use lib.Dec.{eqb}
 use lib.Pow.{pow_mono}
-use lib.ListN.{length, get_or, set, length-set}
+use lib.ListN.{length, get_or, set, take, replicate, length-set}
+use borrow.Rule.Slice.PartMut.{put_mid, mid_of, post_of}
+use Rattle.std.proofs.lemmas.List.{places as places-law, get_or-append_right}
 use lib.Seq.{get_or-set_same, get_or-set_other}
 use Rattle.sizes.specs.Sizes.{most_stops, places, above_every_cost}
 use Rattle.lists.specs.Lists.{In, put, least, without}
@@ -27,36 +29,31 @@ use Rattle.carried.specs.Carried.{among}
 use Rattle.carried.specs.Code.{Table, Several, lessened, Entered}
 use Rattle.carried.proofs.SetLaws.{others_some}
 
--- The invariant of a loop that enters a number at each place from a to before b: those before s are entered.
-pub record Entering (new : ℕ → ℕ) (xs₀ xs : List ℕ) (a b s : ℕ) : Type 0 where
-  pub some : a ≤ s
-  pub few : s ≤ b
-  pub entered : Entered new xs₀ xs a s
-
-pub entering_starts : (new : ℕ → ℕ) (xs : List ℕ) (a b : ℕ) → a ≤ b → length xs ≡ places → Entering new xs xs a b a
-entering_starts new xs a b g h = record {
-  some = omega arith;
-  few = g;
-  entered = record { done = λ j p q. absurd (omega arith); early = λ j p. refl; late = λ j p. refl; room = h };
-}
-
-pub entering_again :
-    {new : ℕ → ℕ} {xs₀ xs : List ℕ} {a b s v : ℕ} → Entering new xs₀ xs a b s → s < b → b ≤ places → v ≡ new s
-    → Entering new xs₀ (set xs s v) a b (s + 1)
-entering_again {new} {xs₀} {xs} {a} {b} {s} {v} l g h e = record {
-  some = omega (arith, l.some);
-  few = omega arith;
-  entered = record {
-    done = λ j p q. go j p q (compared j s);
-    early = λ j p. other j (λ q. let z : j ≡ s = q in omega (arith, l.some)) ∙ x.early j p;
-    late = λ j p. other j (λ q. let z : j ≡ s = q in omega arith) ∙ x.late j (omega arith);
-    room = length-set xs s v ∙ x.room;
-  };
+-- what is filled from place a on
+pub filled :
+    (a k : ℕ) {v : ℕ} {xs ys : List ℕ} → length xs ≡ places → a + k ≡ places → ys ≡ replicate (length (mid_of a k xs)) v
+    → Entered (λ s. v) xs (put_mid a k xs ys) a places
+filled a k {v} {xs} h whole e = rw (e, n) record {
+  done = λ s p q. grind (arith, places-law);
+  early = λ s p. grind (arith, places-law);
+  late = λ s p. grind (arith, places-law);
+  room = grind (arith, places-law);
 }
   where
-    x : Entered new xs₀ xs a s
-    x = l.entered
+    n : length (mid_of a k xs) ≡ k
+    n = grind (arith, places-law)
 
+-- numbers are entered at one place after the other
+pub entered_more :
+    {new : ℕ → ℕ} {xs₀ xs : List ℕ} {a s v : ℕ} → Entered new xs₀ xs a s → a ≤ s → s < places → v ≡ new s
+    → Entered new xs₀ (set xs s v) a (s + 1)
+entered_more {new} {xs₀} {xs} {a} {s} {v} x some few e = record {
+  done = λ j p q. go j p q (compared j s);
+  early = λ j p. other j (λ q. let z : j ≡ s = q in omega arith) ∙ x.early j p;
+  late = λ j p. other j (λ q. let z : j ≡ s = q in omega arith) ∙ x.late j (omega arith);
+  room = length-set xs s v ∙ x.room;
+}
+  where
     other : (j : ℕ) → j ≢ s → get_or (set xs s v) j 0 ≡ get_or xs j 0
     other j d = get_or-set_other xs s j v 0 d
 
@@ -64,18 +61,17 @@ entering_again {new} {xs₀} {xs} {a} {b} {s} {v} l g h e = record {
     go j p q (inl z) = rw z (get_or-set_same xs s v 0 (omega (arith, x.room)) ∙ e)
     go j p q (inr n) = other j n ∙ x.done j p (omega arith)
 
-pub entering_ends : {new : ℕ → ℕ} {xs₀ xs : List ℕ} {a b s : ℕ} → Entering new xs₀ xs a b s → b ≤ s → Entered new xs₀ xs a b
-entering_ends {new} {xs₀} {xs} {a} {b} {s} l h = let e : s ≡ b = omega (arith, l.few) in rw (← e) l.entered
-
 -- What the cells of a row up to stop k make of the places of the stops of a set that reaches no further: all that the row makes of them. And cells joined
 -- behind others do as if all had joined at once.
 module _ (row : List ℕ) (r : ℕ) {xs ys : List ℕ} (k : ℕ) (x : Entered (lessened row r xs) xs ys 1 (suc k)) where
-  pub row_ends : {rest : ℕ} → rest < 2 ^ most_stops → rest < 2 ^ k → (s : ℕ) → In s (stops_in rest) → get_or ys s 0 ≡ lessened row r xs s
-  row_ends {rest} h f s i = go (ordered s k)
+  pub row_ends :
+      {rest : ℕ} → rest < 2 ^ most_stops → rest < 2 ^ k
+      → ((s : ℕ) → In s (stops_in rest) → get_or ys s 0 ≡ lessened row r xs s) × (length ys ≡ places)
+  row_ends {rest} h f = (λ s i. go s i (ordered s k), x.room)
     where
-      go : (s ≤ k) ⊎ (k < s) → get_or ys s 0 ≡ lessened row r xs s
-      go (inl q) = x.done s (stops_in_range rest h s i).0 (omega arith)
-      go (inr q) = absurd (omega (arith, (stops_in-without rest h s i).0, pow_mono {i = k} {j = s - 1} (omega arith)))
+      go : (s : ℕ) → In s (stops_in rest) → (s ≤ k) ⊎ (k < s) → get_or ys s 0 ≡ lessened row r xs s
+      go s i (inl q) = x.done s (stops_in_range rest h s i).0 (omega arith)
+      go s i (inr q) = absurd (omega (arith, (stops_in-without rest h s i).0, pow_mono {i = k} {j = s - 1} (omega arith)))
 
   pub row_on : {zs : List ℕ} (m : ℕ) → k ≤ m → Entered (lessened row r ys) ys zs (suc k) (suc m) → Entered (lessened row r xs) xs zs 1 (suc m)
   unfolding lessened

@@ -13,10 +13,10 @@ ghost use Rattle.carried.specs.Carried.{among};
 ghost use Rattle.carried.specs.Code.{lessened, Entered, noted, ahead_of, family_of, Several, Shares, Gives, Adds};
 
 use sizes::{ABOVE_EVERY_COST, PLACES};
-use stops::bound::{is_close, lesser};
+use stops::bound::is_close;
 use stops::legs::leg;
 use stops::node_record::Record;
-use stops::sets::{later, next};
+use stops::sets::{later, next, stops_of};
 use stops::table::Rows;
 
 // A row's cells join four at a time: where the second, the third and the fourth four begin, and the least sets that have a stop there.
@@ -69,7 +69,7 @@ fn noted(x: Homes, s: u32, home: u32) -> Homes
     Homes {
         cheapest: x.cheapest,
         giver: x.giver,
-        other: lesser(x.other, home),
+        other: x.other.min(home),
     }
 }
 
@@ -82,20 +82,18 @@ fn from_another(leg: u32, r: usize, s: usize) -> u32
 
 // The cells of the row of stop r from one place to before another join: into has the cheapest leg into each stop so far. All of them are gone through,
 // whatever stops are left, so that several are done at a time.
-fn cells_join(row: [u32; PLACES], r: usize, from: usize, to: usize, into: &mut [u32])
-    requires { (from ≤ to) × ((to ≤ places) × (length into.old ≡ places)) }
+fn cells_join(row: [u32; PLACES], r: usize, from: usize, to: usize, into: &mut [u32; PLACES])
+    requires { (from ≤ to) × (to ≤ places) }
     ensures { Entered (lessened row r into.old) into.old into.new from to }
 {
-    let mut s = from;
-    while s < to {
-        into[s] = lesser(into[s], from_another(row[s], r, s));
-        s += 1;
+    for s in from..to {
+        into[s] = into[s].min(from_another(row[s], r, s));
     }
 }
 
 // The row of stop r joins, for the stops of rest: up to the last four that has one of them, so that a day of few stops goes without the others.
-fn row_joins(row: [u32; PLACES], r: usize, rest: u32, into: &mut [u32])
-    requires { (rest < 2 ^ most_stops) × (length into.old ≡ places) }
+fn row_joins(row: [u32; PLACES], r: usize, rest: u32, into: &mut [u32; PLACES])
+    requires { rest < 2 ^ most_stops }
     ensures { ((s : ℕ) → In s (stops_in rest) → get_or into.new s 0 ≡ lessened row r into.old s) × (length into.new ≡ places) }
 {
     cells_join(row, r, 1, SECOND_FOUR, into);
@@ -114,34 +112,27 @@ fn row_joins(row: [u32; PLACES], r: usize, rest: u32, into: &mut [u32])
 }
 
 // Puts above every cost wherever a leg is to stand.
-fn cleared(into: &mut [u32])
-    requires { length into.old ≡ places }
+fn cleared(into: &mut [u32; PLACES])
     ensures { Entered (λ s. above_every_cost) into.old into.new 1 places }
 {
-    let mut s = 1;
-    while s < PLACES {
-        into[s] = ABOVE_EVERY_COST;
-        s += 1;
-    }
+    into[1..].fill(ABOVE_EVERY_COST);
 }
 
 // The cheapest leg into each stop of rest from another one of them, a row at a time.
-fn least_into(t: &Rows, rest: u32, into: &mut [u32])
-    requires { Several rest × (Cheap t.now × (length into.old ≡ places)) }
+fn least_into(t: &Rows, rest: u32, into: &mut [u32; PLACES])
+    requires { Several rest × Cheap t.now }
     ensures { ((s : ℕ) → In s (stops_in rest) → get_or into.new s 0 ≡ among (legs t.now) (stops_in rest) s) × (length into.new ≡ places) }
 {
     cleared(into);
-    let mut left = rest;
-    while left != 0 {
-        let r = next(left) as usize;
-        left = later(left);
+    for r in stops_of(rest) {
+        let r = r as usize;
         row_joins(t[r], r, rest, into);
     }
 }
 
 // What the children by the stops of rest share where the bound is close. Each stop's part of the total is written to its place.
-fn shared(t: &Rows, rest: u32, into: &mut [u32]) -> Family
-    requires { Several rest × (Cheap t.now × (length into.old ≡ places)) }
+fn shared(t: &Rows, rest: u32, into: &mut [u32; PLACES]) -> Family
+    requires { Several rest × Cheap t.now }
     ensures { Shares t.now rest result into.new }
 {
     least_into(t, rest, into);
@@ -151,10 +142,7 @@ fn shared(t: &Rows, rest: u32, into: &mut [u32]) -> Family
         giver: 0,
         other: ABOVE_EVERY_COST,
     };
-    let mut left = rest;
-    while left != 0 {
-        let s = next(left);
-        left = later(left);
+    for s in stops_of(rest) {
         total += into[s as usize];
         homes = noted(homes, s, leg(t, s, 0));
     }
@@ -177,7 +165,7 @@ fn only_total(total: u32) -> Family
 
 // What the children by the stops of rest share, by the bound. A complete child, which is the only one, adds its leg home, whichever the bound is; else a
 // plain bound adds nothing.
-fn family_by(t: &Rows, bound: u32, rest: u32, into: &mut [u32]) -> Family
+fn family_by(t: &Rows, bound: u32, rest: u32, into: &mut [u32; PLACES]) -> Family
     requires { (rest < 2 ^ most_stops) × (Cheap t.now × (into.old ≡ replicate places 0)) }
     ensures { Gives t.now bound rest result into.new }
 {
@@ -207,7 +195,7 @@ pub fn added(family: Family, own: u32, s: u32) -> u32
 }
 
 // What each child of b adds to it; into, zeros at first, gets each stop's part of the total.
-pub fn child_costs(n: u32, bound: u32, t: Rows, b: Record, into: &mut [u32]) -> Costs
+pub fn child_costs(n: u32, bound: u32, t: Rows, b: Record, into: &mut [u32; PLACES]) -> Costs
     requires { (n ≤ most_stops) × ((b.set < 2 ^ n) × (Cheap t × (into.old ≡ replicate places 0))) }
     ensures { Adds t bound (last_stop b) (2 ^ n - 1 - b.set) result into.new }
 {

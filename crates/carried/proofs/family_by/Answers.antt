@@ -34,8 +34,7 @@ returns-then-later-eq0 c =
 
 pub shared-requires : goal.shared-requires
 shared-requires c =
-    let p = c.requires in
-    (more (goal.at.shared-requires c).After-later (omega arith), (p.1.0, rw p.1.1 (length-replicate {A = ℕ} places 0)))
+    (more (goal.at.shared-requires c).After-later (omega arith), c.requires.1.0)
 
 pub returns-then-is_close : goal.returns-then-is_close
 returns-then-is_close c =

@@ -11,4 +11,4 @@ returns-then-home-x c = let a = c.args in rw (lt-ltb a.home a.x.cheapest (omega 
 
 pub returns : goal.returns
 unfolding noted
-returns c = let a = c.args in rw (c.lesser.ensures, le-ltb a.home a.x.cheapest (omega arith)) refl
+returns c = let a = c.args in rw (c.min.ensures, le-ltb a.home a.x.cheapest (omega arith)) refl

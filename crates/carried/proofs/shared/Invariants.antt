@@ -1,5 +1,5 @@
 -- `carried::shared` meets its contract. The loop's invariant: the total and the legs into the stops left make the family's sum, and the legs home of
--- the stops passed are noted. The measure is the set of the stops left, as a number.
+-- the stops passed are noted.
 use Rattle.lists.specs.Lists.{sum}
 use Rattle.stops.specs.Legs.{legs}
 use Rattle.stops.specs.Code.{stops_in}
@@ -8,10 +8,7 @@ use Rattle.carried.specs.Carried.{among}
 use Rattle.carried.proofs.HomeLaws.{Homed}
 use Rattle.carried.proofs.shared.Given as goal
 
-abbrev pub invariant-loop-left : goal.invariant-loop-left
-invariant-loop-left l =
-    Summed (among (legs l.t) (stops_in l.rest)) l.rest (sum (among (legs l.t) (stops_in l.rest)) (stops_in l.rest)) l.total l.left
-    × Homed (legs l.t).home l.rest l.homes l.left
-
-abbrev pub decreases-loop-left : goal.decreases-loop-left
-decreases-loop-left l = l.left
+abbrev pub invariant-loop-s : goal.invariant-loop-s
+invariant-loop-s l =
+    Summed (among (legs l.t) (stops_in l.rest)) l.rest (sum (among (legs l.t) (stops_in l.rest)) (stops_in l.rest)) l.total l.s-iterator.left
+    × Homed (legs l.t).home l.rest l.homes l.s-iterator.left
