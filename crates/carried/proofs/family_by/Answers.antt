@@ -3,7 +3,7 @@
 use mathlib.Core.Path.{◌≡◌, sym, ◌∙◌}
 use Prim.Native.Nat.{ℕ, ◌<◌}
 use native.Mathlib.Omega.{arith}
-use lib.ListN.{length-replicate, replicate}
+use lib.ListN.{replicate}
 use Rattle.sizes.specs.Sizes.{places}
 use Rattle.carried.specs.Code.{Several, family_of, Gives}
 use Rattle.carried.specs.declared.Family.{Family}
