@@ -1,13 +1,12 @@
--- Laws of lists that squeezing a lane rests on: what one turn of `squeeze` and of `resize` does, where the loop of `resize`
--- ends, and how many records it leaves.
+-- Laws of lists that squeezing a lane rests on: what one turn of `squeeze` and of `resize` does, and how many records `resize` leaves.
 use mathlib.Core.Path.{◌≡◌, refl, ap, ◌∙◌}
 use mathlib.Core.Bool.{Bool, true, false, cond}
 use mathlib.Core.List.{List, [], ◌∷◌, ◌++◌, map, append_assoc}
 use Prim.Native.Nat.{ℕ, suc, ◌+◌, ◌≤◌, ◌<◌}
 use native.Mathlib.Numerals.{add-one}
 use native.Mathlib.Omega.{arith}
-use lib.ListN.{length, get_or, take, drop, set, take-append-drop, length-append, length-drop, length-map}
-use lib.Seq.{slice, slice_empty, slice-cons, length-slice, length-take-le, take-suc-set, take-set-lt, drop-set-lt}
+use lib.ListN.{length, get_or, take, drop, set, length-append, length-drop, length-map}
+use lib.Seq.{slice, slice-cons, length-slice, length-take-le, take-suc-set, take-set-lt, drop-set-lt}
 use Rattle.stops.specs.Code.{empty_record}
 use Rattle.stops.specs.declared.node_record.Record.{Record}
 use Rattle.records.specs.Code.{Sifted}
@@ -54,6 +53,3 @@ module _ {A : Type 0} (f : A → A) where
   length-changed i j l h k =
       simp (length-append, length-map)
       (omega (arith, length-take-le i l (omega arith), length-slice i j l k, length-drop j l))
-
-  pub change_ends : (i : ℕ) (l : List A) → changed i i l ≡ l
-  change_ends i l = rw (slice_empty i l) (take-append-drop i l)

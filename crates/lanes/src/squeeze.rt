@@ -27,10 +27,8 @@ pub fn squeeze(w: &mut [u32], used: usize, limit: u32) -> usize
     ensures { Sifted (is_within limit) (records w.old) 0 used 0 (records w.new) result }
 {
     let mut next = 0;
-    let mut i = 0;
-    while i < used {
+    for i in 0..used {
         next = kept(w, i, next, limit);
-        i += 1;
     }
     next
 }
@@ -40,10 +38,8 @@ pub fn resize(w: &mut [u32], from: usize, to: usize)
     requires { (from ≤ to) × (to ≤ length (records w.old)) }
     ensures { records w.new ≡ take from (records w.old) ++ (map sized (slice from to (records w.old)) ++ drop to (records w.old)) }
 {
-    let mut i = from;
-    while i < to {
+    for i in from..to {
         let x = sized_at(w, i);
         store(w, i, x);
-        i += 1;
     }
 }
