@@ -1,7 +1,7 @@
 -- Laws of blocks of places. A block's minimum tells of its places (`some_block`, `in_block_lem`); so the first place with a
 -- bound up to a limit is the first in the first block whose minimum is up to it (`first_in_first`), and the last is the last in the last
 -- (`last_in_last`).
-use mathlib.Core.Path.{◌≡◌, refl, ap}
+use mathlib.Core.Path.{◌≡◌, refl}
 use mathlib.Core.Bool.{true, false}
 use mathlib.Core.List.{List}
 use mathlib.Core.Logic.{◌⊎◌, inl, inr, ◌≢◌}
@@ -12,18 +12,7 @@ use Rattle.lists.proofs.Tests.{compared, ordered}
 use Rattle.stops.specs.declared.node_record.Record.{Record}
 use Rattle.lanes.specs.Sizes.{blocks, gone}
 use Rattle.blocks.specs.Code.{bound_at, Least, in_block, Blocked, Foremost}
-use Rattle.blocks.proofs.BlockLaws.{least-none, least_both, least_like, block_low, block_high, block_below, block_from}
-
--- Walks that look for a place i where f is up to a limit: a walk has not passed it, and what is above the limit is not it.
-pub not_passed : (a limit k i : ℕ) → a ≤ limit → (i < k → limit < a) → k ≤ i
-not_passed a limit k i low over = go (ordered k i)
-  where
-    go : (k ≤ i) ⊎ (i < k) → k ≤ i
-    go (inl o) = o
-    go (inr o) = absurd (let h : limit < a = over o in omega arith)
-
-pub not_there : (f : ℕ → ℕ) (limit k i : ℕ) → f i ≤ limit → limit < f k → i ≢ k
-not_there f limit k i low over e = let same : f i ≡ f k = ap f e in omega arith
+use Rattle.blocks.proofs.BlockLaws.{least_both, block_low, block_high, block_below, block_from}
 
 -- what holds at k, and at j if it is not k
 pub but_one : (P : ℕ → Type 0) (k j : ℕ) → P k → (j ≢ k → P j) → P j
@@ -58,26 +47,17 @@ module _ {recs : List Record} {used w : ℕ} {index : List ℕ} (b : Blocked rec
       (i, (start, (end, (inside, omega arith))))
 
   pub first_in_first :
-      (limit k r : ℕ) → limit < gone → k < blocks → get_or index k 0 ≤ limit → ((j : ℕ) → j < k → limit < get_or index j 0)
-      → bound_at recs r ≤ limit → ((j : ℕ) → k * w ≤ j → j < r → limit < bound_at recs j) → Foremost false recs used limit r
-  first_in_first limit k r live h up before at passed =
-      let (i, (start, (end, (inside, low)))) = in_block_lem limit k live h up in
-      record {
-        inside = reach (ordered r i) (passed i start) inside low;
-        within = at;
-        before = λ j m h. go j h (ordered (k * w) j);
-      }
+      (limit k r : ℕ) → ((j : ℕ) → j < k → limit < get_or index j 0) → r < used → bound_at recs r ≤ limit
+      → ((j : ℕ) → k * w ≤ j → j < r → limit < bound_at recs j) → Foremost false recs used limit r
+  first_in_first limit k r before inside at passed = record {
+    inside = inside;
+    within = at;
+    before = λ j m h. go j h m (ordered (k * w) j);
+  }
     where
-      reach : {i : ℕ} → (r ≤ i) ⊎ (i < r) → (i < r → limit < bound_at recs i) → i < used → bound_at recs i ≤ limit → r < used
-      reach (inl o) over inside low = omega arith
-      reach (inr o) over inside low = absurd (let z = over o in omega arith)
-
-      go : (j : ℕ) → j < r → (k * w ≤ j) ⊎ (j < k * w) → limit < bound_at recs j
-      go j m (inl o) = passed j o m
-      go j m (inr o) =
-          let (i, (start, (end, (inside, low)))) = in_block_lem limit k live h up in
-          let least = block_tells j (omega arith) in
-          omega (arith, before (j / w) (block_below w b.wide j k o))
+      go : (j : ℕ) → j < r → j < used → (k * w ≤ j) ⊎ (j < k * w) → limit < bound_at recs j
+      go j h m (inl o) = passed j o h
+      go j h m (inr o) = omega (arith, (block_tells j m).1, before (j / w) (block_below w b.wide j k o))
 
   pub last_in_last :
       (limit end k to r : ℕ) → ((i : ℕ) → i < used → i / w < end) → ((j : ℕ) → k < j → j < end → limit < get_or index j 0)
@@ -95,12 +75,9 @@ module _ {recs : List Record} {used w : ℕ} {index : List ℕ} (b : Blocked rec
           let later : k + 1 ≤ j / w = block_from w b.wide j (k + 1) (omega arith) in
           omega (arith, (block_tells j m).1, behind (j / w) (omega arith) (ends j m))
 
--- The least bound of the places in use in the first k blocks: block by block, up to all that places in use are in.
+-- The least bound of the places in use in the first k blocks: one block more.
 abbrev pub LeastTo : List Record → ℕ → ℕ → ℕ → ℕ → Type 0
 LeastTo recs used w k m = Least (λ (i : ℕ). (i < used) × (i / w < k)) (bound_at recs) m
-
-pub least_to_none : (recs : List Record) (used w : ℕ) → LeastTo recs used w 0 gone
-least_to_none recs used w = least-none _ _ (λ i p. omega (arith, p.1))
 
 pub least_to_more :
     {recs : List Record} {used w : ℕ} {index : List ℕ} (b : Blocked recs used w index) (k low r : ℕ) → k < blocks → LeastTo recs used w k low
@@ -113,8 +90,3 @@ least_to_more {recs} {used} {w} b k low r h l e =
     go : (i : ℕ) → (i < used) × (i / w < k + 1) → (k ≤ i / w) ⊎ (i / w < k) → ((i < used) × (i / w < k)) ⊎ in_block used w k i
     go i p (inl o) = inr (p.0, omega (arith, p.1))
     go i p (inr o) = inl (p.0, o)
-
-pub least_to_all :
-    (recs : List Record) (used w k low : ℕ) → ((i : ℕ) → i < used → i / w < k) → LeastTo recs used w k low
-    → Least (λ (i : ℕ). i < used) (bound_at recs) low
-least_to_all recs used w k low ends l = least_like _ (λ (i : ℕ). i < used) _ _ low (λ i h. (h, ends i h)) (λ i p h. p.0) (λ i p. refl) l

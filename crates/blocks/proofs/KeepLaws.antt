@@ -1,16 +1,17 @@
 -- Least bounds of blocks, kept right.
 --   same_none, same_set, same-on          an index that differs in the minima alone: one as it is, one stored to, one after another
---   cleared_more                          one more minimum is clear
+--   cleared                               the minima are clear
 --   blocked_set, blocked_but, blocked_joins    one minimum found anew; one record changed; one record joins
 --   blocked_spared                        a record leaves that was not the least of its block
 --   blocked_like, blocked_fewer, blocked_none  bounds and minima as before; a gone record less; no record
 use mathlib.Core.Path.{◌≡◌, refl, sym, ap, ◌∙◌}
-use mathlib.Core.List.{List}
+use mathlib.Core.List.{List, ◌++◌}
 use mathlib.Core.Logic.{◌⊎◌, inl, inr, ⊎_elim, ◌≢◌}
-use Prim.Native.Nat.{ℕ, suc, ◌+◌, ◌*◌, ◌/◌, ◌≤◌, ◌<◌, min}
+use Prim.Native.Nat.{ℕ, suc, ◌+◌, ◌-◌, ◌*◌, ◌/◌, ◌≤◌, ◌<◌, min}
 use native.Mathlib.Omega.{arith}
-use lib.ListN.{length, get_or, set, length-set}
-use lib.Seq.{get_or-set_same, get_or-set_other}
+use lib.ListN.{length, get_or, set, drop, replicate, length-set, length-append, length-drop}
+use lib.Seq.{get_or-set_same, get_or-set_other, get_or-drop}
+use Rattle.std.proofs.lemmas.List.{length-replicate, get_or-replicate, get_or_append_left, get_or-append_right}
 use Rattle.lists.proofs.Tests.{compared}
 use Rattle.stops.specs.Code.{empty_record}
 use Rattle.stops.specs.declared.node_record.Record.{Record}
@@ -28,15 +29,19 @@ same_set index k v h = record { same_length = length-set index k v; behind = λ 
 pub same-on : (index index' index'' : List ℕ) → Same index index' → Same index' index'' → Same index index''
 same-on index index' index'' a b = record { same_length = b.same_length ∙ a.same_length; behind = λ j h. b.behind j h ∙ a.behind j h }
 
--- one more minimum is clear
-pub cleared_more :
-    (index : List ℕ) (k : ℕ)
-    → k < length index → ((j : ℕ) → j < k → get_or index j 0 ≡ gone) → (j : ℕ) → j < k + 1 → get_or (set index k gone) j 0 ≡ gone
-cleared_more index k h was j low = go (last_or k j low)
-  where
-    go : (j < k) ⊎ (j ≡ k) → get_or (set index k gone) j 0 ≡ gone
-    go (inl less) = get_or-set_other index k j gone 0 (λ e. omega (arith, e)) ∙ was j less
-    go (inr e) = rw e (get_or-set_same index k gone 0 h)
+-- the minima are clear: the first n words are the bound of gone records, and the words behind are as they were
+pub cleared :
+    (n : ℕ) (index : List ℕ) → n ≤ length index
+    → let index' = replicate n gone ++ drop n index in
+    ((k : ℕ) → k < n → get_or index' k 0 ≡ gone) × (length index' ≡ length index) × ((j : ℕ) → n ≤ j → get_or index' j 0 ≡ get_or index j 0)
+cleared n index h = (
+  λ k below. get_or_append_left (replicate n gone) (drop n index) 0 k (omega (arith, length-replicate n gone)) ∙ get_or-replicate n k gone 0 below,
+  omega (arith, length-append (replicate n gone) (drop n index), length-replicate n gone, length-drop n index),
+  λ j behind.
+      get_or-append_right (replicate n gone) (drop n index) n j 0 (length-replicate n gone) behind
+      ∙ get_or-drop n index (j - n) 0
+      ∙ ap (λ i. get_or index i 0) (omega (arith, behind)),
+)
 
 -- the minimum of block k is found anew
 pub blocked_set :

@@ -6,11 +6,9 @@ ghost use Rattle.lanes.specs.Sizes.{blocks, gone};
 ghost use Rattle.lanes.specs.Code.{marked};
 ghost use Rattle.blocks.specs.Code.{Least, BlockedBut, Blocked, Same, bound_at};
 
-use crate::lesser::lesser_place;
 use lanes::constants::{BLOCKS, GONE};
 use lanes::mark;
 use records::bound_at;
-use stops::bound::lesser;
 
 // The least bound of the records from `from` to `to`; that of gone records if there is none.
 pub fn least_in(w: &[u32], from: usize, to: usize) -> u32
@@ -18,10 +16,8 @@ pub fn least_in(w: &[u32], from: usize, to: usize) -> u32
     ensures { Least (λ (i : ℕ). (from ≤ i) × (i < to)) (bound_at (records w.now)) result }
 {
     let mut least = GONE;
-    let mut i = from;
-    while i < to {
-        least = lesser(least, bound_at(w, i));
-        i += 1;
+    for i in from..to {
+        least = least.min(bound_at(w, i));
     }
     least
 }
@@ -31,8 +27,8 @@ fn refresh(w: &[u32], used: usize, shift: u32, k: usize, index: &mut [u32])
     requires { BlockedBut k (records w.now) used (2 ^ shift) index.old × ((k < blocks) × (blocks * 2 ^ shift < 2 ^ 62)) }
     ensures { Blocked (records w.now) used (2 ^ shift) index.new × Same index.old index.new }
 {
-    let from = lesser_place(k << shift, used);
-    let to = lesser_place((k + 1) << shift, used);
+    let from = (k << shift).min(used);
+    let to = ((k + 1) << shift).min(used);
     index[k] = least_in(w, from, to);
 }
 
@@ -55,11 +51,9 @@ pub fn note(w: &[u32], from: usize, to: usize, shift: u32, index: &mut [u32])
     requires { Blocked (records w.now) from (2 ^ shift) index.old × ((from ≤ to) × ((to ≤ length (records w.now)) × ((to ≤ blocks * 2 ^ shift) × (blocks * 2 ^ shift < 2 ^ 62)))) }
     ensures { Blocked (records w.now) to (2 ^ shift) index.new × Same index.old index.new }
 {
-    let mut i = from;
-    while i < to {
+    for i in from..to {
         let k = i >> shift;
-        index[k] = lesser(index[k], bound_at(w, i));
-        i += 1;
+        index[k] = index[k].min(bound_at(w, i));
     }
 }
 
@@ -68,11 +62,7 @@ fn clear(index: &mut [u32])
     requires { blocks ≤ length index.old }
     ensures { ((k : ℕ) → k < blocks → get_or index.new k 0 ≡ gone) × Same index.old index.new }
 {
-    let mut k = 0;
-    while k < BLOCKS {
-        index[k] = GONE;
-        k += 1;
-    }
+    index[..BLOCKS].fill(GONE);
 }
 
 // The minima of the first `used` records, from nothing.

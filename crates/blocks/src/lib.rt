@@ -5,4 +5,3 @@
 
 pub mod find;
 pub mod keep;
-pub mod lesser;

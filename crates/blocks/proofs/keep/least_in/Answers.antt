@@ -1,5 +1,5 @@
 -- The goals of `keep::least_in` that the search leaves.
-use mathlib.Core.Path.{◌≡◌, ap, ◌∙◌}
+use mathlib.Core.Path.{ap, ◌∙◌}
 use Prim.Native.Nat.{ℕ, ◌≤◌, ◌<◌, min}
 use native.Mathlib.Omega.{arith}
 use Rattle.records.specs.Code.{records}
@@ -10,16 +10,11 @@ use Rattle.blocks.proofs.keep.least_in.Goals as goal
 pub loop-i-init : goal.loop-i-init
 loop-i-init c =
     let a = c.args in
-    (omega arith, least-none (λ (j : ℕ). (a.from ≤ j) × (j < a.from)) (bound_at (records a.w.now)) (λ j h. omega (arith, h.0, h.1)))
+    least-none (λ (j : ℕ). (a.from ≤ j) × (j < a.from)) (bound_at (records a.w.now)) (λ j h. omega (arith, h.0, h.1))
 
 pub loop-i-preserved : goal.loop-i-preserved
 loop-i-preserved c =
     let s = c.loop-i in
     let a = c.args in
     let f = bound_at (records a.w.now) in
-    (omega arith, least-from f a.from s.i s.least _ (omega arith) (c.lesser-least.ensures ∙ ap (min _) c.bound_at.ensures) s.invariant.1)
-
-pub returns : goal.returns
-returns c =
-    let e : c.loop-i.i ≡ c.args.to = omega arith in
-    rw e at c.loop-i.invariant.1
+    least-from f a.from s.i s.least _ (omega arith) (c.min-least.ensures ∙ ap (min _) c.bound_at.ensures) s.invariant
