@@ -3,25 +3,22 @@
 --   length_joined, nodes_joined                those that have joined, as nodes
 --   only_same, only_on, only_set               an index that changes in a lane's heads alone
 --   only_with, only_all                        so it does where one joins, and where some do
---   Clearing                                   the heads of a lane are cleared, one after the other
 --   Joining                                    children are written behind a lane, one after the other
 --   lent_records, lent_back                    what a part of the pool's words that is lent on is as records
 use mathlib.Core.Path.{◌≡◌, refl, ap, sym, ◌∙◌}
 use mathlib.Core.Bool.{Bool, true, false}
 use mathlib.Core.List.Memᴰ
 use mathlib.Core.List.{List, [], ◌∷◌, ◌++◌, map, append_assoc, append-nil}
-use mathlib.Core.Logic.{◌⊎◌, inl, inr, ◌≢◌}
 use Prim.Native.Nat.{ℕ, suc, ◌+◌, ◌*◌, ◌-◌, ◌^◌, ◌≤◌, ◌<◌}
 use native.Mathlib.Numerals.{add-one}
 use native.Mathlib.Omega.{arith}
 use lib.ListN.{length, get_or, take, drop, set, length-set, length-drop, take-append-drop}
-use lib.Seq.{take_all, take-suc-set, drop-length, drop-drop, drop-set-lt, get_or-set_same, get_or-set_other}
+use lib.Seq.{take_all, take-suc-set, drop-length, drop-drop, drop-set-lt, get_or-set_other}
 use borrow.Rule.Slice.PartMut.{mid_of, put_mid, Post-is}
 use Rattle.sizes.specs.Sizes.{most_stops}
 use Rattle.lists.specs.Lists.{In}
 use Rattle.lists.proofs.Members.{in_head}
 use Rattle.lists.proofs.Slices.{drop_further}
-use Rattle.lists.proofs.Tests.{compared}
 use Rattle.stops.specs.Code.{empty_record, First}
 use Rattle.stops.specs.declared.node_record.Record.{Record}
 use Rattle.records.specs.Code.{records, in_slot, slots}
@@ -104,26 +101,6 @@ only_all p k index (x ∷ xs) =
     let next = index_with p (suc k) index x in
     only_on p.heads index next (index_all p (suc k) next xs) (only_with p (suc k) index x) (only_all p (suc k) next xs)
 
--- the heads of a lane are cleared, up to place h of the index
-pub record Clearing (from : ℕ) (index₀ : List ℕ) (h : ℕ) (index : List ℕ) : Type 0 where
-  pub only : Only from index₀ index
-  pub done : (j : ℕ) → from ≤ j → j < h → get_or index j 0 ≡ 0
-
-pub clearing_starts : (from : ℕ) (index : List ℕ) → Clearing from index from index
-clearing_starts from index = record { only = only_same from index; done = λ j low high. absurd (omega arith) }
-
-pub clearing_again :
-    (from : ℕ) (index₀ : List ℕ) (h : ℕ) (index : List ℕ) → from ≤ h → h < from + heads → h < length index → Clearing from index₀ h index
-    → Clearing from index₀ (h + 1) (set index h 0)
-clearing_again from index₀ h index low high inside c = record {
-  only = only_on from index₀ index (set index h 0) c.only (only_set from index h 0 low high);
-  done = λ j l m. go j l m (compared j h);
-}
-  where
-    go : (j : ℕ) → from ≤ j → j < h + 1 → (j ≡ h) ⊎ (j ≢ h) → get_or (set index h 0) j 0 ≡ 0
-    go j l m (inl e) = rw e (get_or-set_same index h 0 0 inside)
-    go j l m (inr n) = get_or-set_other index h j 0 0 n ∙ c.done j l (omega arith)
-
 -- The children by the stops of a set are written behind a lane so: the first k records of the part are those of the stops passed, each with
 -- its link, `left` has the others, and what is behind is as it was.
 pub record Joining (p : Lane) (part₀ kids : List Record) (alive : ℕ) (index₀ : List ℕ) (part : List Record) (index : List ℕ) (left k : ℕ) : Type 0
@@ -134,13 +111,12 @@ pub record Joining (p : Lane) (part₀ kids : List Record) (alive : ℕ) (index�
     pub number : k + length (slots left kids) ≡ length (slots alive kids)
     pub behind : drop k part ≡ drop k part₀
     pub long : length part ≡ length part₀
-    pub even : length index ≡ length index₀
 
 pub joining_starts :
     (p : Lane) (part kids : List Record) (alive : ℕ) (index : List ℕ) → alive < 2 ^ most_stops → Joining p part kids alive index part index alive 0
 joining_starts p part kids alive index h =
     let none : p.count + 0 ≡ p.count = omega arith in
-    record { small = h; same = rw none; chains = rw none; number = omega arith; behind = refl; long = refl; even = refl }
+    record { small = h; same = rw none; chains = rw none; number = omega arith; behind = refl; long = refl }
 
 module _
     {p : Lane} {part₀ kids : List Record} {alive : ℕ} {index₀ : List ℕ} {part : List Record} {index : List ℕ} {left k : ℕ}
@@ -166,7 +142,6 @@ module _
           number = omega (arith, ap length (slots-first kids o), l.number);
           behind = drop-set-lt (k + 1) part k (joined_of p index x) (omega arith) ∙ drop_further k part part₀ l.behind (k + 1) (omega arith);
           long = length-set part k (joined_of p index x) ∙ l.long;
-          even = (only_with p (p.count + k + 1) index x).same_length ∙ l.even;
         }
 
     pub joining_ends :

@@ -1,13 +1,12 @@
--- Laws of records taken off the end of the lane at the pool's front (`Trimmed`): at the start none is (`trimmed_none`); the last one, which
--- is gone, leaves (`trimmed_one`).
-use mathlib.Core.Path.{◌≡◌, refl, sym, subst, ◌∙◌}
+-- Laws of records taken off the end of the lane at the pool's front (`Trimmed`): the last one, which is gone, leaves (`trimmed_one`).
+use mathlib.Core.Path.{◌≡◌, sym, subst, ◌∙◌}
 use mathlib.Core.Bool.{Bool, true, false, cond}
 use mathlib.Core.List.{List}
 use mathlib.Core.Logic.{◌⊎◌, inl, inr}
 use Prim.Native.Nat.{ℕ, suc, ◌+◌, ◌-◌, ◌≤◌, ◌<◌}
 use native.Mathlib.Omega.{arith}
 use lib.Dec.{T}
-use lib.ListN.{length, get_or, set, length-set}
+use lib.ListN.{get_or, set, length-set}
 use lib.Seq.{get_or-set_other}
 use Rattle.lists.proofs.Tests.{compared, to_true}
 use Rattle.stops.specs.Code.{empty_record}
@@ -31,14 +30,6 @@ abbrev pub index_without : List Record → Lane → ℕ → List ℕ → List �
 index_without recs p i index =
     cond p.linked (set index (p.heads + bucket_of (sized (get_or recs i empty_record))) (get_or recs i empty_record).size) index
 
-pub trimmed_none : (recs : List Record) (p : Lane) (index : List ℕ) → Walkable recs p index → Trimmed recs p index index p.count
-trimmed_none recs p index w = record {
-  below = omega arith;
-  walkable = w;
-  only = record { same_length = refl; before = λ j h. refl; behind = λ j h. refl };
-  left = λ j h k. absurd (omega arith);
-}
-
 only_one :
     (from b v : ℕ) (index index' : List ℕ) → b < heads → Only from index index' → Only from index (set index' (from + b) v)
 only_one from b v index index' h o = record {
@@ -48,9 +39,6 @@ only_one from b v index index' h o = record {
 }
 
 module _ (recs : List Record) (p : Lane) (index index' : List ℕ) (front : p.end ≡ 0) where
-  pub trimmed_inside : (k : ℕ) → Trimmed recs p index index' k → 0 < k → k - 1 < length recs
-  trimmed_inside k t h = subst (λ (i : ℕ). i < length recs) (place-front p.end (k - 1) front) (t.walkable.lies.inside (k - 1) (omega arith))
-
   -- the index without record k, as the laws of chains have it
   fewer_index :
       (k : ℕ) → T p.linked

@@ -11,7 +11,7 @@ use lanes::{Lane, place, sized_at};
 use records::{load, slot, store};
 use sizes::RECORD_WORDS;
 use stops::node_record::Record;
-use stops::sets::{later, next};
+use stops::sets::stops_of;
 
 // The record x as number c of a lane: with the link that it gets, and in the index the head of its chain.
 fn joined(x: Record, p: Lane, c: usize, index: &mut [u32]) -> Record
@@ -33,12 +33,7 @@ fn clear(index: &mut [u32], from: usize)
     requires { from + heads ≤ length index.old }
     ensures { ((h : ℕ) → h < heads → get_or index.new (from + h) 0 ≡ 0) × Only from index.old index.new }
 {
-    let end = from + HEADS;
-    let mut h = from;
-    while h < end {
-        index[h] = 0;
-        h += 1;
-    }
+    index[from..from + HEADS].fill(0);
 }
 
 // Links a lane from nothing.
@@ -50,12 +45,10 @@ pub fn relink(w: &mut [u32], p: Lane, index: &mut [u32])
         return;
     }
     clear(index, p.heads);
-    let mut c = 0;
-    while c < p.count {
-        c += 1;
-        let i = place(p.end, c);
+    for k in 0..p.count {
+        let i = place(p.end, k + 1);
         let x = sized_at(w, i);
-        store(w, i, joined(x, p, c, index));
+        store(w, i, joined(x, p, k + 1, index));
     }
 }
 
@@ -74,11 +67,8 @@ fn write(part: &mut [u32], p: Lane, kids: &[u32], alive: u32, index: &mut [u32])
     requires { (Slotted alive (records kids.now) × (length (slots alive (records kids.now)) ≤ length (records part.old))) × ((p.count + length (slots alive (records kids.now)) < 2 ^ 64) × (T p.linked → (p.count + length (slots alive (records kids.now)) < 2 ^ 32) × (p.heads + heads ≤ length index.old))) }
     ensures { (result ≡ length (slots alive (records kids.now))) × ((records part.new ≡ joined_all p p.count index.old (slots alive (records kids.now)) ++ drop result (records part.old)) × (index.new ≡ index_all p p.count index.old (slots alive (records kids.now)))) }
 {
-    let mut left = alive;
     let mut k = 0;
-    while left != 0 {
-        let s = next(left);
-        left = later(left);
+    for s in stops_of(alive) {
         let x = load(kids, slot(s));
         store(part, k, joined(x, p, p.count + k + 1, index));
         k += 1;

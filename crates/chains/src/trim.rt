@@ -26,10 +26,11 @@ pub fn trim(w: &[u32], p: Lane, index: &mut [u32]) -> usize
     requires { (p.end ≡ 0) × Walkable (records w.now) p index.old }
     ensures { (result ≤ p.count) × (Walkable (records w.now) (counting p result) index.new × (Only p.heads index.old index.new × ((j : ℕ) → result ≤ j → j < p.count → is_live (get_or (records w.now) j empty_record) ≡ false))) }
 {
-    let mut used = p.count;
-    while 0 < used && !live(w, used - 1) {
-        used -= 1;
-        unlink(w, used, p, index);
+    for i in (0..p.count).rev() {
+        if live(w, i) {
+            return i + 1;
+        }
+        unlink(w, i, p, index);
     }
-    used
+    0
 }

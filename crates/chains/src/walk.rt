@@ -10,7 +10,7 @@ use lanes::constants::HEADS;
 use lanes::{Lane, place, sized_at};
 use records::{bound_at, load, set_at, size_at, slot};
 use stops::node_record::Record;
-use stops::sets::{later, next, with};
+use stops::sets::{stops_of, with};
 
 // What spreads sets and last stops over the heads: a stop above every set, the golden ratio of a word, and what the product is divided by, so that
 // its upper digits tell.
@@ -80,10 +80,7 @@ pub fn unrivalled(kids: &[u32], alive: u32, w: &[u32], p: Lane, index: &[u32], l
     ensures { Thinned (is_free limit (lane_of (records w.now) p.end p.count)) (records kids.now) alive result }
 {
     let mut kept = 0;
-    let mut left = alive;
-    'child: while left != 0 {
-        let s = next(left);
-        left = later(left);
+    'child: for s in stops_of(alive) {
         let k = slot(s);
         let mut c = top(p, index, load(kids, k));
         while c != 0 {

@@ -1,72 +1,54 @@
 -- The goals of `join::write` that the search leaves.
-use mathlib.Core.Path.{refl, ◌∙◌}
 use Prim.Native.Nat.{◌<◌}
 use native.Mathlib.Omega.{arith}
 use lib.ListN.{length}
 use Rattle.records.specs.Code.{records, slots}
 use Rattle.chains.proofs.JoinLaws.{joining_starts, joining_room, joining_again, joining_ends}
 use Rattle.chains.proofs.join.write.Goals as goal
-use Rattle.chains.proofs.join.write.Goals.{After-next-s}
+use Rattle.chains.proofs.join.write.Goals.{In-Some}
 
-pub loop-left-init : goal.loop-left-init
-loop-left-init c =
+pub loop-s-init : goal.loop-s-init
+loop-s-init c =
     let a = c.args in
-    (refl, joining_starts a.p (records a.part.now) (records a.kids.now) a.alive a.index.now c.requires.0.0.small)
+    rw (c.into_iter-s-iterator.ensures.into_iter_gives, c.stops_of-s-items.ensures)
+    (joining_starts a.p (records a.part.now) (records a.kids.now) a.alive a.index.now c.requires.0.0.small)
 
 -- one more child is among them all
 room :
-    (c : After-next-s)
-    → c.loop-left.k < length (slots c.args.alive (records c.args.kids.now))
-room c = joining_room c.loop-left.invariant.1 c.next-s.ensures
+    (c : In-Some)
+    → c.loop-s.k < length (slots c.args.alive (records c.args.kids.now))
+room c = joining_room c.loop-s.invariant c.in-Some.ensures.steps.0
 
 pub load-x-requires : goal.load-x-requires
 load-x-requires c =
-    omega (arith, c.slot.ensures, c.next-s.ensures, c.requires.0.0.room)
+    omega (arith, c.slot.ensures, c.in-Some.ensures.steps.0, c.requires.0.0.room)
 
 pub joined-requires : goal.joined-requires
 joined-requires c t =
     let p = c.requires.1.1 t in
-    (omega (arith, room (goal.at.joined-requires c).After-next-s), omega (arith, c.loop-left.invariant.1.even))
+    (omega (arith, room (goal.at.joined-requires c).In-Some), omega arith)
 
 pub store-requires : goal.store-requires
 store-requires c =
-    omega (arith, room (goal.at.store-requires c).After-next-s, c.loop-left.invariant.1.long, c.requires.0.1)
+    omega (arith, room (goal.at.store-requires c).In-Some, c.loop-s.invariant.long, c.requires.0.1)
 
 pub overflow_add-k : goal.overflow_add-k
 overflow_add-k c =
-    omega (arith, room (goal.at.overflow_add-k c).After-next-s, c.requires.1.0)
+    omega (arith, room (goal.at.overflow_add-k c).In-Some, c.requires.1.0)
 
-pub loop-left-smaller : goal.loop-left-smaller
-loop-left-smaller c =
-    omega (arith, c.later-left.ensures _ c.next-s.ensures)
-
-pub loop-left-preserved : goal.loop-left-preserved
-loop-left-preserved c = (
-  c.store.auto.w ∙ c.loop-left.invariant.0,
-  joining_again c.loop-left.invariant.1 c.next-s.ensures c.requires.0.1 (c.later-left.ensures _ c.next-s.ensures)
-      c.slot.ensures c.load-x.ensures c.joined.ensures.0 c.store.ensures c.joined.ensures.1,
-)
+pub loop-s-preserved : goal.loop-s-preserved
+loop-s-preserved c =
+    joining_again c.loop-s.invariant c.in-Some.ensures.steps.0 c.requires.0.1 c.in-Some.ensures.steps.1
+    c.slot.ensures c.load-x.ensures c.joined.ensures.0 c.store.ensures c.joined.ensures.1
 
 pub returns : goal.returns
-returns c = joining_ends c.loop-left.invariant.1 c.loop-left-test.false
-
-pub next-s-requires : goal.next-s-requires
-next-s-requires c = let h = c.loop-left.invariant.1.small in omega arith
-
-pub later-left-requires : goal.later-left-requires
-later-left-requires c = let h = c.loop-left.invariant.1.small in omega arith
+returns c = joining_ends c.loop-s.invariant c.in-None.ensures.steps
 
 pub slot-requires : goal.slot-requires
-slot-requires c = c.next-s.ensures.some
+slot-requires c = c.in-Some.ensures.steps.0.some
 
 pub overflow_add-p : goal.overflow_add-p
-overflow_add-p c = omega (arith, room (goal.at.overflow_add-p c).After-next-s, c.requires.1.0)
+overflow_add-p c = omega (arith, room (goal.at.overflow_add-p c).In-Some, c.requires.1.0)
 
-pub overflow_add-p-in-loop-left : goal.overflow_add-p-in-loop-left
-overflow_add-p-in-loop-left c = omega (arith, room (goal.at.overflow_add-p-in-loop-left c).After-next-s, c.requires.1.0)
-
-pub shape_of-part : goal.shape_of-part
-shape_of-part c = c.loop-left.invariant.0
-
-pub shape_of-index : goal.shape_of-index
-shape_of-index c = c.loop-left.invariant.1.even
+pub overflow_add-p-in-loop-s : goal.overflow_add-p-in-loop-s
+overflow_add-p-in-loop-s c = omega (arith, room (goal.at.overflow_add-p-in-loop-s c).In-Some, c.requires.1.0)

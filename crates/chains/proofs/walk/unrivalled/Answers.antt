@@ -19,12 +19,12 @@ use Rattle.chains.proofs.walk.unrivalled.Goals.{After-after-c, After-rival, Afte
 child :
     (c : After-slot-k)
     → let kids = records c.args.kids.now in
-    (get_or kids c.slot-k.result empty_record ≡ in_slot kids c.next-s.result) × (c.slot-k.result < length kids)
+    (get_or kids c.slot-k.result empty_record ≡ in_slot kids c.in-Some.s) × (c.slot-k.result < length kids)
 unfolding in_slot
 child c =
     let kids = records c.args.kids.now in (
       ap (λ (j : ℕ). get_or kids j empty_record) c.slot-k.ensures,
-      omega (arith, c.slot-k.ensures, c.next-s.ensures.some, c.next-s.ensures.few, c.requires.0.0.room),
+      omega (arith, c.slot-k.ensures, c.in-Some.ensures.steps.0.some, c.in-Some.ensures.steps.0.few, c.requires.0.0.room),
     )
 
 -- whether it is left, by what the inner loop found
@@ -33,7 +33,7 @@ free :
     → let a = c.args in
     let lane = lane_of (records a.w.now) a.p.end a.p.count in
     any (is_rival a.limit (get_or (records a.kids.now) c.slot-k.result empty_record)) lane ≡ b
-    → is_free a.limit lane (in_slot (records a.kids.now) c.next-s.result) ≡ not b
+    → is_free a.limit lane (in_slot (records a.kids.now) c.in-Some.s) ≡ not b
 unfolding is_free
 free c b e = rw (← (child c).0, e)
 
@@ -71,7 +71,7 @@ child-preserved-then-rival c =
     let x = get_or (records a.kids.now) c.slot-k.result empty_record in
     let met = standing_met (records a.w.now) a.p (is_rival a.limit x) (bucket_of x) c.loop-c.c (standing (goal.at.child-preserved-then-rival c).In-loop-c).0
     c.loop-c.invariant (tested (goal.at.child-preserved-then-rival c).After-rival ∙ c.if-rival.true) in
-    thinning_drops c.child.invariant c.next-s.ensures (c.later-left.ensures _ c.next-s.ensures) (free (goal.at.child-preserved-then-rival c).After-slot-k true met)
+    thinning_drops c.child.invariant c.in-Some.ensures.steps.0 c.in-Some.ensures.steps.1 (free (goal.at.child-preserved-then-rival c).After-slot-k true met)
 
 -- the walk stands at the next one, which is before
 goes_on :
@@ -92,19 +92,14 @@ child-preserved c =
     let x = get_or (records a.kids.now) c.slot-k.result empty_record in
     let none = standing_end (records a.w.now) a.p (is_rival a.limit x) (bucket_of x) c.loop-c.c c.loop-c-test.false
     c.loop-c.invariant in
-    thinning_keeps c.child.invariant c.next-s.ensures (c.later-left.ensures _ c.next-s.ensures) c.with-kept.ensures (free (goal.at.child-preserved c).After-slot-k false none)
+    thinning_keeps c.child.invariant c.in-Some.ensures.steps.0 c.in-Some.ensures.steps.1 c.with-kept.ensures (free (goal.at.child-preserved c).After-slot-k false none)
 
 pub child-init : goal.child-init
-child-init c = thinning_starts _ _ _ c.requires.0.0.small
-
-pub next-s-requires : goal.next-s-requires
-next-s-requires c = (omega arith, c.child.invariant.small)
-
-pub later-left-requires : goal.later-left-requires
-later-left-requires c = (omega arith, c.child.invariant.small)
+child-init c =
+    rw (c.into_iter-s-iterator.ensures.into_iter_gives, c.stops_of-s-items.ensures) (thinning_starts _ _ _ c.requires.0.0.small)
 
 pub slot-k-requires : goal.slot-k-requires
-slot-k-requires c = omega (arith, c.next-s.ensures)
+slot-k-requires c = omega (arith, c.in-Some.ensures.steps.0)
 
 pub load-requires : goal.load-requires
 load-requires c = (child c).1
@@ -114,9 +109,6 @@ place-requires c = let at = standing c in (omega arith, at.1.0)
 
 pub rival-requires : goal.rival-requires
 rival-requires c = (rw c.place.ensures (standing (goal.at.rival-requires c).In-loop-c).1.1, (child (goal.at.rival-requires c).After-slot-k).1)
-
-pub child-smaller-then-rival : goal.child-smaller-then-rival
-child-smaller-then-rival c = omega (arith, c.later-left.ensures _ c.next-s.ensures)
 
 pub after-c-requires : goal.after-c-requires
 after-c-requires c = let at = standing (goal.at.after-c-requires c).In-loop-c in (omega arith, at.1)
@@ -128,10 +120,7 @@ pub loop-c-preserved : goal.loop-c-preserved
 loop-c-preserved c = let at = goal.at.loop-c-preserved c in (goes_on c (standing at.In-loop-c).0 (tested at.After-rival)).0
 
 pub with-kept-requires : goal.with-kept-requires
-with-kept-requires c = thinning_adds c.child.invariant c.next-s.ensures
-
-pub child-smaller : goal.child-smaller
-child-smaller c = omega (arith, c.later-left.ensures _ c.next-s.ensures)
+with-kept-requires c = thinning_adds c.child.invariant c.in-Some.ensures.steps.0
 
 pub returns : goal.returns
-returns c = thinning_ends c.child.invariant c.child-test.false
+returns c = thinning_ends c.child.invariant c.in-None.ensures.steps

@@ -20,7 +20,4 @@ decreases-loop-c l = l.c
 
 abbrev pub invariant-child : goal.invariant-child
 invariant-child l =
-    Thinning (is_free l.limit (lane_of (records l.w) l.p.end l.p.count)) (records l.kids) l.alive l.kept l.left
-
-abbrev pub decreases-child : goal.decreases-child
-decreases-child l = l.left
+    Thinning (is_free l.limit (lane_of (records l.w) l.p.end l.p.count)) (records l.kids) l.alive l.kept l.s-iterator.left
