@@ -1,16 +1,16 @@
 -- What choosing a record means. These definitions are the code's own: a reader of the promise needs none of them.
 --   nth_of                numbers counted from the front or from the end
 --   is_open, FirstOpen    a record up to a limit that is not complete; the first such among some places
---   Chosen, Chose        a place has the node that a selection picks
-use Rattle.std.specs.Prelude.{◌≡◌, Bool, true, false, not, ◌&&◌, List, ℕ, ◌+◌, ◌-◌, ◌<◌, leb, eqb, get_or}
+--   Chosen, Chose         a place has the node that a selection picks
+use Rattle.std.specs.Prelude.{◌≡◌, Bool, true, false, not, ◌&&◌, List, ℕ, ◌+◌, ◌-◌, ◌<◌, leb, eqb, get_or, Result, Ok, Err}
 use Rattle.search.specs.Problem.{Problem}
 use Rattle.search.specs.Selection.{chosen, select_by}
 use Rattle.stops.specs.Code.{empty_record}
 use Rattle.stops.specs.declared.node_record.Record.{Record}
+use Rattle.answer.specs.declared.refusal.Refusal.{Refusal}
+use Rattle.answer.specs.Refusals.{number}
 use Rattle.lanes.specs.Code.{sized, is_live, live_of, others_of}
 use Rattle.blocks.specs.Code.{Before}
-use Rattle.selection.specs.declared.Place.{Place}
-use Rattle.selection.specs.declared.Place.TheVariants.{At, Refused}
 
 -- number c of those from `from` to `to`, counted from 0 and from the front or, if late, from the end
 abbrev pub nth_of : Bool → ℕ → ℕ → ℕ → ℕ
@@ -34,7 +34,7 @@ pub record Chosen (n : ℕ) (recs : List Record) (used selection i : ℕ) : Type
       (P : Problem Record) → ((x : Record) → P.complete x ≡ eqb x.size n)
       → select_by P (λ x. x.bound) selection (live_of used recs) ≡ chosen (sized (get_or recs i empty_record)) (others_of used i recs)
 
--- a selection above 3 is refused with 4
-abbrev pub Chose : ℕ → List Record → ℕ → ℕ → Place → Type 0
-Chose n recs used selection (At i) = Chosen n recs used selection i
-Chose n recs used selection (Refused number) = (3 < selection) × (number ≡ 4)
+-- the place is that of the node picked; a selection above 3 is refused, and the refusal's number is 4
+abbrev pub Chose : ℕ → List Record → ℕ → ℕ → Result ℕ Refusal → Type 0
+Chose n recs used selection (Ok i) = Chosen n recs used selection i
+Chose n recs used selection (Err e) = (3 < selection) × (number e ≡ 4)

@@ -13,17 +13,11 @@ ghost use Rattle.selection.specs.Code.{Chose, Chosen};
 mod open_nodes;
 
 use crate::open_nodes::{first_open, open, open_in};
+use answer::refusal::Refusal;
 use blocks::find::{earliest, last_before, latest, least};
 use blocks::keep::least_in;
 use lanes::constants::EVERY_BOUND;
 use lanes::layout::Layout;
-
-// Where the chosen node stands, or the number of a refusal.
-#[derive(Clone, Copy)]
-pub enum Place {
-    At(usize),
-    Refused(u32),
-}
 
 // The latest of the active nodes that is not complete; if all are, the latest.
 fn latest_open(w: &[u32], used: usize, n: u32) -> usize
@@ -74,16 +68,16 @@ fn least_bound(w: &[u32], p: Layout, late: bool, n: u32, index: &[u32]) -> usize
     i
 }
 
-// The place of the node that a selection picks among the active ones.
-pub fn choose(w: &[u32], p: Layout, n: u32, selection: u32, index: &[u32]) -> Place
+// The place of the node that a selection picks among the active ones; a selection that there is not is refused.
+pub fn choose(w: &[u32], p: Layout, n: u32, selection: u32, index: &[u32]) -> Result<usize, Refusal>
     requires { ((p.used ≤ length (records w.now)) × (0 < length (live_of p.used (records w.now)))) × (selection < 3 → Blocked (records w.now) p.used (2 ^ p.shift) index.now × (blocks * 2 ^ p.shift < 2 ^ 62)) }
     ensures { Chose n (records w.now) p.used selection result }
 {
     match selection {
-        0 => Place::At(least_bound(w, p, false, n, index)),
-        1 => Place::At(least_bound(w, p, true, n, index)),
-        2 => Place::At(earliest(w, p.used, p.shift, index, EVERY_BOUND)),
-        3 => Place::At(latest_open(w, p.used, n)),
-        _ => Place::Refused(4),
+        0 => Ok(least_bound(w, p, false, n, index)),
+        1 => Ok(least_bound(w, p, true, n, index)),
+        2 => Ok(earliest(w, p.used, p.shift, index, EVERY_BOUND)),
+        3 => Ok(latest_open(w, p.used, n)),
+        _ => Err(Refusal::Choice),
     }
 }

@@ -1,6 +1,5 @@
 -- `choose` meets its contract: each selection is what the function that it calls ensures.
 use native.Mathlib.Omega.{arith}
-use borrow.Author.Rules.{rules}
 use Rattle.records.specs.Code.{records}
 use Rattle.blocks.proofs.SelectLaws.{some_live}
 use Rattle.selection.proofs.ChooseLaws.{chosen_first}
@@ -19,20 +18,7 @@ earliest-requires c =
     let (blocked, small) = c.requires.1 (omega (arith, c.in-2.is)) in
     (blocked, (small, (omega arith, some_live (records c.args.w.now) c.args.p.used c.requires.0.0 c.requires.0.1)))
 
-pub returns-in-0 : goal.returns-in-0
-returns-in-0 c = rw c.in-0.is c.least_bound.ensures
-
-pub returns-in-1 : goal.returns-in-1
-returns-in-1 c = rw c.in-1.is c.least_bound-in-1.ensures
-
 pub returns-in-2 : goal.returns-in-2
 returns-in-2 c =
     rw c.in-2.is
     (chosen_first (records c.args.w.now) c.args.p.used c.requires.0.0 c.args.n c.earliest.result c.earliest.ensures)
-
--- no other selection is left: refusal 4
-pub returns-in_default : goal.returns-in_default
-returns-in_default c = search rules
-
-pub returns-in-3 : goal.returns-in-3
-returns-in-3 c = rw c.in-3.is c.latest_open.ensures
