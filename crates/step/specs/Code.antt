@@ -5,7 +5,7 @@
 --   node_at, rest_at              the node at a place, and the other active ones
 --   change_of, far_after          what parts 6 and 7 go by, and the branched records held afterwards
 --   step_of, run_after            the written step, and the run after it
-use Rattle.std.specs.Prelude.{◌≡◌, Bool, true, false, cond, ◌&&◌, List, [], reverse, ℕ, ◌+◌, ◌-◌, ◌^◌, ◌≤◌, ◌<◌, max, T, ltb, length, get_or}
+use Rattle.std.specs.Prelude.{◌≡◌, Bool, true, false, cond, ◌&&◌, List, [], reverse, ℕ, ◌+◌, ◌-◌, ◌^◌, ◌≤◌, ◌<◌, max, T, ltb, length, get_or, Option, Some, None}
 use Rattle.lists.specs.Lists.{In}
 use Rattle.search.specs.Problem.{State}
 use Rattle.search.specs.Step.{on, step}
@@ -22,8 +22,6 @@ use Rattle.children.specs.declared.setting.Setting.{Setting}
 use Rattle.replacement.specs.declared.change.Change.{Change}
 use Rattle.step.specs.declared.Expanded.{Expanded}
 use Rattle.step.specs.declared.Run.{Run}
-use Rattle.step.specs.declared.After.{After}
-use Rattle.step.specs.declared.After.TheVariants.{Full as FullAfter, Go as GoAfter}
 
 -- the branched nodes that the pool holds, latest first
 abbrev pub held_of : Bool → List Record → List Record
@@ -109,7 +107,7 @@ run_after r best generated layout = record {
 
 -- what a step gives, of any state that was shown: the nodes to keep would outnumber the records, and the pool is as it was; or they
 -- do not, and what is shown is the state after the step
-abbrev pub Stepping : Setting → Table → Record → List Record → List ℕ → List ℕ → List ℕ → State Record → After → Type 0
-Stepping d t b rest w w' index' s FullAfter = (length (records w) < length (held d.rules (step_of d t b rest s))) × (w' ≡ w)
-Stepping d t b rest w w' index' s (GoAfter r) =
+abbrev pub Stepping : Setting → Table → Record → List Record → List ℕ → List ℕ → List ℕ → State Record → Option Run → Type 0
+Stepping d t b rest w w' index' s None = (length (records w) < length (held d.rules (step_of d t b rest s))) × (w' ≡ w)
+Stepping d t b rest w w' index' s (Some r) =
     (length (held d.rules (step_of d t b rest s)) ≤ length (records w)) × Shown d w' index' r (step_of d t b rest s)

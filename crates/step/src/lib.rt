@@ -39,13 +39,6 @@ pub struct Run {
     pub most: u64,
 }
 
-// What comes of a step.
-#[derive(Clone, Copy)]
-pub enum After {
-    Full,
-    Go(Run),
-}
-
 // The counts after a step that generated some children and left the pool in some layout.
 fn counted(r: Run, best: Best, generated: usize, layout: Layout) -> Run
     requires { (1 ≤ r.layout.active) × ((r.layout.active + generated < 2 ^ 62) × ((layout.active ≤ r.layout.active - 1 + generated) × (r.generated + r.eliminated + r.branched < 2 ^ 62))) }
@@ -53,17 +46,13 @@ fn counted(r: Run, best: Best, generated: usize, layout: Layout) -> Run
 {
     let before = r.layout;
     let gone = before.active - 1 + generated - layout.active;
-    let mut most = r.most;
-    if most < layout.active as u64 {
-        most = layout.active as u64;
-    }
     Run {
         layout: layout,
         best: best,
         branched: r.branched + 1,
         generated: r.generated + generated as u64,
         eliminated: r.eliminated + gone as u64,
-        most: most,
+        most: r.most.max(layout.active as u64),
     }
 }
 
@@ -101,8 +90,8 @@ fn expand(
     }
 }
 
-// The step of the node at i; kids has a slot for each stop's child, whatever stands there. Nothing is written to the pool before it is known
-// that the step fits.
+// The run after the step of the node at i, or None where the step does not fit the pool; kids has a slot for each stop's child, whatever stands
+// there. Nothing is written to the pool before it is known that the step fits.
 pub fn step(
     setting: Setting,
     t: [[u32; PLACES]; PLACES],
@@ -111,7 +100,7 @@ pub fn step(
     r: Run,
     kids: &mut [u32],
     index: &mut [u32],
-) -> After
+) -> Option<Run>
     requires { Ready setting t w.old index.old i r × (most_stops ≤ length (records kids.old)) }
     ensures { (s : State Record) → Shown setting w.old index.old r s → Stepping setting t (node_at w.old i) (rest_at w.old r i) w.old w.new index.new s result }
 {
@@ -128,8 +117,8 @@ pub fn step(
         far: holding(setting.rules, p.far),
     };
     if !fits(w, p, i, change, kids) {
-        return After::Full;
+        return None;
     }
     let q = commit(w, p, i, b, change, kids, index);
-    After::Go(counted(r, best, count(e.born), q))
+    Some(counted(r, best, count(e.born), q))
 }
