@@ -12,6 +12,7 @@ use native.Mathlib.Omega.{arith}
 use borrow.Author.Tests.{eqb-true, eqb-false, not-true, not-false}
 use lib.Dec.{T, leb, eqb, leb→le, le→leb, not_T}
 use lib.ListN.{length, get_or}
+use Rattle.std.specs.Prelude.{Option, Some, None}
 use Rattle.lists.specs.Lists.{least}
 use Rattle.lists.proofs.Tests.{tests, to_true, to_false}
 use Rattle.lists.proofs.Numbers.{least_is}
@@ -42,12 +43,14 @@ open_parts false c e = absurd (subst T (sym e) tt)
 
 -- the first open record of as good as the same places
 pub open_like :
-    {late : Bool} {Q R : ℕ → Type 0} {n limit : ℕ} {recs : List Record} {used r : ℕ} → ((i : ℕ) → Q i → R i) → ((i : ℕ) → R i → Q i)
-    → FirstOpen late Q n limit recs used r → FirstOpen late R n limit recs used r
-open_like wide narrow o = record {
-  found = λ h. let (q, e) = o.found h in (wide _ q, e);
+    (late : Bool) (Q R : ℕ → Type 0) (n limit : ℕ) (recs : List Record) (r : Option ℕ) → ((i : ℕ) → Q i → R i) → ((i : ℕ) → R i → Q i)
+    → FirstOpen late Q n limit recs r → FirstOpen late R n limit recs r
+open_like late Q R n limit recs (Some r) wide narrow o = record {
+  among = wide r o.among;
+  opens = o.opens;
   before = λ j q b. o.before j (narrow j q) b;
 }
+open_like late Q R n limit recs None wide narrow o = λ j q. o j (narrow j q)
 
 module _ (recs : List Record) (used : ℕ) (fits : used ≤ length recs) where
   pub floor-least :

@@ -1,8 +1,9 @@
 -- What choosing a record means. These definitions are the code's own: a reader of the promise needs none of them.
 --   nth_of                numbers counted from the front or from the end
---   is_open, FirstOpen    a record up to a limit that is not complete; the first such among some places
+--   is_open               a record up to a limit that is not complete
+--   OpenAt, FirstOpen     the first such among some places, if there is one
 --   Chosen, Chose         a place has the node that a selection picks
-use Rattle.std.specs.Prelude.{◌≡◌, Bool, true, false, not, ◌&&◌, List, ℕ, ◌+◌, ◌-◌, ◌<◌, leb, eqb, get_or, Result, Ok, Err}
+use Rattle.std.specs.Prelude.{◌≡◌, Bool, true, false, not, ◌&&◌, List, ℕ, ◌+◌, ◌-◌, ◌<◌, leb, eqb, get_or, Option, Some, None, Result, Ok, Err}
 use Rattle.search.specs.Problem.{Problem}
 use Rattle.search.specs.Selection.{chosen, select_by}
 use Rattle.stops.specs.Code.{empty_record}
@@ -21,10 +22,16 @@ nth_of false from to c = from + c
 abbrev pub is_open : ℕ → ℕ → Record → Bool
 is_open n limit x = leb x.bound limit && not (eqb (sized x).size n)
 
--- r is the first or, if late, the last of the places that Q holds of with an open record; from `used` on if there is none
-pub record FirstOpen (late : Bool) (Q : ℕ → Type 0) (n limit : ℕ) (recs : List Record) (used r : ℕ) : Type 0 where
-  pub found : r < used → Q r × (is_open n limit (get_or recs r empty_record) ≡ true)
-  pub before : (j : ℕ) → Q j → (r < used → Before late j r) → is_open n limit (get_or recs j empty_record) ≡ false
+-- r is the first or, if late, the last of the places that Q holds of with an open record
+pub record OpenAt (late : Bool) (Q : ℕ → Type 0) (n limit : ℕ) (recs : List Record) (r : ℕ) : Type 0 where
+  pub among : Q r
+  pub opens : is_open n limit (get_or recs r empty_record) ≡ true
+  pub before : (j : ℕ) → Q j → Before late j r → is_open n limit (get_or recs j empty_record) ≡ false
+
+-- that place, or none where no record at such a place is open
+abbrev pub FirstOpen : Bool → (ℕ → Type 0) → ℕ → ℕ → List Record → Option ℕ → Type 0
+FirstOpen late Q n limit recs (Some r) = OpenAt late Q n limit recs r
+FirstOpen late Q n limit recs None = (j : ℕ) → Q j → is_open n limit (get_or recs j empty_record) ≡ false
 
 -- i is where the node stands that a selection picks of the active ones; a node of size n is complete
 pub record Chosen (n : ℕ) (recs : List Record) (used selection i : ℕ) : Type 0 where

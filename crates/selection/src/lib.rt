@@ -24,11 +24,10 @@ fn latest_open(w: &[u32], used: usize, n: u32) -> usize
     requires { (used ≤ length (records w.now)) × (0 < length (live_of used (records w.now))) }
     ensures { Chosen n (records w.now) used 3 result }
 {
-    let i = open_in(w, 0, used, used, true, EVERY_BOUND, n);
-    if i < used {
-        return i;
+    match open_in(w, 0, used, true, EVERY_BOUND, n) {
+        Some(i) => i,
+        None => last_before(w, used, EVERY_BOUND),
     }
-    last_before(w, used, EVERY_BOUND)
 }
 
 // The floor of request A.3: the least bound among the active nodes.
@@ -45,9 +44,10 @@ fn foremost(w: &[u32], p: Layout, late: bool, limit: u32, index: &[u32]) -> usiz
     ensures { Foremost late (records w.now) p.used limit result }
 {
     if late {
-        return latest(w, p.used, p.shift, index, limit);
+        latest(w, p.used, p.shift, index, limit)
+    } else {
+        earliest(w, p.used, p.shift, index, limit)
     }
-    earliest(w, p.used, p.shift, index, limit)
 }
 
 // The first or, if late, the last of the active nodes with the least bound that is not complete; if all of them are, the first or the last of
@@ -61,11 +61,7 @@ fn least_bound(w: &[u32], p: Layout, late: bool, n: u32, index: &[u32]) -> usize
     if open(w, i, limit, n) {
         return i;
     }
-    let j = first_open(w, p, late, limit, n, index);
-    if j < p.used {
-        return j;
-    }
-    i
+    first_open(w, p, late, limit, n, index).unwrap_or(i)
 }
 
 // The place of the node that a selection picks among the active ones; a selection that there is not is refused.

@@ -5,11 +5,14 @@ use mathlib.Core.Bool.{cond}
 use Prim.Native.Nat.{ℕ, ◌≤◌, ◌<◌}
 use native.Mathlib.Omega.{arith}
 use lib.ListN.{get_or}
+use Rattle.std.specs.Prelude.{Option, Some, None}
+use Rattle.std.specs.Option.{unwrap_or}
 use Rattle.stops.specs.Code.{empty_record}
 use Rattle.records.specs.Code.{records}
 use Rattle.lanes.specs.Sizes.{gone}
-use Rattle.blocks.specs.Code.{Least, bound_at}
+use Rattle.blocks.specs.Code.{Least, Foremost, bound_at}
 use Rattle.blocks.proofs.SelectLaws.{Prefers, prefers_least, some_live, least_met}
+use Rattle.selection.specs.Code.{FirstOpen, Chosen}
 use Rattle.selection.proofs.ChooseLaws.{over_shut, chosen_open, chosen_complete}
 use Rattle.selection.proofs.least_bound.Goals as goal
 use Rattle.selection.proofs.least_bound.Goals.{After-least-limit}
@@ -49,17 +52,19 @@ returns-then-open c =
     (sym c.open.ensures ∙ c.if-open.true)
     (λ j inside b. over_shut a.n c.least-limit.result (get_or recs j empty_record) (c.foremost-i.ensures.before j inside b))
 
-pub returns-then-j-p : goal.returns-then-j-p
-returns-then-j-p c =
-    let a = c.args in
-    let inside : c.first_open-j.result < a.p.used = omega (arith, c.if-j-p.true) in
-    chosen_open (records a.w.now) a.p.used c.requires.0.0.inside a.n (prefers (goal.at.returns-then-j-p c).After-least-limit) c.first_open-j.result inside
-    (c.first_open-j.ensures.found inside).1
-    (λ j h b. c.first_open-j.ensures.before j h (λ k. b))
+-- the first open node, or where none is open the foremost one
+taken :
+    (c : After-least-limit) (i : ℕ) → let a = c.args in
+    let recs = records a.w.now in
+    Foremost a.late recs a.p.used c.least-limit.result i
+    → (r : Option ℕ) → FirstOpen a.late (λ (j : ℕ). j < a.p.used) a.n c.least-limit.result recs r
+    → Chosen a.n recs a.p.used (cond a.late 1 0) (unwrap_or r i)
+taken c i found (Some j) first =
+    chosen_open (records c.args.w.now) c.args.p.used c.requires.0.0.inside c.args.n (prefers c) j first.among first.opens first.before
+taken c i found None none =
+    chosen_complete (records c.args.w.now) c.args.p.used c.requires.0.0.inside c.args.n (prefers c) i found none
 
 pub returns : goal.returns
 returns c =
-    let a = c.args in
-    chosen_complete (records a.w.now) a.p.used c.requires.0.0.inside a.n (prefers (goal.at.returns c).After-least-limit) c.foremost-i.result
-    c.foremost-i.ensures
-    (λ j inside. c.first_open-j.ensures.before j inside (λ h. absurd (omega (arith, c.if-j-p.false))))
+    rw c.unwrap_or.ensures
+    (taken (goal.at.returns c).After-least-limit c.foremost-i.result c.foremost-i.ensures c.first_open.result c.first_open.ensures)

@@ -13,47 +13,36 @@ inside : (c : After-nth) → c.nth.result < c.blocks_of-end.result
 inside c =
     (nth_in c.args.late 0 c.blocks_of-end.result c.loop-c.c c.nth.result c.nth.ensures (omega arith)).1
 
-pub returns-then-i-p : goal.returns-then-i-p
-returns-then-i-p c =
+pub returns-in-Some : goal.returns-in-Some
+returns-in-Some c =
     let a = c.args in
     let width = 2 ^ a.p.shift in
-    let ((near, e), here) = c.open_in_block-i.ensures.found c.if-i-p.true in
+    let first = c.in-Some.ensures in
+    let (near, e) = first.among in
     record {
-      found = λ h. (near, here);
+      among = near;
+      opens = first.opens;
       before = λ j q b.
           ⊎_elim
-          (λ same. c.open_in_block-i.ensures.before j (q, same) b)
+          (λ same. first.before j (q, same) b)
           (λ other.
-          walked_before a.late 0 c.blocks_of-end.result c.loop-c.c c.nth.result c.nth.ensures _ c.loop-c.invariant.1
+          walked_before a.late 0 c.blocks_of-end.result c.loop-c.c c.nth.result c.nth.ensures _ c.loop-c.invariant
           (j / width) (omega arith) (c.blocks_of-end.ensures.0 j q)
-          (before_block a.late width c.requires.0.0.wide j _ c.nth.result (b near) e other) j (q, refl))
+          (before_block a.late width c.requires.0.0.wide j _ c.nth.result b e other) j (q, refl))
           (compared (j / width) c.nth.result);
     }
 
 pub loop-c-preserved : goal.loop-c-preserved
 loop-c-preserved c =
-    let a = c.args in (
-      omega arith,
-      walked_more a.late 0 c.blocks_of-end.result c.loop-c.c c.nth.result c.nth.ensures _
-          (λ j q. c.open_in_block-i.ensures.before j q (λ h. absurd (omega (arith, c.if-i-p.false))))
-          c.loop-c.invariant.1,
-    )
+    walked_more c.args.late 0 c.blocks_of-end.result c.loop-c.c c.nth.result c.nth.ensures _ c.in_default.ensures c.loop-c.invariant
 
 pub returns : goal.returns
-returns c =
-    let a = c.args in
-    record {
-      found = λ h. absurd (omega arith);
-      before = λ j q b.
-          walked_all a.late 0 c.blocks_of-end.result c.loop-c.c _ (omega arith) c.loop-c.invariant.1 (j / 2 ^ a.p.shift) (omega arith)
-          (c.blocks_of-end.ensures.0 j q) j (q, refl);
-    }
+returns c = λ j q.
+    walked_all c.args.late 0 c.blocks_of-end.result c.loop-c.c _ (omega arith) c.loop-c.invariant (j / 2 ^ c.args.p.shift) (omega arith)
+    (c.blocks_of-end.ensures.0 j q) j (q, refl)
 
 pub blocks_of-end-requires : goal.blocks_of-end-requires
 blocks_of-end-requires c = (c.requires.1, c.requires.0.1)
 
 pub loop-c-init : goal.loop-c-init
-loop-c-init c = (omega arith, walked_none c.args.late 0 c.blocks_of-end.result _)
-
-pub open_in_block-i-requires : goal.open_in_block-i-requires
-open_in_block-i-requires c = (c.requires.0, omega (arith, inside c, c.blocks_of-end.ensures.1 c.requires.0.0.reach))
+loop-c-init c = walked_none c.args.late 0 c.blocks_of-end.result _

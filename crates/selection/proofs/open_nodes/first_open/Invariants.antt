@@ -2,7 +2,7 @@
 -- first such.
 use mathlib.Core.Path.{◌≡◌}
 use mathlib.Core.Bool.{false}
-use Prim.Native.Nat.{ℕ, ◌-◌, ◌^◌, ◌≤◌}
+use Prim.Native.Nat.{ℕ, ◌^◌}
 use lib.ListN.{get_or}
 use Rattle.stops.specs.Code.{empty_record}
 use Rattle.records.specs.Code.{records}
@@ -13,8 +13,4 @@ use Rattle.selection.proofs.open_nodes.first_open.Given as goal
 
 abbrev pub invariant-loop-c : goal.invariant-loop-c
 invariant-loop-c l =
-    (l.c ≤ l.end)
-    × Walked l.late 0 l.end l.c (λ (k : ℕ). (j : ℕ) → in_block l.p.used (2 ^ l.p.shift) k j → is_open l.n l.limit (get_or (records l.w) j empty_record) ≡ false)
-
-abbrev pub decreases-loop-c : goal.decreases-loop-c
-decreases-loop-c l = l.end - l.c
+    Walked l.late 0 l.end l.c (λ (k : ℕ). (j : ℕ) → in_block l.p.used (2 ^ l.p.shift) k j → is_open l.n l.limit (get_or (records l.w) j empty_record) ≡ false)

@@ -22,32 +22,26 @@ pub returns-then-open : goal.returns-then-open
 returns-then-open c =
     let a = c.args in
     record {
-      found = λ h. (inside (goal.at.returns-then-open c).After-nth-i, sym c.open.ensures ∙ c.if-open.true);
-      before = λ j p b.
-          walked_before a.late a.from a.to c.loop-c.c c.nth-i.result c.nth-i.ensures _ c.loop-c.invariant.1 j p.0 p.1
-          (b (omega (arith, inside (goal.at.returns-then-open c).After-nth-i, c.requires)));
+      among = inside (goal.at.returns-then-open c).After-nth-i;
+      opens = sym c.open.ensures ∙ c.if-open.true;
+      before = λ j p b. walked_before a.late a.from a.to c.loop-c.c c.nth-i.result c.nth-i.ensures _ c.loop-c.invariant j p.0 p.1 b;
     }
 
 pub loop-c-preserved : goal.loop-c-preserved
 loop-c-preserved c =
-    let a = c.args in (
-      omega arith,
-      walked_more a.late a.from a.to c.loop-c.c c.nth-i.result c.nth-i.ensures
-          (λ (j : ℕ). is_open a.n a.limit (get_or (records a.w.now) j empty_record) ≡ false)
-          (sym c.open.ensures ∙ c.if-open.false)
-          c.loop-c.invariant.1,
-    )
+    let a = c.args in
+    walked_more a.late a.from a.to c.loop-c.c c.nth-i.result c.nth-i.ensures
+    (λ (j : ℕ). is_open a.n a.limit (get_or (records a.w.now) j empty_record) ≡ false)
+    (sym c.open.ensures ∙ c.if-open.false)
+    c.loop-c.invariant
 
 pub returns : goal.returns
 returns c =
     let a = c.args in
-    record {
-      found = λ h. absurd (omega arith);
-      before = λ j p b. walked_all a.late a.from a.to c.loop-c.c _ (omega arith) c.loop-c.invariant.1 j p.0 p.1;
-    }
+    λ j p. walked_all a.late a.from a.to c.loop-c.c _ (omega arith) c.loop-c.invariant j p.0 p.1
 
 pub loop-c-init : goal.loop-c-init
-loop-c-init c = (omega arith, walked_none c.args.late c.args.from c.args.to _)
+loop-c-init c = walked_none c.args.late c.args.from c.args.to _
 
 pub open-requires : goal.open-requires
 open-requires c = omega (arith, inside c, c.requires)
