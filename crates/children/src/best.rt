@@ -16,7 +16,7 @@ use sizes::{ABOVE_EVERY_COST, PLACES};
 use stops::cost::order_cost;
 use stops::node_record::Record;
 use stops::order_words::words_before;
-use stops::sets::{later, next};
+use stops::sets::stops_of;
 
 // The cost of the best order known, and its two words; `ABOVE_EVERY_COST` and zeros if none is known.
 #[derive(Clone, Copy)]
@@ -59,10 +59,7 @@ pub fn learn(setting: Setting, kids: &[u32], born: u32, size: u32, best: Best) -
         return best;
     }
     let mut known = best;
-    let mut left = born;
-    while left != 0 {
-        let s = next(left);
-        left = later(left);
+    for s in stops_of(born) {
         known = better(known, kids, slot(s));
     }
     known
@@ -73,7 +70,7 @@ pub fn started(setting: Setting, t: [[u32; PLACES]; PLACES], start: &[u8]) -> Be
     requires { Rows setting t × ((start.now ≡ []) ⊎ Order setting.n start.now) }
     ensures { IsBest result (map (encode_of setting t) (given start.now)) }
 {
-    if start.len() == 0 {
+    if start.is_empty() {
         return Best {
             upper: ABOVE_EVERY_COST,
             first: 0,
@@ -82,10 +79,8 @@ pub fn started(setting: Setting, t: [[u32; PLACES]; PLACES], start: &[u8]) -> Be
     }
     // Only the words of the order are taken from this record: it gets no legs.
     let mut x = Record::empty();
-    let mut k = 0;
-    while k < start.len() {
-        x = x.extended(start[k] as u32, 0);
-        k += 1;
+    for s in start {
+        x = x.extended(u32::from(*s), 0);
     }
     Best {
         upper: order_cost(&t, start),

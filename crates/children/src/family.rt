@@ -12,7 +12,7 @@ use records::{slot, store};
 use sizes::PLACES;
 use stops::bound::ahead;
 use stops::node_record::Record;
-use stops::sets::{later, next};
+use stops::sets::stops_of;
 
 // e, with its bound.
 pub fn root(setting: Setting, t: [[u32; PLACES]; PLACES]) -> Record
@@ -43,10 +43,7 @@ pub fn family(setting: Setting, t: [[u32; PLACES]; PLACES], b: Record, kids: &mu
     let born = ready(setting.precedence, rest);
     let mut into = [0u32; PLACES];
     let costs = child_costs(setting.n, setting.bound, t, b, &mut into);
-    let mut left = born;
-    while left != 0 {
-        let s = next(left);
-        left = later(left);
+    for s in stops_of(born) {
         let ahead = added(costs.family, into[s as usize], s);
         store(kids, slot(s), child(b, s, costs.legs[s as usize], ahead));
     }

@@ -16,19 +16,17 @@ use lanes::constants::EVERY_BOUND;
 use lanes::layout::{Layout, active_lane, far_lane};
 use records::{bound_at, slot};
 use sizes::NO_LIMIT;
-use stops::sets::{later, next, with_if};
+use stops::sets::{stops_of, with_if};
 
 // What rule 1 keeps: bounds up to U, or all. The limit is below the bound of gone records, whatever U is.
 pub fn limit_of(rules: u32, upper: u32) -> u32
     ensures { result ≡ limit_of (on 1 rules) upper }
 {
-    if !on(1, rules) {
-        return EVERY_BOUND;
+    if on(1, rules) {
+        upper.min(EVERY_BOUND)
+    } else {
+        EVERY_BOUND
     }
-    if EVERY_BOUND < upper {
-        return EVERY_BOUND;
-    }
-    upper
 }
 
 // The children by the stops of `alive` whose bound is at most limit.
@@ -37,10 +35,7 @@ fn within(kids: &[u32], alive: u32, limit: u32) -> u32
     ensures { Thinned (is_within limit) (records kids.now) alive result }
 {
     let mut kept = 0;
-    let mut left = alive;
-    while left != 0 {
-        let s = next(left);
-        left = later(left);
+    for s in stops_of(alive) {
         kept = with_if(bound_at(kids, slot(s)) <= limit, kept, s);
     }
     kept

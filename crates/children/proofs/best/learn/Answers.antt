@@ -1,6 +1,5 @@
 -- The goals of `best::learn` that the search leaves.
 use mathlib.Core.Path.{sym, ◌∙◌}
-use native.Mathlib.Omega.{arith}
 use Rattle.records.specs.Code.{records, in_slot, slots}
 use Rattle.children.proofs.BestLaws.{learn-none, learning_starts, learning_again, learning_ends}
 use Rattle.children.proofs.best.learn.Goals as goal
@@ -10,29 +9,15 @@ returns-then-size-setting c =
     let a = c.args in
     learn-none a.setting a.best (slots a.born (records a.kids.now)) (λ x i e. c.if-size-setting.true (sym (c.requires.1 x i) ∙ e))
 
-pub loop-left-smaller : goal.loop-left-smaller
-loop-left-smaller c = omega (arith, c.later-left.ensures _ c.next-s.ensures)
+pub loop-s-init : goal.loop-s-init
+loop-s-init c =
+    rw (c.into_iter-s-iterator.ensures.into_iter_gives, c.stops_of-s-items.ensures) (learning_starts c.requires.0.small)
 
-pub loop-left-preserved : goal.loop-left-preserved
+pub loop-s-preserved : goal.loop-s-preserved
 unfolding in_slot
-loop-left-preserved c =
-    learning_again c.loop-left.invariant c.next-s.ensures (c.later-left.ensures _ c.next-s.ensures) c.requires.1
-    (λ d. rw c.slot.ensures at (c.better-known.ensures d))
+loop-s-preserved c =
+    let steps = c.in-Some.ensures.steps in
+    learning_again c.loop-s.invariant steps.0 steps.1 c.requires.1 (λ d. rw c.slot.ensures at (c.better-known.ensures d))
 
 pub returns : goal.returns
-returns c = learning_ends c.loop-left.invariant c.loop-left-test.false c.args.setting c.if-size-setting.false
-
-pub loop-left-init : goal.loop-left-init
-loop-left-init c = learning_starts c.requires.0.small
-
-pub next-s-requires : goal.next-s-requires
-next-s-requires c = let h = c.loop-left.invariant.small in omega arith
-
-pub later-left-requires : goal.later-left-requires
-later-left-requires c = let h = c.loop-left.invariant.small in omega arith
-
-pub slot-requires : goal.slot-requires
-slot-requires c = c.next-s.ensures.some
-
-pub better-known-requires : goal.better-known-requires
-better-known-requires c = omega (arith, c.slot.ensures, c.next-s.ensures, c.requires.0.room)
+returns c = learning_ends c.loop-s.invariant c.in-None.ensures.steps c.args.setting c.if-size-setting.false

@@ -18,7 +18,7 @@ use Rattle.children.specs.Code.{rest_of, born_of, Bears}
 use Rattle.children.proofs.FamilyLaws.{rest_sum, placing_starts, placing_again}
 use Rattle.children.proofs.KidLaws.{Kid, kid_bears, kid_made}
 use Rattle.children.proofs.family.family.Goals as goal
-use Rattle.children.proofs.family.family.Goals.{After-child_costs-costs, After-next-s, Start}
+use Rattle.children.proofs.family.family.Goals.{After-child_costs-costs, In-Some, Start}
 
 -- 2 to the power n is small, and b's set is below it
 sums :
@@ -79,17 +79,19 @@ kid c s i =
       adds = c.child_costs-costs.ensures.gives.ahead s (stays c s i);
     }
 
-pub loop-left-init : goal.loop-left-init
-loop-left-init c = (refl, placing_starts refl c.ready-born.ensures.small c.requires.1.1)
+pub loop-s-init : goal.loop-s-init
+loop-s-init c =
+    rw (c.into_iter-s-iterator.ensures.into_iter_gives, c.stops_of-s-items.ensures)
+    (refl, placing_starts refl c.ready-born.ensures.small c.requires.1.1)
 
 -- the stop of a turn is one of them
-turn : (c : After-next-s) → In c.next-s.result (stops_in c.ready-born.result)
-turn c = c.loop-left.invariant.1.passed.among c.next-s.result c.next-s.ensures.member
+turn : (c : In-Some) → In c.in-Some.s (stops_in c.ready-born.result)
+turn c = c.loop-s.invariant.1.passed.among c.in-Some.s c.in-Some.ensures.steps.0.member
 
 bears :
-    (c : After-next-s) →
+    (c : In-Some) →
     let a = c.args in
-    let s = c.next-s.result in
+    let s = c.in-Some.s in
     let leg = get_or c.child_costs-costs.result.legs s 0 in
     let ahead = ahead_of c.child_costs-costs.result.family (get_or c.child_costs-costs.new.into s 0) s in
     Kid a.setting a.t a.b s leg ahead → Bears a.b s leg ahead
@@ -98,38 +100,34 @@ bears c its = kid_bears its
 pub added-ahead-requires : goal.added-ahead-requires
 unfolding rest_of
 added-ahead-requires c =
-    let s = c.next-s.result in
-    (c.child_costs-costs.ensures.gives.less s (stays (goal.at.added-ahead-requires c).After-child_costs-costs s (turn (goal.at.added-ahead-requires c).After-next-s)), omega (arith, (bears (goal.at.added-ahead-requires c).After-next-s (kid (goal.at.added-ahead-requires c).After-child_costs-costs c.next-s.result (turn (goal.at.added-ahead-requires c).After-next-s))).fits))
+    let s = c.in-Some.s in
+    (c.child_costs-costs.ensures.gives.less s (stays (goal.at.added-ahead-requires c).After-child_costs-costs s (turn (goal.at.added-ahead-requires c).In-Some)), omega (arith, (bears (goal.at.added-ahead-requires c).In-Some (kid (goal.at.added-ahead-requires c).After-child_costs-costs c.in-Some.s (turn (goal.at.added-ahead-requires c).In-Some))).fits))
 
 pub child-requires : goal.child-requires
-child-requires c = rw c.added-ahead.ensures (bears (goal.at.child-requires c).After-next-s (kid (goal.at.child-requires c).After-child_costs-costs c.next-s.result (turn (goal.at.child-requires c).After-next-s)))
+child-requires c = rw c.added-ahead.ensures (bears (goal.at.child-requires c).In-Some (kid (goal.at.child-requires c).After-child_costs-costs c.in-Some.s (turn (goal.at.child-requires c).In-Some)))
 
 pub store-requires : goal.store-requires
 store-requires c =
-    omega (arith, c.slot.ensures, c.next-s.ensures, c.loop-left.invariant.1.room)
+    omega (arith, c.slot.ensures, c.in-Some.ensures.steps.0, c.loop-s.invariant.1.room)
 
-pub loop-left-smaller : goal.loop-left-smaller
-loop-left-smaller c =
-    omega (arith, c.later-left.ensures _ c.next-s.ensures)
-
-pub loop-left-preserved : goal.loop-left-preserved
-loop-left-preserved c =
-    let l = c.loop-left in (
+pub loop-s-preserved : goal.loop-s-preserved
+loop-s-preserved c =
+    let l = c.loop-s in (
       c.store.auto.w ∙ l.invariant.0,
-      placing_again l.invariant.1 c.next-s.ensures (c.later-left.ensures _ c.next-s.ensures)
+      placing_again l.invariant.1 c.in-Some.ensures.steps.0 c.in-Some.ensures.steps.1
           (c.child.ensures
-          ∙ ap (born_of c.args.b c.next-s.result (leg_of (goal.at.loop-left-preserved c).After-child_costs-costs c.next-s.result)) c.added-ahead.ensures)
+          ∙ ap (born_of c.args.b c.in-Some.s (leg_of (goal.at.loop-s-preserved c).After-child_costs-costs c.in-Some.s)) c.added-ahead.ensures)
           (rw c.slot.ensures at c.store.ensures),
     )
 
 pub returns : goal.returns
 returns c =
-    let l = c.loop-left.invariant.1 in
+    let l = c.loop-s.invariant.1 in
     let r = c.ready-born.ensures in
     record {
       small = r.small;
       stops = r.stops ∙ ap (λ (m : ℕ). ready (pairs_in c.args.setting.precedence) (stops_in m)) (rest_is (goal.at.returns c).Start);
-      each = λ s i. passed_ends l.passed c.loop-left-test.false s i ∙ kid_made (kid (goal.at.returns c).After-child_costs-costs s i);
+      each = λ s i. passed_ends l.passed c.in-None.ensures.steps s i ∙ kid_made (kid (goal.at.returns c).After-child_costs-costs s i);
       room = l.room;
     }
 
@@ -145,14 +143,8 @@ overflow_sub-rest-2 c = omega (arith, sums (goal.at.overflow_sub-rest-2 c).Start
 pub slice_bounds-child_costs-end : goal.slice_bounds-child_costs-end
 slice_bounds-child_costs-end c = refl
 
-pub next-s-requires : goal.next-s-requires
-next-s-requires c = let h = c.loop-left.invariant.1.passed.small in omega arith
-
-pub later-left-requires : goal.later-left-requires
-later-left-requires c = let h = c.loop-left.invariant.1.passed.small in omega arith
-
 pub slot-requires : goal.slot-requires
-slot-requires c = c.next-s.ensures.some
+slot-requires c = c.in-Some.ensures.steps.0.some
 
 pub shape_of-kids : goal.shape_of-kids
-shape_of-kids c = c.loop-left.invariant.0
+shape_of-kids c = c.loop-s.invariant.0

@@ -1,5 +1,5 @@
 -- `family::family` meets its contract. The loop's invariant: the slice keeps its length, and the children by the stops passed stand in their slots
--- (`Placing`), each with its leg and with what its bound adds as `child_costs` found them. The measure is the set of the stops left, as a number.
+-- (`Placing`), each with its leg and with what its bound adds as `child_costs` found them.
 use mathlib.Core.Path.{◌≡◌}
 use lib.ListN.{length, get_or}
 use Rattle.carried.specs.Code.{ahead_of}
@@ -8,10 +8,7 @@ use Rattle.children.specs.Code.{born_of}
 use Rattle.children.proofs.FamilyLaws.{Placing}
 use Rattle.children.proofs.family.family.Given as goal
 
-abbrev pub invariant-loop-left : goal.invariant-loop-left
-invariant-loop-left l =
+abbrev pub invariant-loop-s : goal.invariant-loop-s
+invariant-loop-s l =
     (length l.kids ≡ length l.initial.kids)
-    × Placing (λ s. born_of l.b s (get_or l.costs.legs s 0) (ahead_of l.costs.family (get_or l.into s 0) s)) l.born (records l.kids) l.left
-
-abbrev pub decreases-loop-left : goal.decreases-loop-left
-decreases-loop-left l = l.left
+    × Placing (λ s. born_of l.b s (get_or l.costs.legs s 0) (ahead_of l.costs.family (get_or l.into s 0) s)) l.born (records l.kids) l.s-iterator.left
