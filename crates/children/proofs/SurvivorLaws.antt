@@ -6,7 +6,7 @@
 use mathlib.Core.Path.{◌≡◌, refl, sym, ◌∙◌}
 use mathlib.Core.Bool.{Bool, true, false, cond}
 use mathlib.Core.List.{List}
-use Prim.Native.Nat.{ℕ, ◌^◌, ◌≤◌, ◌<◌, min}
+use Prim.Native.Nat.{ℕ, ◌^◌, ◌≤◌, ◌<◌}
 use native.Mathlib.Omega.{arith}
 use borrow.Author.Tests.{ltb-true, ltb-false, le-leb}
 use lib.Dec.{leb, ltb}
@@ -54,14 +54,6 @@ limit_below true u = go (ltb every_bound u) refl
   where
     go : (b : Bool) → ltb every_bound u ≡ b → cond b every_bound u < gone
     go true e = omega arith
-    go false e = let low : u ≤ every_bound = ltb-false every_bound u e in omega arith
-
-pub limit_least : (u : ℕ) → min u every_bound ≡ limit_of true u
-unfolding limit_of
-limit_least u = go (ltb every_bound u) refl
-  where
-    go : (b : Bool) → ltb every_bound u ≡ b → min u every_bound ≡ cond b every_bound u
-    go true e = let high : every_bound < u = ltb-true every_bound u e in omega arith
     go false e = let low : u ≤ every_bound = ltb-false every_bound u e in omega arith
 
 pub limit-same : (u : ℕ) (x : Record) → x.bound < gone → is_within (limit_of true u) x ≡ is_within u x
