@@ -7,7 +7,7 @@ ghost use Rattle.lanes.specs.Sizes.{gone};
 ghost use Rattle.lanes.specs.Code.{is_within, live_of, far_of};
 ghost use Rattle.chains.specs.Code.{is_free, Sized};
 ghost use Rattle.pool.specs.Code.{Laid};
-ghost use Rattle.children.specs.Code.{limit_of, ruled, survives};
+ghost use Rattle.children.specs.Code.{limit_of, survives};
 
 use crate::rules::on;
 use crate::setting::Setting;
@@ -41,49 +41,8 @@ fn within(kids: &[u32], alive: u32, limit: u32) -> u32
     kept
 }
 
-// Part 3 on the children by the stops of `alive`: those that are left.
-fn by_rule_1(kids: &[u32], alive: u32, rules: u32, limit: u32) -> u32
-    requires { Slotted alive (records kids.now) }
-    ensures { Thinned (ruled (on 1 rules) (is_within limit)) (records kids.now) alive result }
-{
-    if on(1, rules) {
-        return within(kids, alive, limit);
-    }
-    alive
-}
-
-// Part 4 on the children by the stops of `alive`, by the active nodes.
-fn by_rule_2(
-    kids: &[u32],
-    alive: u32,
-    w: &[u32],
-    p: Layout,
-    index: &[u32],
-    rules: u32,
-    limit: u32,
-) -> u32
-    requires { (Laid (records w.now) p index.now × (limit < gone)) × (Slotted alive (records kids.now) × Sized alive (records kids.now)) }
-    ensures { Thinned (ruled (on 2 rules) (is_free limit (live_of p.used (records w.now)))) (records kids.now) alive result }
-{
-    if on(2, rules) {
-        return unrivalled(kids, alive, w, active_lane(p), index, limit);
-    }
-    alive
-}
-
-// Part 5 on the children by the stops of `alive`, by the branched nodes, whatever their bounds are.
-fn by_rule_4(kids: &[u32], alive: u32, w: &[u32], p: Layout, index: &[u32], rules: u32) -> u32
-    requires { Laid (records w.now) p index.now × (Slotted alive (records kids.now) × Sized alive (records kids.now)) }
-    ensures { Thinned (ruled (on 4 rules) (is_free no_limit (far_of p.far (records w.now)))) (records kids.now) alive result }
-{
-    if on(4, rules) {
-        return unrivalled(kids, alive, w, far_lane(p), index, NO_LIMIT);
-    }
-    alive
-}
-
-// Parts 3, 4 and 5, one after the other, on the children by the stops of `born`: those that are left. A rule that is off costs its test
-// alone.
+// Parts 3, 4 and 5, one after the other, on the children by the stops of `born`: those that are left. Part 4 goes by the active nodes, and part 5
+// by the branched ones, whatever their bounds are. A rule that is off costs its test alone.
 pub fn survivors(
     setting: Setting,
     kids: &[u32],
@@ -96,7 +55,15 @@ pub fn survivors(
     requires { (Laid (records w.now) p index.now × (limit < gone)) × (Slotted born (records kids.now) × Sized born (records kids.now)) }
     ensures { Thinned (survives setting.rules limit (live_of p.used (records w.now)) (far_of p.far (records w.now))) (records kids.now) born result }
 {
-    let within_limit = by_rule_1(kids, born, setting.rules, limit);
-    let free = by_rule_2(kids, within_limit, w, p, index, setting.rules, limit);
-    by_rule_4(kids, free, w, p, index, setting.rules)
+    let mut left = born;
+    if on(1, setting.rules) {
+        left = within(kids, left, limit);
+    }
+    if on(2, setting.rules) {
+        left = unrivalled(kids, left, w, active_lane(p), index, limit);
+    }
+    if on(4, setting.rules) {
+        left = unrivalled(kids, left, w, far_lane(p), index, NO_LIMIT);
+    }
+    left
 }
