@@ -23,7 +23,7 @@ use Rattle.step.specs.declared.Run.{Run}
 use Rattle.lanes.specs.declared.layout.Layout.{Layout}
 use Rattle.step.specs.declared.Expanded.{Expanded}
 use Rattle.step.proofs.StepLaws.{Bounded}
-use Rattle.step.proofs.StepShown.{staying_after, left_of, stage_born, stage_generated, stage_kept, stage_rest, stage_few, stage_room, stage_changing}
+use Rattle.step.proofs.StepShown.{staying_after, left_of, stage_generated, stage_kept, stage_rest, stage_few, stage_room, stage_changing}
 use Rattle.step.proofs.StepAfter.{stage_shown}
 use Rattle.step.proofs.step.Goals as goal
 use Rattle.step.proofs.step.Goals.{After-holding}
@@ -104,16 +104,9 @@ changing d =
     subst (λ (c : Change). Changing (records (words d)) (run d).layout (place d) c (kids d)) (sym (same_change d))
     (stage_changing (made d) (bounded d) d.requires.0)
 
-pub expand-e-requires : goal.expand-e-requires
-expand-e-requires c =
-    let ready = c.requires.0 in
-    ((ready.rows, (rw c.sized_at-b.ensures ready.encoded, rw c.sized_at-b.ensures ready.partial)), (ready.laid, c.requires.1))
-
 pub holding-requires : goal.holding-requires
 holding-requires c =
-    let laid = c.requires.0.laid in
-    let few : c.args.r.layout.far < 2 ^ 62 = omega (arith, laid.fits, laid.whole, length-records c.args.w.now) in
-    few
+    let laid = c.requires.0.laid in omega (arith, laid.fits, laid.whole, length-records c.args.w.now)
 
 -- the nodes to keep are at most the records, or more, as `fits` said
 fitting : (d : After-holding) (said : Bool) → said ≡ leb (kept d) (run d).layout.capacity → said ≡ true → kept d ≤ (run d).layout.capacity
@@ -182,9 +175,3 @@ returns c s shown =
 
 pub fits-requires : goal.fits-requires
 fits-requires c = changing (goal.at.fits-requires c).After-holding
-
-pub count-requires : goal.count-requires
-count-requires c = stage_born (made (goal.at.count-requires c).After-holding) (bounded (goal.at.count-requires c).After-holding) c.requires.0
-
-pub shape_of-kids : goal.shape_of-kids
-shape_of-kids c = c.expand-e.auto.kids
