@@ -36,18 +36,15 @@ fn better(best: Best, kids: &[u32], k: usize) -> Best
         return best;
     }
     let x = load(kids, k);
-    let child = Best {
-        upper: x.bound,
-        first: x.first,
-        second: x.second,
-    };
-    if x.bound < best.upper {
-        return child;
+    if x.bound < best.upper || words_before(x.first, x.second, best.first, best.second) {
+        Best {
+            upper: x.bound,
+            first: x.first,
+            second: x.second,
+        }
+    } else {
+        best
     }
-    if words_before(x.first, x.second, best.first, best.second) {
-        return child;
-    }
-    best
 }
 
 // Part 2 of a step, over the children by the stops of `born`, which are all of one size.
