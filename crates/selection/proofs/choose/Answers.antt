@@ -5,14 +5,6 @@ use Rattle.blocks.proofs.SelectLaws.{some_live}
 use Rattle.selection.proofs.ChooseLaws.{chosen_first}
 use Rattle.selection.proofs.choose.Goals as goal
 
-pub least_bound-requires : goal.least_bound-requires
-least_bound-requires c =
-    (c.requires.1 (omega (arith, c.in-0.is)), c.requires.0.1)
-
-pub least_bound-requires-in-1 : goal.least_bound-requires-in-1
-least_bound-requires-in-1 c =
-    (c.requires.1 (omega (arith, c.in-1.is)), c.requires.0.1)
-
 pub earliest-requires : goal.earliest-requires
 earliest-requires c =
     let (blocked, small) = c.requires.1 (omega (arith, c.in-2.is)) in

@@ -1,17 +1,11 @@
 -- The goals of `open_nodes::first_open` that the search leaves.
 use mathlib.Core.Path.{refl}
 use mathlib.Core.Logic.{⊎_elim}
-use Prim.Native.Nat.{◌/◌, ◌^◌, ◌<◌}
+use Prim.Native.Nat.{◌/◌, ◌^◌}
 use native.Mathlib.Omega.{arith}
 use Rattle.lists.proofs.Tests.{compared}
-use Rattle.selection.proofs.WalkLaws.{nth_in, walked_none, walked_more, walked_all, walked_before, before_block}
+use Rattle.selection.proofs.WalkLaws.{walked_more, walked_all, walked_before, before_block}
 use Rattle.selection.proofs.open_nodes.first_open.Goals as goal
-use Rattle.selection.proofs.open_nodes.first_open.Goals.{After-nth}
-
--- the block that the walk stands at
-inside : (c : After-nth) → c.nth.result < c.blocks_of-end.result
-inside c =
-    (nth_in c.args.late 0 c.blocks_of-end.result c.loop-c.c c.nth.result c.nth.ensures (omega arith)).1
 
 pub returns-in-Some : goal.returns-in-Some
 returns-in-Some c =
@@ -40,9 +34,3 @@ pub returns : goal.returns
 returns c = λ j q.
     walked_all c.args.late 0 c.blocks_of-end.result c.loop-c.c _ (omega arith) c.loop-c.invariant (j / 2 ^ c.args.p.shift) (omega arith)
     (c.blocks_of-end.ensures.0 j q) j (q, refl)
-
-pub blocks_of-end-requires : goal.blocks_of-end-requires
-blocks_of-end-requires c = (c.requires.1, c.requires.0.1)
-
-pub loop-c-init : goal.loop-c-init
-loop-c-init c = walked_none c.args.late 0 c.blocks_of-end.result _

@@ -7,7 +7,7 @@ use lib.ListN.{get_or}
 use Rattle.stops.specs.Code.{empty_record}
 use Rattle.records.specs.Code.{records}
 use Rattle.selection.specs.Code.{is_open}
-use Rattle.selection.proofs.WalkLaws.{nth_in, walked_none, walked_more, walked_all, walked_before}
+use Rattle.selection.proofs.WalkLaws.{nth_in, walked_more, walked_all, walked_before}
 use Rattle.selection.proofs.open_nodes.open_in.Goals as goal
 use Rattle.selection.proofs.open_nodes.open_in.Goals.{After-nth-i}
 
@@ -39,9 +39,3 @@ pub returns : goal.returns
 returns c =
     let a = c.args in
     λ j p. walked_all a.late a.from a.to c.loop-c.c _ (omega arith) c.loop-c.invariant j p.0 p.1
-
-pub loop-c-init : goal.loop-c-init
-loop-c-init c = walked_none c.args.late c.args.from c.args.to _
-
-pub open-requires : goal.open-requires
-open-requires c = omega (arith, inside c, c.requires)

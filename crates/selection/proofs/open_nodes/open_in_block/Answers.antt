@@ -7,7 +7,7 @@ use lib.ListN.{get_or}
 use Rattle.stops.specs.Code.{empty_record}
 use Rattle.records.specs.Code.{records}
 use Rattle.lanes.specs.Sizes.{blocks}
-use Rattle.blocks.proofs.BlockLaws.{shift_small, shifted, block_run, run_block, block_runs}
+use Rattle.blocks.proofs.BlockLaws.{shift_small, shifted, block_run, run_block}
 use Rattle.blocks.proofs.FindLaws.{block_least}
 use Rattle.selection.proofs.ChooseLaws.{over_shut, open_like}
 use Rattle.selection.proofs.open_nodes.open_in_block.Goals as goal
@@ -36,13 +36,6 @@ ends :
     c.min-to.result ≡ min ((a.k + 1) * 2 ^ a.p.shift) a.p.used
 ends c =
     rw (shifted (c.args.k + 1) c.args.p.shift (omega (arith, c.requires.1)) c.requires.0.1) at c.min-to.ensures
-
-pub open_in-requires : goal.open_in-requires
-open_in-requires c =
-    let a = c.args in (
-      block_runs a.p.used (2 ^ a.p.shift) a.k _ _ (starts (goal.at.open_in-requires c).After-min-from) (ends c),
-      omega (arith, ends c, c.requires.0.0.inside),
-    )
 
 pub returns : goal.returns
 returns c =
