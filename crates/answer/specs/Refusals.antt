@@ -1,5 +1,6 @@
 -- What the code calls the causes of a refusal, and the numbers that documents 01 and 02 give them.
-use Rattle.std.specs.Prelude.{ℕ, Result, Ok, Err}
+use Rattle.std.specs.Prelude.{◌≡◌, refl, ℕ, List, [], ◌∷◌, map, Result, Ok, Err}
+use Rattle.lists.specs.Lists.{from}
 use Rattle.answer.specs.declared.refusal.Refusal.{Refusal}
 use Rattle.answer.specs.declared.refusal.Refusal.TheVariants.{Stops, Table, Dear, Choice, Start, Pool, Full, Short, Layout, Buffer, Pairs}
 
@@ -21,3 +22,9 @@ number Pairs = 11
 abbrev pub number_in : {A : Type 0} → Result A Refusal → ℕ
 number_in (Ok a) = 0
 number_in (Err e) = number e
+
+-- 1 to 11, in this order
+in-order :
+    map number (Stops ∷ Table ∷ Dear ∷ Choice ∷ Start ∷ Pool ∷ Full ∷ Short ∷ Layout ∷ Buffer ∷ Pairs ∷ [])
+    ≡ from 1 11
+in-order = refl

@@ -17,8 +17,11 @@ use Rattle.lists.proofs.Tests.{both_false}
 use Rattle.orders.specs.Orders.{is_order}
 use Rattle.stops.specs.Tables.{charge}
 use Rattle.answer.specs.declared.Job.{Job}
+use Rattle.answer.specs.declared.refusal.Refusal.{Refusal}
+use Rattle.answer.specs.Refusals.{number}
 use Rattle.answer.specs.Checks.{cause₁, cause₂, cause₃, no_such_bound, cause₄, cause₅, cause₁₁, is_empty, or_later, table_cause, first_cause, job_cause}
 use Rattle.answer.proofs.JobCause.{table_causes}
+use Rattle.checks.proofs.RefusalLaws.{numbered}
 
 -- ---- causes 1 to 3
 
@@ -112,20 +115,20 @@ module _ (n : ℕ) (start : List ℕ) where
   unfolding cause₅
   order-left h = rw (nonempty_length start h)
 
--- ---- a job, where `table_cause` answers k
+-- ---- a job: a refusal by `table_cause`, and what is left where it answers none
 
 -- causes 4 and 5 alone
 abbrev pub later : Job → List ℕ → ℕ
 later job start = or_later (cause₄ job) 4 (or_later (cause₅ job.n start) 5 0)
 
-module _ (job : Job) (table start : List ℕ) (k : ℕ) (e : k ≡ table_cause job.n table 0) where
-  pub table_refuses : k ≢ 0 → k ≡ job_cause job table start 0
+module _ (job : Job) (table start : List ℕ) where
+  pub table_refuses : (e : Refusal) → number e ≡ table_cause job.n table 0 → number e ≡ job_cause job table start 0
   unfolding job_cause
-  table_refuses h = e ∙ (table_causes job.n table).own (λ z. h (e ∙ z)) (later job start)
+  table_refuses e f = f ∙ (table_causes job.n table).own (λ z. numbered e (f ∙ z)) (later job start)
 
-  pub table_passes : k ≡ 0 → job_cause job table start 0 ≡ later job start
+  pub table_passes : 0 ≡ table_cause job.n table 0 → job_cause job table start 0 ≡ later job start
   unfolding job_cause
-  table_passes z = (table_causes job.n table).none (sym e ∙ z) (later job start)
+  table_passes z = (table_causes job.n table).none (sym z) (later job start)
 
 -- ---- a bound and pairs alone
 
@@ -133,11 +136,11 @@ module _ (job : Job) (table start : List ℕ) (k : ℕ) (e : k ≡ table_cause j
 abbrev pub later_first : ℕ → ℕ → List ℕ → ℕ
 later_first n bound pairs = or_later (no_such_bound bound) 4 (or_later (cause₁₁ n pairs) 11 0)
 
-module _ (n bound : ℕ) (table pairs : List ℕ) (k : ℕ) (e : k ≡ table_cause n table 0) where
-  pub first-refused : k ≢ 0 → k ≡ first_cause n bound table pairs
+module _ (n bound : ℕ) (table pairs : List ℕ) where
+  pub first-refused : (e : Refusal) → number e ≡ table_cause n table 0 → number e ≡ first_cause n bound table pairs
   unfolding first_cause
-  first-refused h = e ∙ (table_causes n table).own (λ z. h (e ∙ z)) (later_first n bound pairs)
+  first-refused e f = f ∙ (table_causes n table).own (λ z. numbered e (f ∙ z)) (later_first n bound pairs)
 
-  pub first-left : k ≡ 0 → first_cause n bound table pairs ≡ later_first n bound pairs
+  pub first-left : 0 ≡ table_cause n table 0 → first_cause n bound table pairs ≡ later_first n bound pairs
   unfolding first_cause
-  first-left z = (table_causes n table).none (sym e ∙ z) (later_first n bound pairs)
+  first-left z = (table_causes n table).none (sym z) (later_first n bound pairs)

@@ -1,3 +1,4 @@
 pub mod OrderLaws
+pub mod RefusalLaws
 pub mod CauseLaws
 pub mod PairLaws

@@ -1,11 +1,12 @@
 // Checks 1 to 5, which look at a job, its table and its starting order: `job_cause`; and those of the pairs that are given with it (request A.6):
-// `pair_cause`. What they answer is `job_cause` and `pair_cause` of crate `answer` (specs/Checks), whose proofs/JobCause ties these to the cause of a
-// call with a pool. `first_cause` is for a caller that has a bound and pairs but no job, `wrong_n` for one that has n alone. They are public for the
-// crates above and not for hosts; of them only `pair_cause` asks something, which `job_cause` has seen to.
+// `pair_cause`. Each answers why a call is refused, if it is. The number of that is `job_cause` or `pair_cause` of crate `answer` (specs/Checks), whose
+// proofs/JobCause ties these to the cause of a call with a pool. `first_cause` is for a caller that has a bound and pairs but no job, `wrong_n` for one
+// that has n alone. They are public for the crates above and not for hosts; of them only `pair_cause` asks something, which `job_cause` has seen to.
 #![tactic(auto)]
 
 ghost use Rattle.std.specs.Prelude.{◌≡◌, false, ◌≤◌};
 ghost use Rattle.sizes.specs.Sizes.{most_stops};
+ghost use Rattle.answer.specs.Refusals.{number_in};
 ghost use Rattle.answer.specs.Checks.{cause₁, no_such_bound, cause₄, cause₅, table_cause, first_cause, job_cause, pair_cause};
 
 mod order;
@@ -14,6 +15,7 @@ mod pair_file;
 use crate::order::is_order;
 use crate::pair_file::{against, wrong_pairs};
 use answer::Job;
+use answer::refusal::Refusal;
 use sizes::MOST_STOPS;
 use stops::table::{small, small_charges};
 
@@ -27,24 +29,24 @@ pub fn wrong_n(n: u32) -> bool
     MOST_STOPS < n
 }
 
-// The number of the first of causes 1 to 3 that applies, 0 if none does.
-fn table_cause(n: u32, table: &[u32]) -> u32
-    ensures { result ≡ table_cause n table.now 0 }
+// The first of causes 1 to 3 that applies, if one does.
+fn table_cause(n: u32, table: &[u32]) -> Result<(), Refusal>
+    ensures { number_in result ≡ table_cause n table.now 0 }
 {
     if wrong_n(n) {
-        return 1;
+        return Err(Refusal::Stops);
     }
     let side = (n + 1) as usize;
     if table.len() != side * side {
-        return 2;
+        return Err(Refusal::Table);
     }
     if !small(table) {
-        return 3;
+        return Err(Refusal::Dear);
     }
     if !small_charges(n as usize, table) {
-        return 3;
+        return Err(Refusal::Dear);
     }
-    0
+    Ok(())
 }
 
 // Whether there is no such bound; 2 and 3 are those of request A.5.
@@ -54,21 +56,18 @@ fn unknown_bound(bound: u32) -> bool
     3 < bound
 }
 
-// The number of the first of causes 1 to 4 and 11 that applies to a table, a bound and pairs, 0 if none does.
-pub fn first_cause(n: u32, bound: u32, table: &[u32], pairs: &[u8]) -> u32
-    ensures { result ≡ first_cause n bound table.now pairs.now }
+// The first of causes 1 to 4 and 11 that applies to a table, a bound and pairs, if one does.
+pub fn first_cause(n: u32, bound: u32, table: &[u32], pairs: &[u8]) -> Result<(), Refusal>
+    ensures { number_in result ≡ first_cause n bound table.now pairs.now }
 {
-    let number = table_cause(n, table);
-    if number != 0 {
-        return number;
-    }
+    table_cause(n, table)?;
     if unknown_bound(bound) {
-        return 4;
+        return Err(Refusal::Choice);
     }
     if wrong_pairs(n, pairs) {
-        return 11;
+        return Err(Refusal::Pairs);
     }
-    0
+    Ok(())
 }
 
 // Whether cause 4 applies.
@@ -95,34 +94,30 @@ fn wrong_start(n: u32, start: &[u8]) -> bool
     !is_order(n, start)
 }
 
-// The number of the first of causes 1 to 5 that applies, 0 if none does.
-pub fn job_cause(job: Job, table: &[u32], start: &[u8]) -> u32
-    ensures { result ≡ job_cause job table.now start.now 0 }
+// The first of causes 1 to 5 that applies, if one does.
+pub fn job_cause(job: Job, table: &[u32], start: &[u8]) -> Result<(), Refusal>
+    ensures { number_in result ≡ job_cause job table.now start.now 0 }
 {
-    let number = table_cause(job.n, table);
-    if number != 0 {
-        return number;
-    }
+    table_cause(job.n, table)?;
     if unknown_choice(job) {
-        return 4;
+        return Err(Refusal::Choice);
     }
     if wrong_start(job.n, start) {
-        return 5;
+        return Err(Refusal::Start);
     }
-    0
+    Ok(())
 }
 
-// The number of the first cause that applies to pairs (request A.6), 0 if none does: 11 if they do not pass, 5 if they do and the starting order goes
-// against them.
-pub fn pair_cause(n: u32, start: &[u8], pairs: &[u8]) -> u32
+// The first cause that applies to pairs (request A.6), if one does: 11 if they do not pass, 5 if they do and the starting order goes against them.
+pub fn pair_cause(n: u32, start: &[u8], pairs: &[u8]) -> Result<(), Refusal>
     requires { (n ≤ most_stops) × (cause₅ n start.now ≡ false) }
-    ensures { result ≡ pair_cause n start.now pairs.now 0 }
+    ensures { number_in result ≡ pair_cause n start.now pairs.now 0 }
 {
     if wrong_pairs(n, pairs) {
-        return 11;
+        return Err(Refusal::Pairs);
     }
     if against(n, start, pairs) {
-        return 5;
+        return Err(Refusal::Start);
     }
-    0
+    Ok(())
 }
