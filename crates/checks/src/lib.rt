@@ -23,10 +23,7 @@ use stops::table::{small, small_charges};
 pub fn wrong_n(n: u32) -> bool
     ensures { result ≡ cause₁ n }
 {
-    if n == 0 {
-        return true;
-    }
-    MOST_STOPS < n
+    n == 0 || MOST_STOPS < n
 }
 
 // The first of causes 1 to 3 that applies, if one does.
@@ -40,10 +37,7 @@ fn table_cause(n: u32, table: &[u32]) -> Result<(), Refusal>
     if table.len() != side * side {
         return Err(Refusal::Table);
     }
-    if !small(table) {
-        return Err(Refusal::Dear);
-    }
-    if !small_charges(n as usize, table) {
+    if !small(table) || !small_charges(n as usize, table) {
         return Err(Refusal::Dear);
     }
     Ok(())
@@ -74,13 +68,7 @@ pub fn first_cause(n: u32, bound: u32, table: &[u32], pairs: &[u8]) -> Result<()
 fn unknown_choice(job: Job) -> bool
     ensures { result ≡ cause₄ job }
 {
-    if 3 < job.selection {
-        return true;
-    }
-    if 15 < job.rules {
-        return true;
-    }
-    unknown_bound(job.bound)
+    3 < job.selection || 15 < job.rules || unknown_bound(job.bound)
 }
 
 // Whether cause 5 applies.
@@ -88,10 +76,7 @@ fn wrong_start(n: u32, start: &[u8]) -> bool
     requires { n ≤ most_stops }
     ensures { result ≡ cause₅ n start.now }
 {
-    if start.len() == 0 {
-        return false;
-    }
-    !is_order(n, start)
+    !(start.is_empty() || is_order(n, start))
 }
 
 // The first of causes 1 to 5 that applies, if one does.

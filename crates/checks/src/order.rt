@@ -8,15 +8,7 @@ ghost use Rattle.orders.specs.Orders.{stops, flown, count, is_order};
 pub fn times(x: &[u8], s: u32) -> usize
     ensures { result ≡ count s x.now }
 {
-    let mut times = 0;
-    let mut k = 0;
-    while k < x.len() {
-        if x[k] as u32 == s {
-            times += 1;
-        }
-        k += 1;
-    }
-    times
+    x.iter().filter(|r| u32::from(**r) == s).count()
 }
 
 // Whether each stop of 1 to n stands in x exactly once.
@@ -24,14 +16,14 @@ fn each_once(n: u32, x: &[u8]) -> bool
     requires { n ≤ most_stops }
     ensures { result ≡ all (λ s. eqb (count s x.now) 1) (stops n) }
 {
-    let mut s = 1;
-    while s <= n {
-        if times(x, s) != 1 {
-            return false;
-        }
-        s += 1;
-    }
-    true
+    (1..n + 1).all(|s| times(x, s) == 1)
+}
+
+// Whether s is one of 1 to n.
+fn is_stop(n: u32, s: u8) -> bool
+    ensures { result ≡ flown (stops n) s }
+{
+    1 <= s && u32::from(s) <= n
 }
 
 // Whether nothing but 1 to n stands in x.
@@ -39,18 +31,7 @@ pub fn only_stops(n: u32, x: &[u8]) -> bool
     requires { n ≤ most_stops }
     ensures { result ≡ all (flown (stops n)) x.now }
 {
-    let mut k = 0;
-    while k < x.len() {
-        let s = x[k] as u32;
-        if s == 0 {
-            return false;
-        }
-        if n < s {
-            return false;
-        }
-        k += 1;
-    }
-    true
+    x.iter().all(|s| is_stop(n, *s))
 }
 
 // Whether x is an order of 1 to n.
@@ -58,11 +39,5 @@ pub fn is_order(n: u32, x: &[u8]) -> bool
     requires { n ≤ most_stops }
     ensures { result ≡ is_order n x.now }
 {
-    if x.len() != n as usize {
-        return false;
-    }
-    if !each_once(n, x) {
-        return false;
-    }
-    only_stops(n, x)
+    x.len() == n as usize && each_once(n, x) && only_stops(n, x)
 }

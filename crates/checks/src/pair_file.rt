@@ -14,14 +14,7 @@ use sizes::MOST_PAIR_BYTES;
 fn none_twice(pairs: &[u8]) -> bool
     ensures { result ≡ all (λ s. eqb (count s pairs.now) 1) pairs.now }
 {
-    let mut k = 0;
-    while k < pairs.len() {
-        if times(pairs, pairs[k] as u32) != 1 {
-            return false;
-        }
-        k += 1;
-    }
-    true
+    pairs.iter().all(|s| times(pairs, u32::from(*s)) == 1)
 }
 
 // Whether cause 11 applies.
@@ -29,16 +22,10 @@ pub fn wrong_pairs(n: u32, pairs: &[u8]) -> bool
     requires { n ≤ most_stops }
     ensures { result ≡ cause₁₁ n pairs.now }
 {
-    if pairs.len() % 2 == 1 {
-        return true;
-    }
-    if MOST_PAIR_BYTES < pairs.len() {
-        return true;
-    }
-    if !only_stops(n, pairs) {
-        return true;
-    }
-    !none_twice(pairs)
+    pairs.len() % 2 == 1
+        || MOST_PAIR_BYTES < pairs.len()
+        || !only_stops(n, pairs)
+        || !none_twice(pairs)
 }
 
 // Whether a starting order goes against pairs that pass.

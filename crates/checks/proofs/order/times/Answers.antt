@@ -1,18 +1,12 @@
--- The goals of `order::times` that the search leaves.
-use native.Mathlib.Omega.{arith}
-use Rattle.checks.proofs.OrderLaws.{count-found, count_passed, count-ends}
+-- `times` meets its contract: what passes the filter is counted, which is what `keep` keeps.
+use mathlib.Core.Path.{◌≡◌, ◌∙◌}
+use lib.Dec.{eqb}
+use Rattle.std.proofs.Common.{rules}
+use Rattle.std.specs.List.{count_by}
+use Rattle.checks.proofs.OrderLaws.{counted}
 use Rattle.checks.proofs.order.times.Goals as goal
-use Rattle.checks.proofs.order.times.Goals.{then-x-k, else-x-k}
-
-pub loop-k-init : goal.loop-k-init
-loop-k-init c = (omega arith, omega arith, omega arith)
-
-pub loop-k-preserved : goal.loop-k-preserved
-loop-k-preserved c =
-    elim c.if-x-k.branch [
-      | then-x-k w ↦ (omega arith, omega arith, rw w.times-is (count-found _ _ _ _ c.loop-k-test.true w.if-x-k.true c.loop-k.invariant.2))
-      | else-x-k w ↦ (omega arith, omega arith, rw w.times-is (count_passed _ _ _ _ c.loop-k-test.true w.if-x-k.false c.loop-k.invariant.2))
-    ]
 
 pub returns : goal.returns
-returns c = count-ends _ _ _ _ c.loop-k-test.false c.loop-k.invariant.2
+returns c =
+    let e : c.count.result ≡ count_by (λ r. eqb r c.args.s) c.args.x.now = search rules in
+    e ∙ counted c.args.s c.args.x.now
