@@ -8,7 +8,7 @@ ghost use Rattle.job_format.specs.Reader.{words_in, trailer_from, contents_by, m
 ghost use Rattle.job_file.specs.Promise.{returned};
 ghost use Rattle.job_file.specs.Code.{checked, Laid};
 
-use crate::bytes::{put_bytes, wide, word_at};
+use crate::bytes::{put_bytes, word_at};
 use crate::layout::{TRAILER_BYTES, WORD_BYTES, area};
 use answer::Job;
 use checks::{job_cause, wrong_n};
@@ -51,10 +51,8 @@ fn table_of(file: &[u8], count: usize) -> [u32; TABLE_NUMBERS]
     ensures { result ≡ padded table_numbers (words_in count file.now) }
 {
     let mut table = [0u32; TABLE_NUMBERS];
-    let mut k = 0;
-    while k < count {
+    for k in 0..count {
         table[k] = word_at(file, WORD_BYTES * k);
-        k += 1;
     }
     table
 }
@@ -74,15 +72,11 @@ fn job_of(trailer: &[u8]) -> Job
     requires { length trailer.now ≡ trailer_length }
     ensures { result ≡ (trailer_from trailer.now).job }
 {
-    let n = wide(trailer[8]);
-    let selection = wide(trailer[10]);
-    let rules = wide(trailer[11]);
-    let bound = wide(trailer[12]);
     Job {
-        n,
-        selection,
-        rules,
-        bound,
+        n: u32::from(trailer[8]),
+        selection: u32::from(trailer[10]),
+        rules: u32::from(trailer[11]),
+        bound: u32::from(trailer[12]),
     }
 }
 
@@ -92,16 +86,10 @@ fn misplaced(trailer: &[u8], n: u32, len: usize) -> bool
     ensures { result ≡ misplaced (trailer_from trailer.now) len }
 {
     let place = WORD_BYTES * area(n);
-    if word_at(trailer, 0) != 0 {
-        return true;
-    }
-    if word_at(trailer, WORD_BYTES) as usize != place {
-        return true;
-    }
-    if len != place + wide(trailer[9]) as usize + TRAILER_BYTES {
-        return true;
-    }
-    LONGEST < len
+    let table_place = word_at(trailer, 0);
+    let start_place = word_at(trailer, WORD_BYTES) as usize;
+    let end = place + usize::from(trailer[9]) + TRAILER_BYTES;
+    table_place != 0 || start_place != place || len != end || LONGEST < len
 }
 
 // What a file holds whose length and places are those of the layout, or the number of the first of causes 3 to 5.
@@ -109,7 +97,7 @@ fn accept(file: &[u8], trailer: &[u8], job: Job) -> Reading
     requires { Laid file.now trailer.now job }
     ensures { result ≡ returned (checked (contents_by (trailer_from trailer.now) file.now)) }
 {
-    let stops = wide(trailer[9]);
+    let stops = u32::from(trailer[9]);
     let count = area(job.n);
     let table = table_of(file, count);
     let from = WORD_BYTES * count;

@@ -25,10 +25,8 @@ fn put_table(table: &[u32], buffer: &mut [u8])
     requires { word_bytes * length table.now ≤ length buffer.old }
     ensures { buffer.new ≡ overwrite (each word table.now) buffer.old }
 {
-    let mut k = 0;
-    while k < table.len() {
-        put_word(buffer, WORD_BYTES * k, table[k]);
-        k += 1;
+    for (k, x) in table.iter().enumerate() {
+        put_word(buffer, WORD_BYTES * k, *x);
     }
 }
 

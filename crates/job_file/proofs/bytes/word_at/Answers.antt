@@ -5,6 +5,4 @@ use Rattle.job_file.proofs.bytes.word_at.Goals as goal
 
 pub returns : goal.returns
 returns c =
-    let args = c.args in
-    omega
-    (arith, four_bytes args.bytes.now args.place (omega arith), c.wide-d.ensures, c.wide-c.ensures, c.wide-b.ensures, c.wide-a.ensures)
+    omega (arith, four_bytes c.args.bytes.now c.args.place (omega arith), c.from_le_bytes.ensures)

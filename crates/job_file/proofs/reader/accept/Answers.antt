@@ -10,7 +10,7 @@ use Rattle.job_file.proofs.reader.accept.Goals.{After-job_cause-number}
 abbrev Read : After-job_cause-number → Type 0
 Read c =
     let args = c.args in
-    Found args.file.now args.trailer.now args.job c.area-count.result c.table_of-table.result c.wide-stops.result
+    Found args.file.now args.trailer.now args.job c.area-count.result c.table_of-table.result c.from-stops.result
 
 found : (c : After-job_cause-number) → Read c
 found c =
@@ -18,7 +18,7 @@ found c =
       laid = c.requires;
       square = c.area-count.ensures.0;
       numbers = c.table_of-table.ensures;
-      long = c.wide-stops.ensures.0;
+      long = c.from-stops.ensures;
     }
 
 pub returns-then-number-ne0 : goal.returns-then-number-ne0

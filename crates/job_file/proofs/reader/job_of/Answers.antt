@@ -4,10 +4,4 @@ use Rattle.job_file.proofs.reader.job_of.Goals as goal
 
 pub returns : goal.returns
 unfolding trailer_from
-returns c =
-    λ i. record {
-      n = c.wide-n.ensures.0 i;
-      selection = c.wide-selection.ensures.0 i;
-      rules = c.wide-rules.ensures.0 i;
-      bound = c.wide-bound.ensures.0 i;
-    }
+returns c = cc

@@ -12,17 +12,17 @@ use Rattle.job_file.proofs.reader.table_of.Goals as goal
 
 pub loop-k-init : goal.loop-k-init
 unfolding padded words_in
-loop-k-init c = (omega arith, refl)
+loop-k-init c = refl
 
 pub loop-k-preserved : goal.loop-k-preserved
 loop-k-preserved c =
     let at = c.loop-k in
     let file = c.args.file.now in
     let next = words-next at.k file ∙ ap (λ (x : ℕ). words_in at.k file ++ (x ∷ [])) (sym c.word_at.ensures) in
-    (omega arith, rw at.invariant.1 (padded_one table_numbers _ _ at.k _ (length-words at.k file) next (omega arith)))
+    rw at.invariant (padded_one table_numbers _ _ at.k _ (length-words at.k file) next (omega arith))
 
 pub returns : goal.returns
 returns c =
     let at = c.loop-k in
     let all : at.k ≡ c.args.count = omega arith in
-    at.invariant.1 ∙ rw all
+    at.invariant ∙ rw all

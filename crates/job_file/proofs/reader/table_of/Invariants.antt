@@ -1,14 +1,9 @@
--- `table_of` meets its contract. The loop's invariant: the first k words stand at the front of the array, and zeros behind them. The
--- measure is how many are left.
+-- `table_of` meets its contract. The loop's invariant: the first k words stand at the front of the array, and zeros behind them.
 use mathlib.Core.Path.{◌≡◌}
-use Prim.Native.Nat.{◌-◌, ◌≤◌}
 use Rattle.sizes.specs.Sizes.{table_numbers}
 use Rattle.lists.specs.Lists.{padded}
 use Rattle.job_format.specs.Reader.{words_in}
 use Rattle.job_file.proofs.reader.table_of.Given as goal
 
 abbrev pub invariant-loop-k : goal.invariant-loop-k
-invariant-loop-k l = (l.k ≤ l.count) × (l.table ≡ padded table_numbers (words_in l.k l.file))
-
-abbrev pub decreases-loop-k : goal.decreases-loop-k
-decreases-loop-k l = l.count - l.k
+invariant-loop-k l = l.table ≡ padded table_numbers (words_in l.k l.file)
