@@ -25,11 +25,10 @@ fn read_full<R: Read>(input: &mut R, buffer: &mut [u8]) -> io::Result<usize>
     Ok(done)
 }
 
+#[tactic(auto, using(crate::proofs::OutputLaws::text_fits))]
 fn main(rt: HostRuntime) -> io::Result<()> {
     let mut input = [0u8; INPUT];
     let count = read_full(&mut rt.stdin(), &mut input)?;
     let text = output(&input[..count]);
-    let bytes = text.bytes;
-    let length = text.length;
-    rt.write_all(&bytes[..length])
+    rt.write_all(&text.bytes[..text.length])
 }

@@ -22,25 +22,15 @@ fn answer(file: &[u8]) -> Text
     ensures { result ≡ text_of (answered (read file.now).number (read file.now).contents) }
 {
     let reading = read(file);
-    let number = reading.number;
-    if number != 0 {
-        return refusal_text(number);
+    if reading.number != 0 {
+        return refusal_text(reading.number);
     }
     let job = reading.job;
     let side = job.n as usize + 1;
-    let count = side * side;
-    let stops = reading.stops as usize;
-    let table = reading.table;
-    let start = reading.start;
+    let table = &reading.table[..side * side];
+    let start = &reading.start[..reading.stops as usize];
     let mut pool = [0u32; POOL];
-    let report = plan(
-        job,
-        &table[..count],
-        &start[..stops],
-        b"",
-        NO_BUDGET,
-        &mut pool,
-    );
+    let report = plan(job, table, start, b"", NO_BUDGET, &mut pool);
     report_text(job.n, report)
 }
 
