@@ -1,3 +1,3 @@
-pub mod PutLaws
+pub mod DraftLaws
 pub mod DigitLaws
 pub mod PrintedLaws

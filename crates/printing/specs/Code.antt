@@ -1,18 +1,19 @@
 -- What the functions of this crate compute between one another. These definitions are the code's own: a reader of the promises needs none of
 -- them.
---   Put                       some bytes written into a buffer from a place on, the others as they were, and the place behind them
+--   Begun                      a text within its places, with zeros behind it
 --   most_digits                how many digits a value of 64 bits has at most
 --   decimal_room               how many bytes one takes at most, printed: a space and its digits
 --   line_room                  .. and a line of some: its name, the values and the line's end
 --   answer_room, counts_room    how many bytes the lines of an order and of the counts take at most
-use Rattle.std.specs.Prelude.{◌≡◌, List, ℕ, ◌+◌, ◌*◌, length}
-use Rattle.std.proofs.lemmas.List.Edits.{sets}
+use Rattle.std.specs.Prelude.{◌≡◌, List, ℕ, ◌+◌, ◌*◌, ◌≤◌, length, take}
 use Rattle.sizes.specs.Sizes.{order_places}
 use Rattle.report_format.specs.Text.{ascii}
+use Rattle.printing.specs.Promise.{text_places, text_of}
+use Rattle.printing.specs.declared.Text.{Text}
 
-pub record Put (before : List ℕ) (place : ℕ) (bytes after : List ℕ) (end : ℕ) : Type 0 where
-  pub written : after ≡ sets before place bytes
-  pub behind : end ≡ place + length bytes
+pub record Begun (t : Text) : Type 0 where
+  pub within : t.length ≤ text_places
+  pub padded : t ≡ text_of (take t.length t.bytes)
 
 abbrev pub most_digits : ℕ
 most_digits = 20

@@ -6,11 +6,11 @@ ghost use Rattle.std.specs.Prelude.{◌≡◌};
 ghost use Rattle.report_format.specs.Printed.{refused_line, printed};
 ghost use Rattle.printing.specs.Promise.{text_of};
 
+mod draft;
 mod lines;
-mod put;
 
+use crate::draft::Draft;
 use crate::lines::put_lines;
-use crate::put::put_line;
 use answer::Report;
 use records::order::places;
 
@@ -28,9 +28,9 @@ pub struct Text {
 pub fn refusal_text(number: u32) -> Text
     ensures { result ≡ text_of (refused_line number) }
 {
-    let mut bytes = [0u8; TEXT];
-    let length = put_line(&mut bytes, 0, b"refused", number as u64);
-    Text { bytes, length }
+    let mut draft = Draft::new();
+    draft.put_line(b"refused", u64::from(number));
+    draft.into_text()
 }
 
 // The text of a report of n stops: of a finished run seven lines; of a stopped one (request A.3) two more, its mark and its floor, and no cost and no
@@ -38,11 +38,10 @@ pub fn refusal_text(number: u32) -> Text
 pub fn report_text(n: u32, report: Report) -> Text
     ensures { result ≡ text_of (printed n report) }
 {
-    let number = report.number;
-    if number != 0 {
-        return refusal_text(number);
+    if report.number != 0 {
+        return refusal_text(report.number);
     }
-    let mut bytes = [0u8; TEXT];
-    let length = put_lines(&mut bytes, places(n) as usize, report);
-    Text { bytes, length }
+    let mut draft = Draft::new();
+    put_lines(&mut draft, places(n) as usize, report);
+    draft.into_text()
 }

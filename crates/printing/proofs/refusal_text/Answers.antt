@@ -1,10 +1,10 @@
--- `refusal_text` meets its contract: one line in an array of zeros.
-use native.Mathlib.Omega.{arith}
+-- `refusal_text` meets its contract: one line.
+use mathlib.Core.Path.{ap, ◌∙◌}
 use Rattle.report_format.specs.Text.{line}
 use Rattle.report_format.specs.Printed.{refused_line}
-use Rattle.printing.proofs.PutLaws.{put_text}
+use Rattle.printing.specs.Promise.{text_of}
 use Rattle.printing.proofs.refusal_text.Goals as goal
 
 pub returns : goal.returns
 unfolding refused_line line
-returns c = put_text (omega arith) c.put_line-length.ensures.0
+returns c = c.into_text.ensures ∙ ap text_of (rw (c.put_line.ensures.0, c.new-draft.ensures, c.from.ensures))

@@ -3,18 +3,16 @@ use mathlib.Core.Path.{◌≡◌}
 use mathlib.Core.Logic.{◌≢◌}
 use native.Mathlib.Omega.{arith}
 use Rattle.report_format.specs.Printed.{seven_lines}
-use Rattle.printing.proofs.PutLaws.{put_then}
 use Rattle.printing.proofs.PrintedLaws.{lines_seven, lines_stopped}
 use Rattle.printing.proofs.lines.put_lines.Goals as goal
 
-pub returns-then-mark-ne0 : goal.returns-then-mark-ne0
-returns-then-mark-ne0 c =
+pub returns-then-r-ne0 : goal.returns-then-r-ne0
+returns-then-r-ne0 c =
     let stopped : c.args.r.mark ≢ 0 = omega arith in
-    (rw (lines_stopped _ c.args.count c.args.r stopped) c.put_stopped.ensures.0, c.put_stopped.ensures.1)
+    rw (lines_stopped _ c.args.count c.args.r stopped) c.put_stopped.ensures
 
 pub returns : goal.returns
 unfolding seven_lines
 returns c =
-    let seven = put_then c.put_answer-at.ensures.0 c.put_counts.ensures.0 in
     let finished : c.args.r.mark ≡ 0 = omega arith in
-    (rw (lines_seven _ c.args.count c.args.r finished) seven, omega arith)
+    rw (lines_seven _ c.args.count c.args.r finished, c.put_counts.ensures.0, c.put_answer.ensures.0, c.requires.1)
