@@ -14,13 +14,16 @@ use lib.Seq.{length-take-le}
 use Rattle.sizes.specs.Sizes.{table_numbers, order_places}
 use Rattle.lists.specs.Lists.{padded}
 use Rattle.answer.specs.Checks.{cause₁, job_cause}
+use Rattle.answer.specs.Refusals.{number}
 use Rattle.answer.specs.declared.Job.{Job}
+use Rattle.answer.specs.declared.refusal.Refusal.{Refusal}
 use Rattle.job_format.specs.Contents.{Contents, contents_of, Trailer, trailer_length, area, start_place_of, file_length}
 use Rattle.job_format.specs.Reader.{words_in, trailer_from, contents_by, misplaced, refusal, reading_by}
 use Rattle.job_file.specs.Promise.{returned}
 use Rattle.job_file.specs.Code.{checked, Laid}
 use Rattle.job_file.specs.declared.reader.Reading.{Reading as Returned}
 use Rattle.checks.proofs.CauseLaws.{few_stops}
+use Rattle.checks.proofs.RefusalLaws.{numbered}
 use Rattle.lists.proofs.Padded.{take-padded}
 use Rattle.job_format.proofs.ByteLaws.{length-words}
 use Rattle.job_format.proofs.JobLaws.{passed}
@@ -87,25 +90,26 @@ module _ (file trailer : List ℕ) (job : Job) where
         let left : get_or trailer 9 0 ≤ length (drop place file) = omega (arith, length-drop place file) in
         found.long ∙ sym (ap length order_is ∙ length-take-le (get_or trailer 9 0) (drop place file) left)
 
-    module _ (k : ℕ) (e : k ≡ job_cause job (take count table) order 0) where
-      cause_is : k ≡ job_cause held.job held.table held.start 0
-      unfolding contents_of
-      cause_is = e ∙ ap (λ (c : Contents). job_cause c.job c.table c.start 0) held_is
+    cause_is : job_cause job (take count table) order 0 ≡ job_cause held.job held.table held.start 0
+    unfolding contents_of
+    cause_is = ap (λ (c : Contents). job_cause c.job c.table c.start 0) held_is
 
-      pub accept_refuses : k ≢ 0 → returned (refusal k) ≡ returned (checked held)
-      unfolding checked reading_by
-      accept_refuses h = ap returned (go k h ∙ ap (λ (m : ℕ). reading_by m held) cause_is)
-        where
-          go : (m : ℕ) → m ≢ 0 → refusal m ≡ reading_by m held
-          go zero h = absurd (h refl)
-          go (suc m) h = refl
+    pub accept_refuses :
+        (e : Refusal) → number e ≡ job_cause job (take count table) order 0 → returned (refusal (number e)) ≡ returned (checked held)
+    unfolding checked reading_by
+    accept_refuses e f = ap returned (go (number e) (numbered e) ∙ ap (λ (m : ℕ). reading_by m held) (f ∙ cause_is))
+      where
+        go : (m : ℕ) → m ≢ 0 → refusal m ≡ reading_by m held
+        go zero h = absurd (h refl)
+        go (suc m) h = refl
 
-      pub found_short : k ≡ 0 → length order ≤ order_places
+    module _ (none : 0 ≡ job_cause job (take count table) order 0) where
+      pub found_short : length order ≤ order_places
       unfolding contents_by trailer_from
-      found_short z = rw order_is (passed held (sym cause_is ∙ z)).short
+      found_short = rw order_is (passed held (sym (none ∙ cause_is))).short
 
       pub accept_returns :
-          k ≡ 0 → (start : List ℕ) → start ≡ padded order_places order
+          (start : List ℕ) → start ≡ padded order_places order
           → ◌≡◌ {A = Returned} (record { number = 0; job = job; table = table; start = start; stops = len }) (returned (checked held))
       unfolding checked reading_by returned contents_by trailer_from
-      accept_returns z start s = rw (← cause_is, z) (cc (found.laid.stands, table_is, order_is, length_is, s))
+      accept_returns start s = rw (← none ∙ cause_is) (cc (found.laid.stands, table_is, order_is, length_is, s))

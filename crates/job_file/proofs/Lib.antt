@@ -1,3 +1,4 @@
+pub mod RefusedLaws
 pub mod AcceptLaws
 pub mod WriterLaws
 pub mod Returns

@@ -1,19 +1,34 @@
 -- What the functions of this crate compute between one another. These definitions are the code's own: a reader of the promises needs none of
 -- them.
 --   checked       what the reader answers of contents that stand in their place
+--   handed_back   what the reader hands back where it has read a file or refuses it
+--   written       what the writer hands back where it has written a file of some length or refuses it
 --   Laid          the bytes of a file and of its trailer are long enough for the trailer's job
 --   trailer_by     a trailer by its parts
 --   Small         a job whose fields are bytes
 --   Fits          contents that fit the layout, and a buffer that their file fits
-use Rattle.std.specs.Prelude.{◌≡◌, List, ℕ, ◌+◌, ◌≤◌, ◌<◌, length, get_or}
+use Rattle.std.specs.Prelude.{◌≡◌, List, ℕ, Result, Ok, Err, ◌+◌, ◌≤◌, ◌<◌, length, get_or}
 use Rattle.sizes.specs.Sizes.{most_stops, table_numbers, order_places}
 use Rattle.answer.specs.Checks.{job_cause}
+use Rattle.answer.specs.Refusals.{number}
 use Rattle.answer.specs.declared.Job.{Job}
+use Rattle.answer.specs.declared.refusal.Refusal.{Refusal}
 use Rattle.job_format.specs.Contents.{Contents, Trailer, trailer_length, area, start_place_of, file_length}
-use Rattle.job_format.specs.Reader.{Reading, trailer_from, reading_by}
+use Rattle.job_format.specs.Reader.{Reading, trailer_from, refusal, reading_by}
+use Rattle.job_file.specs.Promise.{returned}
+use Rattle.job_file.specs.declared.reader.Reading.{Reading as Returned}
+use Rattle.job_file.specs.declared.writer.Written.{Written}
 
 unfoldable pub checked : Contents → Reading
 checked c = reading_by (job_cause c.job c.table c.start 0) c
+
+abbrev pub handed_back : Result Returned Refusal → Returned
+handed_back (Ok r) = r
+handed_back (Err e) = returned (refusal (number e))
+
+abbrev pub written : Result ℕ Refusal → Written
+written (Ok length) = record { number = 0; length = length }
+written (Err e) = record { number = number e; length = 0 }
 
 pub record Laid (file trailer : List ℕ) (job : Job) : Type 0 where
   pub whole : length trailer ≡ trailer_length

@@ -6,11 +6,13 @@ ghost use Rattle.job_format.specs.Bytes.{word_bytes};
 ghost use Rattle.job_format.specs.Contents.{trailer_length};
 ghost use Rattle.job_format.specs.Reader.{words_in, trailer_from, contents_by, misplaced, refusal, read};
 ghost use Rattle.job_file.specs.Promise.{returned};
-ghost use Rattle.job_file.specs.Code.{checked, Laid};
+ghost use Rattle.answer.specs.Refusals.{number};
+ghost use Rattle.job_file.specs.Code.{checked, handed_back, Laid};
 
 use crate::bytes::{put_bytes, word_at};
 use crate::layout::{TRAILER_BYTES, WORD_BYTES, area};
 use answer::Job;
+use answer::refusal::Refusal;
 use checks::{job_cause, wrong_n};
 use sizes::{LONGEST, ORDER_PLACES, TABLE_NUMBERS};
 
@@ -26,9 +28,9 @@ pub struct Reading {
     pub stops: u32,
 }
 
-// A refusal: a number, and zeros.
-fn refused(number: u32) -> Reading
-    ensures { result ≡ returned (refusal number) }
+// A refusal: its number, and zeros.
+fn refused(cause: Refusal) -> Reading
+    ensures { result ≡ returned (refusal (number cause)) }
 {
     let job = Job {
         n: 0,
@@ -37,7 +39,7 @@ fn refused(number: u32) -> Reading
         bound: 0,
     };
     Reading {
-        number,
+        number: u32::from(cause),
         job,
         table: [0u32; TABLE_NUMBERS],
         start: [0u8; ORDER_PLACES],
@@ -92,10 +94,10 @@ fn misplaced(trailer: &[u8], n: u32, len: usize) -> bool
     table_place != 0 || start_place != place || len != end || LONGEST < len
 }
 
-// What a file holds whose length and places are those of the layout, or the number of the first of causes 3 to 5.
-fn accept(file: &[u8], trailer: &[u8], job: Job) -> Reading
+// What a file holds whose length and places are those of the layout, or the first of causes 3 to 5 against it.
+fn accept(file: &[u8], trailer: &[u8], job: Job) -> Result<Reading, Refusal>
     requires { Laid file.now trailer.now job }
-    ensures { result ≡ returned (checked (contents_by (trailer_from trailer.now) file.now)) }
+    ensures { handed_back result ≡ returned (checked (contents_by (trailer_from trailer.now) file.now)) }
 {
     let stops = u32::from(trailer[9]);
     let count = area(job.n);
@@ -103,35 +105,41 @@ fn accept(file: &[u8], trailer: &[u8], job: Job) -> Reading
     let from = WORD_BYTES * count;
     let to = from + stops as usize;
     let order = &file[from..to];
-    let number = job_cause(job, &table[..count], order);
-    if number != 0 {
-        return refused(number);
-    }
-    let start = start_of(order);
-    Reading {
+    job_cause(job, &table[..count], order)?;
+    Ok(Reading {
         number: 0,
         job,
         table,
-        start,
+        start: start_of(order),
         stops,
+    })
+}
+
+// What a file holds, or the first cause against it.
+fn try_read(file: &[u8]) -> Result<Reading, Refusal>
+    ensures { handed_back result ≡ returned (read file.now) }
+{
+    if file.len() < TRAILER_BYTES {
+        return Err(Refusal::Short);
     }
+    let end = file.len() - TRAILER_BYTES;
+    let trailer = &file[end..];
+    let job = job_of(trailer);
+    if wrong_n(job.n) {
+        return Err(Refusal::Stops);
+    }
+    if misplaced(trailer, job.n, file.len()) {
+        return Err(Refusal::Layout);
+    }
+    accept(file, trailer, job)
 }
 
 // Reads a job file. What it answers is what document 01's layout and causes give, for every string of bytes.
 pub fn read(file: &[u8]) -> Reading
     ensures { result ≡ returned (read file.now) }
 {
-    if file.len() < TRAILER_BYTES {
-        return refused(8);
+    match try_read(file) {
+        Ok(reading) => reading,
+        Err(cause) => refused(cause),
     }
-    let end = file.len() - TRAILER_BYTES;
-    let trailer = &file[end..];
-    let job = job_of(trailer);
-    if wrong_n(job.n) {
-        return refused(1);
-    }
-    if misplaced(trailer, job.n, file.len()) {
-        return refused(9);
-    }
-    accept(file, trailer, job)
 }

@@ -16,10 +16,7 @@ fn rewrite(file: &[u8], buffer: &mut [u8]) -> Written
             length: 0,
         };
     }
-    let job = reading.job;
-    let table = reading.table;
-    let start = reading.start;
-    let count = area(job.n);
-    let stops = reading.stops as usize;
-    write(job, &table[..count], &start[..stops], buffer)
+    let table = &reading.table[..area(reading.job.n)];
+    let start = &reading.start[..reading.stops as usize];
+    write(reading.job, table, start, buffer)
 }

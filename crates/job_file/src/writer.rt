@@ -5,11 +5,12 @@ ghost use Rattle.lists.specs.Lists.{each};
 ghost use Rattle.job_format.specs.Bytes.{word_bytes, word, overwrite};
 ghost use Rattle.job_format.specs.Contents.{contents_of, trailer_length, trailer_bytes, bytes_of};
 ghost use Rattle.job_file.specs.Promise.{Promised};
-ghost use Rattle.job_file.specs.Code.{trailer_by, Small, Fits};
+ghost use Rattle.job_file.specs.Code.{written, trailer_by, Small, Fits};
 
 use crate::bytes::{put_bytes, put_word};
 use crate::layout::{TRAILER_BYTES, WORD_BYTES};
 use answer::Job;
+use answer::refusal::Refusal;
 use checks::job_cause;
 
 // What the writer hands back: a number, and the length of the file.
@@ -56,22 +57,29 @@ fn put_file(job: Job, table: &[u32], start: &[u8], buffer: &mut [u8])
     put_trailer(place as u32, job, start.len() as u8, &mut buffer[end..]);
 }
 
+// Writes a job file and answers its length, or the first cause against it.
+fn try_write(job: Job, table: &[u32], start: &[u8], buffer: &mut [u8]) -> Result<usize, Refusal>
+    ensures { Promised (contents_of job table.now start.now) buffer.old (written result) buffer.new }
+{
+    job_cause(job, table, start)?;
+    let length = WORD_BYTES * table.len() + start.len() + TRAILER_BYTES;
+    if buffer.len() < length {
+        return Err(Refusal::Buffer);
+    }
+    put_file(job, table, start, buffer);
+    Ok(length)
+}
+
 // Writes a job file. What it answers and leaves in the buffer is what document 01's layout and causes give, for every job, table, starting
 // order and buffer.
 pub fn write(job: Job, table: &[u32], start: &[u8], buffer: &mut [u8]) -> Written
     ensures { Promised (contents_of job table.now start.now) buffer.old result buffer.new }
 {
-    let number = job_cause(job, table, start);
-    if number != 0 {
-        return Written { number, length: 0 };
-    }
-    let length = WORD_BYTES * table.len() + start.len() + TRAILER_BYTES;
-    if buffer.len() < length {
-        return Written {
-            number: 10,
+    match try_write(job, table, start, buffer) {
+        Ok(length) => Written { number: 0, length },
+        Err(cause) => Written {
+            number: u32::from(cause),
             length: 0,
-        };
+        },
     }
-    put_file(job, table, start, buffer);
-    Written { number: 0, length }
 }

@@ -1,4 +1,4 @@
--- `read` meets its contract, test by test.
+-- `try_read` meets its contract, test by test.
 use mathlib.Core.Path.{◌≡◌, ap, sym, ◌∙◌}
 use mathlib.Core.List.{List}
 use Prim.Native.Nat.{ℕ, ◌-◌}
@@ -14,8 +14,8 @@ use Rattle.answer.specs.declared.Job.{Job}
 use Rattle.checks.proofs.CauseLaws.{few_stops}
 use Rattle.job_format.proofs.ReadLaws.{short_file, wrong_stops, wrong_layout, right_layout, same-stops, length_last}
 use Rattle.job_file.proofs.AcceptLaws.{layout_laid}
-use Rattle.job_file.proofs.reader.read.Goals as goal
-use Rattle.job_file.proofs.reader.read.Goals.{After-wrong_n}
+use Rattle.job_file.proofs.reader.try_read.Goals as goal
+use Rattle.job_file.proofs.reader.try_read.Goals.{After-wrong_n}
 
 -- a file's last thirteen bytes
 abbrev trailer : List ℕ → List ℕ
@@ -33,11 +33,11 @@ stops c =
     c.wrong_n.ensures ∙ same-stops c.args.file.now (trailer c.args.file.now) (last c.args.file.now) (omega arith) _ (stands c)
 
 pub returns-then-file-lt-TRAILER_BYTES : goal.returns-then-file-lt-TRAILER_BYTES
-returns-then-file-lt-TRAILER_BYTES c = c.refused.ensures ∙ ap returned (short_file _ c.if-file-lt-TRAILER_BYTES.true)
+returns-then-file-lt-TRAILER_BYTES c = ap returned (short_file _ c.if-file-lt-TRAILER_BYTES.true)
 
 pub returns-then-wrong_n : goal.returns-then-wrong_n
 returns-then-wrong_n c =
-    c.refused-then-wrong_n.ensures ∙ ap returned (wrong_stops c.args.file.now (trailer c.args.file.now) (last c.args.file.now) (omega arith) (sym (stops (goal.at.returns-then-wrong_n c).After-wrong_n) ∙ c.if-wrong_n.true))
+    ap returned (wrong_stops c.args.file.now (trailer c.args.file.now) (last c.args.file.now) (omega arith) (sym (stops (goal.at.returns-then-wrong_n c).After-wrong_n) ∙ c.if-wrong_n.true))
 
 pub misplaced-requires : goal.misplaced-requires
 misplaced-requires c =
@@ -45,8 +45,7 @@ misplaced-requires c =
 
 pub returns-then-misplaced : goal.returns-then-misplaced
 returns-then-misplaced c =
-    c.refused-then-misplaced.ensures
-    ∙ ap returned
+    ap returned
     (wrong_layout c.args.file.now (trailer c.args.file.now) (last c.args.file.now) (omega arith) (sym (stops (goal.at.returns-then-misplaced c).After-wrong_n) ∙ c.if-wrong_n.false) (sym c.misplaced.ensures ∙ c.if-misplaced.true))
 
 pub accept-requires : goal.accept-requires
