@@ -4,6 +4,7 @@ ghost use Rattle.job_format.specs.Reader.{read};
 ghost use Rattle.printing.specs.Promise.{text_of};
 ghost use Rattle.plan.specs.Output.{answered, output};
 
+use answer::refusal::Refusal;
 use job_file::reader::read;
 use planner::plan;
 use printing::{Text, refusal_text, report_text};
@@ -39,7 +40,7 @@ pub fn output(input: &[u8]) -> Text
     ensures { result ≡ text_of (output input.now) }
 {
     if LONGEST < input.len() {
-        return refusal_text(9);
+        return refusal_text(u32::from(Refusal::Layout));
     }
     answer(input)
 }
