@@ -1,15 +1,14 @@
 -- Laws of the loops that look for the best exchange of an order and make it.
---   exchangeable_reckonable                    of an order of which the exchanges can be tried (`Exchangeable`) the cost can be added up
---   exchangeable_partial                       it flies no stop twice, which is what is asked to see whether it respects the pairs
---   exchangeable_below                         and it is not above every cost
+--   swap-exchanged                             the library's `swap` is the exchange of two stops
+--   exchangeable_below                         an order of which the exchanges can be tried (`Exchangeable`) does not cost above every cost
 --   exchanged_exchangeable                     it is such an order still once two stops are exchanged
---   allowed-cost, against-cost                 what it costs if it respects the pairs, and if it does not
+--   allowed-cost                               what it costs if it respects the pairs
 --   Trying f x rest y e                        e is the best exchange tried so far; the cheapest by f of what it makes and of rest is y
---   behind_starts, behind_tried, behind-ends   rest is what is made by the exchanges of one position: all of them, one less, none
+--   behind_tried, behind-ends                  rest is what is made by the exchanges of one position: one less, none
 --   exchanges_from x p                          what is made by the exchanges of each position from p on with the positions behind it
 --   all_start, all_tried, all_end              rest is what is made by these: of all positions, of one less, of none
 --   Improving t d x₀ x own e                   x settles to what x₀ does, own is its cost and e its best exchange
---   improving_starts, improving_again, improving_ends   so it is at first, with one more exchange made, and at last
+--   improving_again, improving_ends            so it is with one more exchange made, and at last
 --   improving_asks                             what is asked to look for the best exchange of the order that e makes
 use mathlib.Core.Path.{◌≡◌, refl, sym, subst, ◌∙◌}
 use mathlib.Core.Bool.{Bool, true, false, cond}
@@ -19,15 +18,15 @@ use native.Mathlib.Numerals.{add-one}
 use native.Mathlib.Omega.{arith}
 use lib.Dec.{T, ltb}
 use lib.ListN.{length}
+use Rattle.std.specs.List.{swap}
+use Rattle.std.proofs.lemmas.List.Edits.{swap_is}
 use Rattle.sizes.specs.Sizes.{dearest, above_every_cost}
 use Rattle.lists.specs.Lists.{from, each}
 use Rattle.lists.proofs.Tests.{to_true}
-use Rattle.orders.specs.Orders.{Node, Partial, Order}
+use Rattle.orders.specs.Orders.{Node, Order}
 use Rattle.orders.specs.Pairs.{Pairing}
-use Rattle.orders.proofs.Order.{order_partial}
 use Rattle.stops.specs.Legs.{Legs, legs, cost}
-use Rattle.stops.specs.Code.{Reckonable}
-use Rattle.stops.proofs.Paths.{cost_small, partial_reckonable}
+use Rattle.stops.proofs.Paths.{cost_small}
 use Rattle.pairs.specs.Code.{pairs_in}
 use Rattle.pairs.specs.declared.Precedence.{Precedence}
 use Rattle.first_answer.specs.Nearest.{cheapest}
@@ -39,14 +38,12 @@ use Rattle.first_answer.proofs.Settled.{improved_stays, improved_goes_on}
 use Rattle.first_order.specs.Code.{Exchangeable, allowed_by, allowed_cost, made, Makes, better, best_behind}
 use Rattle.first_order.specs.declared.exchange.Exchange.{Exchange}
 
+pub swap-exchanged : (x : Node) (p q : ℕ) → p < length x → q < length x → swap x p q ≡ exchanged x p q
+unfolding exchanged
+swap-exchanged x p q h k = sym (swap_is x p q 0 h k)
+
 -- an order of which the exchanges can be tried
 module _ {t : List (List ℕ)} {d : Precedence} {x : Node} (f : Exchangeable t d x) where
-  pub exchangeable_partial : Partial (length x) x
-  exchangeable_partial = order_partial (length x) x f.order
-
-  pub exchangeable_reckonable : Reckonable t x
-  exchangeable_reckonable = partial_reckonable f.few f.cheap exchangeable_partial
-
   pub exchangeable_below : cost (legs t) x ≤ above_every_cost
   exchangeable_below = omega (arith, cost_small dearest (legs t) f.cheap x, f.few)
 
@@ -84,12 +81,9 @@ module _ (x : Node) where
   unfolding exchanges_from
   all_none p h = let none : length x - p ≡ 0 = omega arith in rw none
 
--- the cost of an order that respects the pairs, and of one that does not
-pub allowed-cost : (L : Legs) (d : Precedence) (x : Node) → allowed_by d x ≡ true → allowed_cost L d x ≡ cost L x
+-- the cost of an order that respects the pairs
+allowed-cost : (L : Legs) (d : Precedence) (x : Node) → allowed_by d x ≡ true → allowed_cost L d x ≡ cost L x
 allowed-cost L d x h = rw h refl
-
-pub against-cost : (L : Legs) (d : Precedence) (x : Node) → allowed_by d x ≡ false → allowed_cost L d x ≡ above_every_cost
-against-cost L d x h = rw h refl
 
 module _ (L : Legs) (d : Precedence) (x : Node) (respected : T (allowed_by d x)) where
   -- an exchange that goes against the pairs is never the best, as it is above every cost
@@ -121,10 +115,6 @@ module _ (L : Legs) (d : Precedence) (x : Node) (respected : T (allowed_by d x))
         let y : Node = best_exchange L (allowed_by d) x in
         m.costs ∙ allowed-cost L d y (to_true (allowed_by d y) (best_exchange-allowed L (allowed_by d) x respected));
   }
-
-pub behind_starts :
-    {f : Node → ℕ} {x : Node} (p : ℕ) {e : Exchange} → Makes f x e (made x e) → Trying f x (behind x p (p + 1)) (best_behind f x p e) e
-behind_starts p m = record { found = m; best = rw (add-one p) }
 
 module _ {f : Node → ℕ} {x y : Node} {e : Exchange} where
   none_left : Trying f x [] y e → Makes f x e y
@@ -173,12 +163,6 @@ pub record Improving (t : List (List ℕ)) (d : Precedence) (x₀ x : Node) (own
   pub costs : own ≡ cost (legs t) x
   pub found : Makes (cost (legs t)) x e (best_exchange (legs t) (allowed_by d) x)
   pub same : improved (legs t) (allowed_by d) x ≡ improved (legs t) (allowed_by d) x₀
-
-pub improving_starts :
-    {t : List (List ℕ)} {d : Precedence} {x : Node} {own : ℕ} {e : Exchange}
-    → Exchangeable t d x → T (allowed_by d x) → own ≡ cost (legs t) x
-    → Makes (cost (legs t)) x e (best_exchange (legs t) (allowed_by d) x) → Improving t d x x own e
-improving_starts f h costs m = record { tried = f; respected = h; long = refl; costs = costs; found = m; same = refl }
 
 module _ {t : List (List ℕ)} {d : Precedence} {x₀ x : Node} {own : ℕ} {e : Exchange} (i : Improving t d x₀ x own e) where
   pub improving_asks :

@@ -17,16 +17,6 @@ struct Exchange {
     q: usize,
 }
 
-// Exchanges the stops at two positions.
-fn exchange_stops(x: &mut [u8], p: usize, q: usize)
-    requires { (p < length x.old) × (q < length x.old) }
-    ensures { x.new ≡ exchanged x.old p q }
-{
-    let held = x[p];
-    x[p] = x[q];
-    x[q] = held;
-}
-
 // What an order costs; above every cost if it goes against a pair, so that it is never the better one.
 fn allowed_cost(t: &Rows, precedence: Precedence, x: &[u8]) -> u32
     requires { Exchangeable t.now precedence x.now }
@@ -43,9 +33,9 @@ fn exchange_cost(t: &Rows, precedence: Precedence, x: &mut [u8], p: usize, q: us
     requires { Exchangeable t.now precedence x.old × ((p < length x.old) × (q < length x.old)) }
     ensures { (result ≡ allowed_cost (legs t.now) precedence (exchanged x.old p q)) × (x.new ≡ x.old) }
 {
-    exchange_stops(x, p, q); // there
+    x.swap(p, q); // there
     let cost = allowed_cost(t, precedence, x);
-    exchange_stops(x, p, q); // and back
+    x.swap(p, q); // and back
     cost
 }
 
@@ -62,11 +52,9 @@ fn best_with(t: &Rows, precedence: Precedence, x: &mut [u8], p: usize, best: Exc
     ensures { (x.new ≡ x.old) × Makes (allowed_cost (legs t.now) precedence) x.old result (best_behind (allowed_cost (legs t.now) precedence) x.old p best) }
 {
     let mut found = best;
-    let mut q = p + 1;
-    while q < x.len() {
+    for q in p + 1..x.len() {
         let cost = exchange_cost(t, precedence, x, p, q);
         found = better(found, Exchange { cost, p, q });
-        q += 1;
     }
     found
 }
@@ -81,10 +69,8 @@ fn best_exchange(t: &Rows, precedence: Precedence, x: &mut [u8], own: u32) -> Ex
         p: 0,
         q: 0,
     };
-    let mut p = 0;
-    while p < x.len() {
+    for p in 0..x.len() {
         found = best_with(t, precedence, x, p, found);
-        p += 1;
     }
     found
 }
@@ -97,7 +83,7 @@ pub fn improve(t: &Rows, precedence: Precedence, x: &mut [u8]) -> u32
     let mut cost = order_cost(t, x);
     let mut found = best_exchange(t, precedence, x, cost);
     while found.cost < cost {
-        exchange_stops(x, found.p, found.q);
+        x.swap(found.p, found.q);
         cost = found.cost;
         found = best_exchange(t, precedence, x, cost);
     }

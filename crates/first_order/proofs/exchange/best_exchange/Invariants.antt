@@ -1,8 +1,6 @@
 -- `best_exchange` meets its contract. The loop's invariant: the order is as at entry, and the best of the exchange found and of those of the
--- places from p on with the places behind them is the best of all. The measure is how many places these are.
+-- places from p on with the places behind them is the best of all.
 use mathlib.Core.Path.{◌≡◌}
-use Prim.Native.Nat.{◌-◌}
-use lib.ListN.{length}
 use Rattle.stops.specs.Legs.{legs}
 use Rattle.first_answer.specs.Exchanges.{best_exchange}
 use Rattle.first_order.specs.Code.{allowed_by, allowed_cost}
@@ -12,6 +10,3 @@ use Rattle.first_order.proofs.exchange.best_exchange.Given as goal
 abbrev pub invariant-loop-p : goal.invariant-loop-p
 invariant-loop-p l =
     (l.x ≡ l.initial.x) × Trying (allowed_cost (legs l.t) l.precedence) l.initial.x (exchanges_from l.initial.x l.p) (best_exchange (legs l.t) (allowed_by l.precedence) l.initial.x) l.found
-
-abbrev pub decreases-loop-p : goal.decreases-loop-p
-decreases-loop-p l = length l.initial.x - l.p

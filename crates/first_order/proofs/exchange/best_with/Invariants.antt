@@ -1,8 +1,6 @@
 -- `best_with` meets its contract. The loop's invariant: the order is as at entry, and the best of the exchange found and of those of place p
--- with the places from q on is the best of all. The measure is how many places these are.
+-- with the places from q on is the best of all.
 use mathlib.Core.Path.{◌≡◌}
-use Prim.Native.Nat.{◌-◌}
-use lib.ListN.{length}
 use Rattle.stops.specs.Legs.{legs}
 use Rattle.first_answer.specs.Exchanges.{behind}
 use Rattle.first_order.specs.Code.{allowed_cost, best_behind}
@@ -13,6 +11,3 @@ abbrev pub invariant-loop-q : goal.invariant-loop-q
 invariant-loop-q l =
     let f = allowed_cost (legs l.t) l.precedence in
     (l.x ≡ l.initial.x) × Trying f l.initial.x (behind l.initial.x l.p l.q) (best_behind f l.initial.x l.p l.initial.found) l.found
-
-abbrev pub decreases-loop-q : goal.decreases-loop-q
-decreases-loop-q l = length l.initial.x - l.q

@@ -1,20 +1,31 @@
 -- `exchange_cost` meets its contract: the order whose cost it takes is the exchanged one, and made again the exchange is undone.
-use mathlib.Core.Path.{◌∙◌}
-use Rattle.first_answer.proofs.Exchanged.{exchanged_twice}
-use Rattle.first_order.proofs.ExchangeLaws.{exchanged_exchangeable}
+use mathlib.Core.Path.{◌≡◌, ◌∙◌}
+use native.Mathlib.Omega.{arith}
+use Rattle.first_answer.specs.Exchanges.{exchanged}
+use Rattle.first_answer.proofs.Exchanged.{exchanged-length, exchanged_twice}
+use Rattle.first_order.proofs.ExchangeLaws.{swap-exchanged, exchanged_exchangeable}
 use Rattle.first_order.proofs.exchange.exchange_cost.Goals as goal
+use Rattle.first_order.proofs.exchange.exchange_cost.Goals.{After-swap}
 
-pub returns : goal.returns
-returns c =
+-- the order is the exchanged one, there and back
+there : (c : After-swap) → let a = c.args in c.swap.new.self ≡ exchanged a.x.now a.p a.q
+there c =
     let a = c.args in
-    let pre = c.requires in
-    let is = c.exchange_stops.ensures in (
-      rw is at c.allowed_cost-cost.ensures,
-      c.exchange_stops-2.ensures ∙ rw is (exchanged_twice a.x.now a.p a.q pre.1.0 pre.1.1),
-    )
+    c.swap.ensures.after ∙ swap-exchanged a.x.now a.p a.q c.requires.1.0 c.requires.1.1
 
 pub allowed_cost-cost-requires : goal.allowed_cost-cost-requires
 allowed_cost-cost-requires c =
     let a = c.args in
     let pre = c.requires in
-    rw c.exchange_stops.ensures (exchanged_exchangeable pre.0 a.p a.q pre.1.0 pre.1.1)
+    rw (there (goal.at.allowed_cost-cost-requires c).After-swap) (exchanged_exchangeable pre.0 a.p a.q pre.1.0 pre.1.1)
+
+pub returns : goal.returns
+returns c =
+    let a = c.args in
+    let pre = c.requires in
+    let is = there (goal.at.returns c).After-swap in
+    let long = exchanged-length a.x.now a.p a.q in (
+      rw is at c.allowed_cost-cost.ensures,
+      c.swap-2.ensures.after
+          ∙ rw is (swap-exchanged _ a.p a.q (omega (arith, long)) (omega (arith, long)) ∙ exchanged_twice a.x.now a.p a.q pre.1.0 pre.1.1),
+    )
