@@ -1,7 +1,7 @@
 -- What the loops of the nearest-stop order need.
---   Found, found_starts, found_again, found-ends    a loop that looks for the nearest stop of a set
+--   Found, found-ends    a loop that looks for the nearest stop of a set
 --   nearest_in_in, nearest_in-next    the nearest of some stops is one of them, and it is the next that a node flies
---   Underway, underway_starts, underway_again, underway_ends    a loop that flies from a stop to the nearest of those that need not wait
+--   Underway, underway_starts, underway_again    a loop that flies from a stop to the nearest of those that need not wait
 --   underway_some, underway_stop    there is one until all are flown, and the nearest is one of the stops left
 use mathlib.Core.Path.{◌≡◌, refl, ap, sym, ◌∙◌}
 use mathlib.Core.Bool.{not}
@@ -22,7 +22,7 @@ use Rattle.orders.specs.Pairs.{Pair, Pairing, respects, waits, ready}
 use Rattle.orders.proofs.Sets.{empty_set, size-left, last-extend, left-extend}
 use Rattle.orders.proofs.Pairs.{respects_root, ready-respects, in_ready, ready_some}
 use Rattle.stops.specs.Legs.{Legs}
-use Rattle.stops.specs.Code.{stops_in, First}
+use Rattle.stops.specs.Code.{stops_in}
 use Rattle.stops.proofs.SetBits.{stops_in_zero, stops_in_range, stops_in-distinct, stops_in-without, all_small, stops_in-all}
 use Rattle.first_answer.specs.Nearest.{cheapest, to_nearest, next_stops, onward, nearest}
 use Rattle.first_answer.proofs.Cheapest.{cheapest_in}
@@ -36,27 +36,8 @@ pub record Found (f : ℕ → ℕ) (goal found left : ℕ) : Type 0 where
   pub inside : found ≤ most_stops
   pub same : cheapest f found (stops_in left) ≡ goal
 
-pub found_starts :
-    (f : ℕ → ℕ) (set r left : ℕ) → set < 2 ^ most_stops → First set r → left ≡ set - 2 ^ (r - 1)
-    → Found f (nearest_in f (stops_in set)) r left
-found_starts f set r left h o e = record {
-  small = omega (arith, o.less);
-  inside = o.few;
-  same = rw (o.others, e);
-}
-
-module _ {f : ℕ → ℕ} {goal found left : ℕ} (l : Found f goal found left) where
-  pub found_again :
-      {found' left' : ℕ} (r : ℕ) → First left r → left' ≡ left - 2 ^ (r - 1) → (found' ≡ nearest_in f (found ∷ r ∷ [])) × (found' ≤ most_stops)
-      → Found f goal found' left'
-  found_again r o e (g, h) = record {
-    small = omega (arith, o.less, l.small);
-    inside = h;
-    same = rw (e, g) (sym (ap (cheapest f found) o.others) ∙ l.same);
-  }
-
-  pub found-ends : left ≡ 0 → found ≡ goal
-  found-ends e = sym (ap (cheapest f found) (ap stops_in e ∙ stops_in_zero)) ∙ l.same
+pub found-ends : {f : ℕ → ℕ} {goal found left : ℕ} → Found f goal found left → left ≡ 0 → found ≡ goal
+found-ends {f} {goal} {found} l e = sym (ap (cheapest f found) (ap stops_in e ∙ stops_in_zero)) ∙ l.same
 
 nearest_in_in : (f : ℕ → ℕ) (stops : List ℕ) → 1 ≤ length stops → In (nearest_in f stops) stops
 nearest_in_in f [] h = absurd (omega arith)
@@ -93,11 +74,6 @@ underway_starts n L pairs few =
     }
 
 module _ {n : ℕ} {L : Legs} {pairs : List Pair} {x : Node} {k place rest : ℕ} (u : Underway n L pairs x k place rest) where
-  pub underway_ends : n ≤ k → x ≡ nearest n L (respects pairs)
-  underway_ends h =
-      let none : length (stops_in rest) ≡ 0 = omega (arith, u.many) in
-      sym (ap (λ (j : ℕ). onward n L (respects pairs) j x) none) ∙ u.same
-
   -- while fewer than n stops are flown, with the set of those that need not wait
   module _ (ok : Pairing n pairs) (h : k < n) (set : ℕ) (these : stops_in set ≡ ready pairs (stops_in rest)) where
     some_ready : 1 ≤ length (stops_in set)

@@ -9,7 +9,7 @@ ghost use Rattle.first_answer.specs.Nearest.{nearest};
 ghost use Rattle.first_order.specs.Code.{nearest_in, allowed_by};
 
 use pairs::{Precedence, ready};
-use stops::sets::{later, next, without};
+use stops::sets::{later, next, stops_of, without};
 use stops::table::{Rows, further};
 
 // The nearer of two stops from a place, a of equals.
@@ -30,10 +30,7 @@ fn nearest_stop(t: &Rows, place: u32, rest: u32) -> u32
     ensures { result ≡ nearest_in ((legs t.now).leg place) (stops_in rest) }
 {
     let mut found = next(rest);
-    let mut left = later(rest);
-    while left != 0 {
-        let s = next(left);
-        left = later(left);
+    for s in stops_of(later(rest)) {
         found = nearer(t, place, found, s);
     }
     found
@@ -46,13 +43,11 @@ pub fn nearest_order(t: &Rows, precedence: Precedence, x: &mut [u8])
 {
     let mut rest = (1u32 << x.len()) - 1;
     let mut place = 0;
-    let mut k = 0;
-    while k < x.len() {
+    for k in 0..x.len() {
         let open = ready(precedence, rest);
         let s = nearest_stop(t, place, open);
         rest = without(rest, s);
         x[k] = s as u8;
         place = s;
-        k += 1;
     }
 }

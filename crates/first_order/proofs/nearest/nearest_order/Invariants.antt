@@ -1,7 +1,5 @@
--- `nearest::nearest_order` meets its contract. The loop's invariant: x keeps its length, and its first k places are the node so far, from
--- which the nearest-stop order goes on (`Underway`). The measure is how many places are left.
-use mathlib.Core.Path.{◌≡◌}
-use Prim.Native.Nat.{◌-◌}
+-- `nearest::nearest_order` meets its contract. The loop's invariant: the first k places of x are the node so far, from which the nearest-stop
+-- order goes on (`Underway`).
 use lib.ListN.{length, take}
 use Rattle.stops.specs.Legs.{legs}
 use Rattle.pairs.specs.Code.{pairs_in}
@@ -9,7 +7,4 @@ use Rattle.first_order.proofs.NearestLaws.{Underway}
 use Rattle.first_order.proofs.nearest.nearest_order.Given as goal
 
 abbrev pub invariant-loop-k : goal.invariant-loop-k
-invariant-loop-k l = (length l.x ≡ length l.initial.x) × Underway (length l.initial.x) (legs l.t) (pairs_in l.precedence) (take l.k l.x) l.k l.place l.rest
-
-abbrev pub decreases-loop-k : goal.decreases-loop-k
-decreases-loop-k l = length l.x - l.k
+invariant-loop-k l = Underway (length l.initial.x) (legs l.t) (pairs_in l.precedence) (take l.k l.x) l.k l.place l.rest

@@ -1,13 +1,10 @@
 -- `nearest::nearest_stop` meets its contract. The loop's invariant: the nearest of what it has and of the stops left is the nearest of all
--- (`Found`). The measure is the set of the stops left, as a number.
+-- (`Found`).
 use Rattle.stops.specs.Legs.{legs}
 use Rattle.stops.specs.Code.{stops_in}
 use Rattle.first_order.specs.Code.{nearest_in}
 use Rattle.first_order.proofs.NearestLaws.{Found}
 use Rattle.first_order.proofs.nearest.nearest_stop.Given as goal
 
-abbrev pub invariant-loop-left : goal.invariant-loop-left
-invariant-loop-left l = Found ((legs l.t).leg l.place) (nearest_in ((legs l.t).leg l.place) (stops_in l.rest)) l.found l.left
-
-abbrev pub decreases-loop-left : goal.decreases-loop-left
-decreases-loop-left l = l.left
+abbrev pub invariant-loop-s : goal.invariant-loop-s
+invariant-loop-s l = Found ((legs l.t).leg l.place) (nearest_in ((legs l.t).leg l.place) (stops_in l.rest)) l.found l.s-iterator.left
