@@ -5,7 +5,7 @@ use mathlib.Core.Path.{◌≡◌, ap, sym, ◌∙◌, subst}
 use mathlib.Core.Bool.{Bool, true, false, not}
 use mathlib.Core.List.Memᴰ
 use mathlib.Core.List.{List, ◌∷◌, ◌++◌}
-use mathlib.Core.Logic.{◌≢◌}
+use mathlib.Core.Logic.{◌≢◌, ◌⊎◌, inl, inr}
 use Prim.Native.Nat.{ℕ, suc, ◌+◌, ◌≤◌, ◌<◌}
 use native.Mathlib.Omega.{arith}
 use lib.Dec.{T, eqb, eqb→eq, eqb_refl}
@@ -122,11 +122,9 @@ module _ {n : ℕ} {x w : Record} {k : ℕ} (r : Retraced n x w k) where
         × (w.second ≡ order_word (drop word_stops (flown_stops x)))
     words_are = rw (r.same, all-stops) (built_words n (flown_stops x))
 
-    pub other-set : x.set ≢ w.set → false ≡ is_node n x
-    other-set h = no_node n x (λ q. h (q.set_is ∙ sym words_are.0))
-
-    pub other-first : x.first ≢ w.first → false ≡ is_node n x
-    other-first h = no_node n x (λ q. h (q.first_is ∙ sym words_are.1))
+    pub other-words : (x.set ≡ w.set × (x.first ≢ w.first)) ⊎ (x.set ≢ w.set) → false ≡ is_node n x
+    other-words (inl (s, h)) = no_node n x (λ q. h (q.first_is ∙ sym words_are.1))
+    other-words (inr h) = no_node n x (λ q. h (q.set_is ∙ sym words_are.0))
 
     pub same_record : x.set ≡ w.set → x.first ≡ w.first → eqb x.second w.second ≡ is_node n x
     same_record s f =

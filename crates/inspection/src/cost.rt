@@ -30,12 +30,10 @@ fn along(t: &[[u32; PLACES]; PLACES], size: u32, first: u32, second: u32) -> Wal
 {
     let mut path = 0;
     let mut place = 0;
-    let mut k = 0;
-    while k < size {
+    for k in 0..size {
         let s = stop_at(first, second, k);
         path += further(t, place, s);
         place = s;
-        k += 1;
     }
     Walked { path, place }
 }

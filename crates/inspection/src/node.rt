@@ -22,33 +22,16 @@ pub fn holds(set: u32, s: u32) -> bool
 pub fn is_record(size: u32, set: u32, first: u32, second: u32, n: u32) -> bool
     ensures { result ≡ is_node n (of_four size set first second) }
 {
-    if n == 0 {
-        return false;
-    }
-    if MOST_STOPS < n {
-        return false;
-    }
-    if n < size {
+    if n == 0 || MOST_STOPS < n || n < size {
         return false;
     }
     let mut x = Record::empty();
-    let mut k = 0;
-    while k < size {
+    for k in 0..size {
         let s = stop_at(first, second, k);
-        if n < s {
-            return false;
-        }
-        if holds(x.set, s) {
+        if n < s || holds(x.set, s) {
             return false;
         }
         x = x.extended(s, 0);
-        k += 1;
     }
-    if set != x.set {
-        return false;
-    }
-    if first != x.first {
-        return false;
-    }
-    second == x.second
+    set == x.set && first == x.first && second == x.second
 }

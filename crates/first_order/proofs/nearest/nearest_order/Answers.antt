@@ -21,6 +21,12 @@ loop-k-init c =
     let all : 1 * 2 ^ n % 2 ^ 32 - 1 ≡ 2 ^ n - 1 = omega (arith, all_small n c.requires.0) in
     rw all (underway_starts n (legs a.t.now) _ c.requires.0)
 
+pub loop-k-preserved : goal.loop-k-preserved
+loop-k-preserved c =
+    let l = c.loop-k in
+    rw (add-one, take-suc-set l.x l.k c.nearest_stop-s.result (omega arith))
+    (underway_again l.invariant c.requires.1 c.loop-k-test.true c.ready-open.result c.ready-open.ensures.stops _ _ c.nearest_stop-s.ensures c.without-rest.ensures)
+
 pub nearest_stop-s-requires : goal.nearest_stop-s-requires
 nearest_stop-s-requires c =
     let u = c.loop-k.invariant in
@@ -39,9 +45,3 @@ without-rest-requires c = (c.loop-k.invariant.small, (found c).0)
 
 pub overflow_cast-x : goal.overflow_cast-x
 overflow_cast-x c = omega (arith, found (goal.at.overflow_cast-x c).After-nearest_stop-s)
-
-pub loop-k-preserved : goal.loop-k-preserved
-loop-k-preserved c =
-    let l = c.loop-k in
-    rw (add-one, take-suc-set l.x l.k c.nearest_stop-s.result (omega arith))
-    (underway_again l.invariant c.requires.1 c.loop-k-test.true c.ready-open.result c.ready-open.ensures.stops _ _ c.nearest_stop-s.ensures c.without-rest.ensures)

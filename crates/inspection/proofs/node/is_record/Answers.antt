@@ -12,22 +12,16 @@ use Rattle.node_answers.specs.Nodes.{flown_stops}
 use Rattle.node_answers.proofs.StopLaws.{stop_of}
 use Rattle.inspection.proofs.OrderLaws.{stop_same}
 use Rattle.node_answers.proofs.NodeLaws.{no_node}
-use Rattle.inspection.proofs.Retrace.{retraced_starts, stop_above, stop_again, stop_fits, stop_added, other-set}
-use Rattle.inspection.proofs.Retrace.{other-first, same_record}
+use Rattle.inspection.proofs.Retrace.{retraced_starts, stop_above, stop_again, stop_fits, stop_added, other-words, same_record}
 use Rattle.inspection.proofs.node.is_record.Goals as goal
-use Rattle.inspection.proofs.node.is_record.Goals.{After-stop_at-s, Else-holds, In-loop-k}
+use Rattle.inspection.proofs.node.is_record.Goals.{After-stop_at-s, Else-holds, In-loop-k, then-n-s-via-then-n-s, then-n-s-via-else-n-s+then-holds}
 
 pub returns-then-n-eq0 : goal.returns-then-n-eq0
-returns-then-n-eq0 c = no_node _ _ (λ q. absurd (omega (arith, q.some)))
-
-pub returns-then-n-gt-MOST_STOPS : goal.returns-then-n-gt-MOST_STOPS
-returns-then-n-gt-MOST_STOPS c = no_node _ _ (λ q. absurd (omega (arith, q.few)))
-
-pub returns-then-n-size : goal.returns-then-n-size
 unfolding of_four
-returns-then-n-size c =
+returns-then-n-eq0 c =
+    let h = c.then-n-eq0.either in
     let x = of_four c.args.size c.args.set c.args.first c.args.second in
-    no_node c.args.n x (λ q. absurd (omega (arith, q.size_is, size-left c.args.n (flown_stops x))))
+    no_node c.args.n x (λ q. absurd (omega (arith, h, q.some, q.few, q.size_is, size-left c.args.n (flown_stops x))))
 
 pub loop-k-init : goal.loop-k-init
 unfolding of_four
@@ -38,10 +32,6 @@ below : (c : In-loop-k) → c.loop-k.k < (of_four c.args.size c.args.set c.args.
 unfolding of_four
 below c = c.loop-k-test.true
 
-pub stop_at-s-requires : goal.stop_at-s-requires
-unfolding of_four
-stop_at-s-requires c = omega (arith, c.loop-k.invariant.short, c.loop-k.invariant.few)
-
 -- what `stop_at` gives is the record's stop
 stop : (c : After-stop_at-s) → c.stop_at-s.result ≡ stop_of (of_four c.args.size c.args.set c.args.first c.args.second) c.loop-k.k
 stop c =
@@ -51,18 +41,18 @@ stop c =
 pub returns-then-n-s : goal.returns-then-n-s
 returns-then-n-s c =
     let g = goal.at.returns-then-n-s c in
-    stop_above c.loop-k.invariant (below g.In-loop-k) (omega (arith, stop g.After-stop_at-s))
+    let s = stop g.After-stop_at-s in
+    let r = c.loop-k.invariant in
+    elim c.then-n-s.branch [
+      | then-n-s-via-then-n-s w ↦ stop_above r (below g.In-loop-k) (omega (arith, s, w.if-n-s.true))
+      | then-n-s-via-else-n-s+then-holds w ↦
+          stop_again r (below g.In-loop-k) (omega (arith, s, w.if-n-s.false)) (rw (← s) (sym w.if-holds.true ∙ w.holds.ensures))
+    ]
 
 pub holds-requires : goal.holds-requires
 holds-requires c =
     let a = c.args in
     omega (arith, stop (goal.at.holds-requires c).After-stop_at-s, stop_range a.first a.second c.loop-k.k)
-
-pub returns-then-holds : goal.returns-then-holds
-returns-then-holds c =
-    let g = goal.at.returns-then-holds c in
-    let s = stop g.After-stop_at-s in
-    stop_again c.loop-k.invariant (below g.In-loop-k) (omega (arith, s)) (rw (← s) (sym c.if-holds.true ∙ c.holds.ensures))
 
 -- the stop is a new one
 new :
@@ -82,14 +72,14 @@ loop-k-preserved c =
     let s = stop g.After-stop_at-s in
     rw (c.extended-x.ensures, s) (stop_added c.loop-k.invariant (below g.In-loop-k) (omega (arith, s)) (new g.Else-holds s))
 
-pub returns-then-set-x : goal.returns-then-set-x
-unfolding of_four
-returns-then-set-x c = other-set c.loop-k.invariant c.loop-k-test.false c.if-set-x.true
-
 pub returns-then-first-x : goal.returns-then-first-x
 unfolding of_four
-returns-then-first-x c = other-first c.loop-k.invariant c.loop-k-test.false c.if-first-x.true
+returns-then-first-x c =
+    let (set, first) = c.if-first-x.true in
+    same_record c.loop-k.invariant c.loop-k-test.false set first
 
-pub returns : goal.returns
+pub returns-else-first-x : goal.returns-else-first-x
 unfolding of_four
-returns c = same_record c.loop-k.invariant c.loop-k-test.false c.if-set-x.false c.if-first-x.false
+returns-else-first-x c =
+    let none = other-words c.loop-k.invariant c.loop-k-test.false c.if-first-x.either in
+    cc
