@@ -12,17 +12,14 @@ use crate::change::Change;
 use crate::strike::beaten;
 use lanes::layout::Layout;
 use records::{bound_at, slot};
-use stops::sets::{count, later, next};
+use stops::sets::{count, stops_of};
 
 // Whether no child by a stop of `taking` dominates record i.
 fn unbeaten(w: &[u32], i: usize, kids: &[u32], taking: u32) -> bool
     requires { (i < length (records w.now)) × Slotted taking (records kids.now) }
     ensures { result ≡ not (is_beaten (slots taking (records kids.now)) (sized (get_or (records w.now) i empty_record))) }
 {
-    let mut left = taking;
-    while left != 0 {
-        let s = next(left);
-        left = later(left);
+    for s in stops_of(taking) {
         if beaten(w, i, kids, slot(s)) {
             return false;
         }
@@ -47,12 +44,10 @@ fn staying(w: &[u32], from: usize, to: usize, change: Change, kids: &[u32]) -> u
     ensures { result ≡ length (keep (is_staying change.limit (slots change.taking (records kids.now))) (live_in (slice from to (records w.now)))) }
 {
     let mut stay = 0;
-    let mut i = from;
-    while i < to {
+    for i in from..to {
         if stays(w, i, change, kids) {
             stay += 1;
         }
-        i += 1;
     }
     stay
 }

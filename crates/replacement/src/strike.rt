@@ -13,7 +13,7 @@ use chains::walk::{after, top};
 use lanes::layout::{Layout, active_lane};
 use lanes::{live, mark, sized_at};
 use records::{load, set_at, slot};
-use stops::sets::{later, next};
+use stops::sets::stops_of;
 
 // Whether record k of kids dominates record i of w. Sets are compared before anything else is read.
 pub fn beaten(w: &[u32], i: usize, kids: &[u32], k: usize) -> bool
@@ -74,10 +74,7 @@ pub fn strike_all(w: &mut [u32], p: Layout, kids: &[u32], taking: u32, index: &m
     ensures { Laid (records w.new) p index.new × Strikes (is_beaten (slots taking (records kids.now))) p.used (records w.old) (records w.new) result }
 {
     let mut lost = 0;
-    let mut left = taking;
-    while left != 0 {
-        let s = next(left);
-        left = later(left);
+    for s in stops_of(taking) {
         lost += strike(w, p, kids, slot(s), index);
     }
     lost

@@ -11,7 +11,6 @@ use Rattle.records.specs.Code.{records, slots}
 use Rattle.records.proofs.SlotLaws.{slots_length}
 use Rattle.records.proofs.ViewLaws.{length-records}
 use Rattle.replacement.specs.Code.{staying_of}
-use Rattle.replacement.proofs.ClearLaws.{taking_slots}
 use Rattle.replacement.proofs.FitLaws.{staying_parts, staying_few, staying-all, far_more, active_few}
 use Rattle.replacement.proofs.fits.fits.Goals as goal
 use Rattle.replacement.proofs.fits.fits.Goals.{After-count-new, After-staying-behind, Start}
@@ -58,22 +57,6 @@ returns-then-not-change c =
     let none = c.if-change-eq0.true in
     let same = staying-all (records a.w.now) a.p a.i a.change (records a.kids.now) c.requires none (not-true _ c.if-not-change.true) in
     sym (lt-leb (needed (goal.at.returns-then-not-change c).Start) a.p.capacity (omega (arith, same, (new (goal.at.returns-then-not-change c).After-count-new).0, c.if-p-new.false)))
-
-pub staying-before-requires : goal.staying-before-requires
-staying-before-requires c =
-    let a = c.args in
-    let h = c.requires in (
-      (omega arith, omega (arith, h.inside, h.front, h.whole)),
-      ((taking_slots h).0, h.limited),
-    )
-
-pub staying-behind-requires : goal.staying-behind-requires
-staying-behind-requires c =
-    let a = c.args in
-    let h = c.requires in (
-      (omega (arith, h.inside), omega (arith, h.front, h.whole)),
-      ((taking_slots h).0, h.limited),
-    )
 
 -- those before the branched node and those behind it
 sum : (c : After-staying-behind) → c.staying-before.result + c.staying-behind.result ≡ stay c.before.before.before.before.before.before.before.before.before.before.before.before

@@ -16,13 +16,8 @@ use Rattle.replacement.proofs.fits.staying.Goals.{Joined-stays, then-stays, else
 
 pub loop-i-init : goal.loop-i-init
 loop-i-init c =
-    let a = c.args in (
-      omega arith,
-      (
-        omega arith,
-        sym (staying-none a.change.limit (slots a.change.taking (records a.kids.now)) (records a.w.now) c.requires.1.1 a.from),
-      ),
-    )
+    let a = c.args in
+    (omega arith, sym (staying-none a.change.limit (slots a.change.taking (records a.kids.now)) (records a.w.now) c.requires.1.1 a.from))
 
 -- whether the record at i stays
 abbrev staying_at : ℕ → List Record → List Record → ℕ → Bool
@@ -39,30 +34,15 @@ counted c =
 pub loop-i-preserved : goal.loop-i-preserved
 loop-i-preserved c =
     let a = c.args in
+    let at = staying_at a.change.limit (slots a.change.taking (records a.kids.now)) (records a.w.now) c.loop-i.i in
     let more =
     staying_more a.change.limit (slots a.change.taking (records a.kids.now)) (records a.w.now) c.requires.1.1 a.from c.loop-i.i
-    c.loop-i.invariant.0.0 (omega (arith, c.loop-i-test.true, c.requires.0.1)) in
-    let turn = c.loop-i-test.true in (
-      (omega (arith, c.loop-i.invariant.0), omega (arith, turn)),
-      (
-        omega (arith, counted c, one_or_none (staying_at c.args.change.limit (slots c.args.change.taking (records c.args.kids.now)) (records c.args.w.now) c.loop-i.i), c.loop-i.invariant.1.0),
-        counted c ∙ ap (λ (n : ℕ). n + cond (staying_at c.args.change.limit (slots c.args.change.taking (records c.args.kids.now)) (records c.args.w.now) c.loop-i.i) 1 0) c.loop-i.invariant.1.1 ∙ sym more,
-      ),
+    c.loop-i.auto.i (omega (arith, c.loop-i-test.true, c.requires.0.1)) in (
+      omega (arith, counted c, one_or_none at, c.loop-i.invariant.0),
+      counted c ∙ ap (λ (n : ℕ). n + cond at 1 0) c.loop-i.invariant.1 ∙ sym more,
     )
 
 pub returns : goal.returns
 returns c =
-    let e : c.loop-i.i ≡ c.args.to = omega (arith, c.loop-i.invariant.0.1, c.loop-i-test.false) in
-    rw e at c.loop-i.invariant.1.1
-
-pub stays-requires : goal.stays-requires
-stays-requires c = (omega (arith, c.requires.0.1), c.requires.1.0)
-
-pub overflow_add-stay : goal.overflow_add-stay
-overflow_add-stay c = omega (arith, c.loop-i.invariant.1.0, c.loop-i-test.true)
-
-pub overflow_add-i : goal.overflow_add-i
-overflow_add-i c = omega (arith, c.loop-i-test.true)
-
-pub loop-i-smaller : goal.loop-i-smaller
-loop-i-smaller c = omega (arith, c.loop-i-test.true)
+    let e : c.loop-i.i ≡ c.args.to = omega (arith, c.loop-i.auto.i-end c.requires.0.0, c.loop-i-test.false) in
+    rw e at c.loop-i.invariant.1

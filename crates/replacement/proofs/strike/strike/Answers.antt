@@ -1,5 +1,5 @@
 -- The goals of `strike::strike` that the search leaves.
-use mathlib.Core.Path.{◌≡◌, refl, sym, ◌∙◌}
+use mathlib.Core.Path.{◌≡◌, sym}
 use mathlib.Core.Bool.{cond}
 use Prim.Native.Nat.{◌+◌, ◌-◌, ◌≤◌, ◌<◌}
 use native.Mathlib.Omega.{arith}
@@ -29,22 +29,15 @@ loop-c-init c =
     let x = get_or (records a.kids.now) a.k empty_record in
     let there : c.top-c.result ≡ cond a.p.linked (get_or a.index.now (active_heads + bucket_of x) 0) a.p.used =
     rw (c.active_lane-lane.ensures, c.load.ensures) at c.top-c.ensures in (
-      (refl, refl),
-      (
-        c.requires.0.0,
-        striking_starts (rec_dominates x) (bucket_of x) a.p (records a.w.now) a.index.now c.requires.0.0.lane (inside (goal.at.loop-c-init c).Start)
-            (λ y t. sym (dominates_bucket x y t)) (bucket_head x) c.top-c.result there,
-      ),
+      c.requires.0.0,
+      striking_starts (rec_dominates x) (bucket_of x) a.p (records a.w.now) a.index.now c.requires.0.0.lane (inside (goal.at.loop-c-init c).Start)
+          (λ y t. sym (dominates_bucket x y t)) (bucket_head x) c.top-c.result there,
     )
-
-pub strike_at-lost-requires : goal.strike_at-lost-requires
-strike_at-lost-requires c =
-    ((c.loop-c.invariant.1.0, omega (arith, c.loop-c.invariant.1.1.below, c.loop-c-test.true)), c.requires.0.1)
 
 pub overflow_add-lost : goal.overflow_add-lost
 overflow_add-lost c =
     let a = c.args in
-    let s = c.loop-c.invariant.1.1 in
+    let s = c.loop-c.invariant.1 in
     let some = c.loop-c-test.true in
     let kid = get_or (records a.kids.now) a.k empty_record in
     omega (
@@ -60,7 +53,7 @@ overflow_add-lost c =
 pub after-c-requires : goal.after-c-requires
 after-c-requires c =
     let laid = c.strike_at-lost.ensures.0 in
-    let low = c.loop-c.invariant.1.1.below in
+    let low = c.loop-c.invariant.1.below in
     let some = c.loop-c-test.true in
     rw c.active_lane-lane.ensures (omega arith, ((λ h. absurd (omega arith)), omega (arith, laid.whole, laid.fits)))
 
@@ -77,25 +70,15 @@ goes_on c =
     let a = c.args in
     let x = get_or (records a.kids.now) a.k empty_record in
     striking_again (rec_dominates x) (bucket_of x) a.p (records a.w.now) a.index.now c.requires.0.0.lane (inside c.before.before.before.before.before.before.before.before.before.before.before.before.before.before.before.before.before)
-    (λ y t. sym (dominates_bucket x y t)) c.loop-c.invariant.1.1 c.loop-c-test.true c.strike_at-lost.ensures.1
+    (λ y t. sym (dominates_bucket x y t)) c.loop-c.invariant.1 c.loop-c-test.true c.strike_at-lost.ensures.1
     (rw c.active_lane-lane.ensures at c.after-c.ensures)
 
 pub loop-c-preserved : goal.loop-c-preserved
 loop-c-preserved c =
-    let was = c.loop-c.invariant.0 in
-    ((c.strike_at-lost.auto.w ∙ was.0, c.strike_at-lost.auto.index ∙ was.1), (c.strike_at-lost.ensures.0, (goes_on c).0))
-
-pub overflow_sub-c : goal.overflow_sub-c
-overflow_sub-c c = omega (arith, c.loop-c-test.true)
+    (c.strike_at-lost.ensures.0, (goes_on c).0)
 
 pub loop-c-smaller : goal.loop-c-smaller
 loop-c-smaller c = (goes_on c).1
 
-pub shape_of-w : goal.shape_of-w
-shape_of-w c = c.loop-c.invariant.0.0
-
-pub shape_of-index : goal.shape_of-index
-shape_of-index c = c.loop-c.invariant.0.1
-
 pub returns : goal.returns
-returns c = (c.loop-c.invariant.1.0, striking_ends c.loop-c.invariant.1.1 c.loop-c-test.false)
+returns c = (c.loop-c.invariant.0, striking_ends c.loop-c.invariant.1 c.loop-c-test.false)
