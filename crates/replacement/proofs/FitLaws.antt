@@ -6,7 +6,7 @@
 --   staying_few, staying-all                  they are among the others, and are these where no child takes part and U did not fall
 --   far_more, active_few                      what else holds of a change
 use mathlib.Core.Path.{◌≡◌, refl, sym, ap, subst, ◌∙◌}
-use mathlib.Core.Bool.{Bool, true, false, not, cond, ◌&&◌, and-true}
+use mathlib.Core.Bool.{Bool, true, false, not, ◌&&◌, and-true}
 use mathlib.Core.List.{List, [], ◌∷◌}
 use mathlib.Core.Logic.{◌⊎◌, inl, inr}
 use Prim.Native.Nat.{ℕ, suc, ◌+◌, ◌-◌, ◌^◌, ◌≤◌, ◌<◌}
@@ -15,6 +15,7 @@ use native.Mathlib.Omega.{arith}
 use lib.Dec.{T, leb, le→leb}
 use lib.ListN.{length, get_or, take, length-append}
 use lib.Seq.{slice, slice_empty, slice-cons}
+use mir.Val.{bool_byte}
 use borrow.Author.Tests.{lt-ltb, leb-true, lt-leb, le-leb}
 use Rattle.lists.specs.Lists.{keep}
 use Rattle.lists.proofs.Keep.{keep_append, keep_all}
@@ -52,7 +53,7 @@ module _ (limit : ℕ) (ys : List Record) (x : Record) where
   unfolding is_staying sized
   stays_else h = rw (le-leb x.bound limit h)
 
-pub one_or_none : (b : Bool) → cond b 1 0 ≤ 1
+pub one_or_none : (b : Bool) → bool_byte b ≤ 1
 one_or_none true = omega arith
 one_or_none false = omega arith
 
@@ -70,11 +71,11 @@ module _ (limit : ℕ) (ys recs : List Record) (small : limit < gone) where
       go false l s = absurd (subst T (sym s) tt)
 
   -- of one record
-  staying_one : (x : Record) → length (keep (is_staying limit ys) (live_in (x ∷ []))) ≡ cond (is_staying limit ys (sized x)) 1 0
+  staying_one : (x : Record) → length (keep (is_staying limit ys) (live_in (x ∷ []))) ≡ bool_byte (is_staying limit ys (sized x))
   unfolding live_in
   staying_one x = go (is_live x) (is_staying limit ys (sized x)) refl refl
     where
-      go : (l s : Bool) → is_live x ≡ l → is_staying limit ys (sized x) ≡ s → length (keep (is_staying limit ys) (live_in (x ∷ []))) ≡ cond s 1 0
+      go : (l s : Bool) → is_live x ≡ l → is_staying limit ys (sized x) ≡ s → length (keep (is_staying limit ys) (live_in (x ∷ []))) ≡ bool_byte s
       go true true live e = rw (live_more x [] live, e)
       go true false live e = rw (live_more x [] live, e)
       go false true live e = absurd (subst T (sym (staying_live x e) ∙ live) tt)
@@ -86,7 +87,7 @@ module _ (limit : ℕ) (ys recs : List Record) (small : limit < gone) where
 
   pub staying_more :
       (from i : ℕ) → from ≤ i → i < length recs
-      → staying_in limit ys recs from (i + 1) ≡ staying_in limit ys recs from i + cond (is_staying limit ys (sized (get_or recs i empty_record))) 1 0
+      → staying_in limit ys recs from (i + 1) ≡ staying_in limit ys recs from i + bool_byte (is_staying limit ys (sized (get_or recs i empty_record)))
   staying_more from i h k =
       let x = get_or recs i empty_record in
       let one : slice i (i + 1) recs ≡ x ∷ [] =

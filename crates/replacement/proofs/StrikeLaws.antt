@@ -11,6 +11,7 @@ use mathlib.Core.List.{List, [], ◌∷◌, map, map-append}
 use mathlib.Core.Logic.{◌⊎◌, inl, inr, ◌≢◌}
 use Prim.Native.Nat.{ℕ, zero, suc, ◌+◌, ◌-◌, ◌^◌, ◌≤◌, ◌<◌}
 use native.Mathlib.Omega.{arith}
+use mir.Val.{bool_byte}
 use borrow.Author.Tests.{le-ltb}
 use lib.Dec.{T}
 use lib.ListN.{length, get_or, set, take, length-set}
@@ -117,21 +118,21 @@ struck_twice f g x = go (is_live x) (f (sized x)) refl refl
 
 -- what becomes of the record at i, and how many leave
 module _ (test : Record → Bool) (recs : List Record) (i : ℕ) where
-  abbrev pub StruckAt : List Record → ℕ → Type 0
+  abbrev pub StruckAt : List Record → Bool → Type 0
   StruckAt recs' r =
-      let x = get_or recs i empty_record in (recs' ≡ set recs i (struck test x)) × (r ≡ cond (is_live x && test (sized x)) 1 0)
+      let x = get_or recs i empty_record in (recs' ≡ set recs i (struck test x)) × (r ≡ (is_live x && test (sized x)))
 
-  pub stays_gone : is_live (get_or recs i empty_record) ≡ false → StruckAt recs 0
+  pub stays_gone : is_live (get_or recs i empty_record) ≡ false → StruckAt recs false
   unfolding struck
   stays_gone e = (rw (e, set-get_or recs i empty_record), rw e)
 
-  pub stays_spared : test (sized (get_or recs i empty_record)) ≡ false → StruckAt recs 0
+  pub stays_spared : test (sized (get_or recs i empty_record)) ≡ false → StruckAt recs false
   unfolding struck
   stays_spared e = (rw (e, and-false, set-get_or recs i empty_record), rw (e, and-false))
 
   pub leaves :
       (recs' : List Record) → is_live (get_or recs i empty_record) ≡ true → test (sized (get_or recs i empty_record)) ≡ true
-      → recs' ≡ set recs i (marked (get_or recs i empty_record)) → StruckAt recs' 1
+      → recs' ≡ set recs i (marked (get_or recs i empty_record)) → StruckAt recs' true
   unfolding struck
   leaves recs' live e stored = (rw (live, e) stored, rw (live, e))
 
@@ -139,7 +140,7 @@ module _ (test : Record → Bool) (recs : List Record) (i : ℕ) where
 module _ (test : Record → Bool) (recs : List Record) (used i : ℕ) (below : i < used) (inside : used ≤ length recs) where
   strike_count :
       let x = get_or recs i empty_record in
-      cond (is_live x && test (sized x)) 1 0 + length (live_of used (set recs i (struck test x))) ≡ length (live_of used recs)
+      bool_byte (is_live x && test (sized x)) + length (live_of used (set recs i (struck test x))) ≡ length (live_of used recs)
   unfolding struck
   strike_count = go (is_live x) (test (sized x)) refl
     where
@@ -148,15 +149,15 @@ module _ (test : Record → Bool) (recs : List Record) (used i : ℕ) (below : i
 
       go :
           (a b : Bool) → is_live x ≡ a
-          → cond (a && b) 1 0 + length (live_of used (set recs i (cond (a && b) (marked x) x))) ≡ length (live_of used recs)
+          → bool_byte (a && b) + length (live_of used (set recs i (cond (a && b) (marked x) x))) ≡ length (live_of used recs)
       go true true live = rw (live_marked recs used inside i below) (omega (arith, others_few recs used inside i below live))
       go true false live = rw (set-get_or recs i empty_record) (omega arith)
       go false b live = rw (set-get_or recs i empty_record) (omega arith)
 
 -- of the nodes, so many leave
 pub struck-count :
-    (test : Record → Bool) (recs recs' : List Record) (used i n : ℕ) → i < used → used ≤ length recs → StruckAt test recs i recs' n
-    → n + length (live_of used recs') ≡ length (live_of used recs)
+    (test : Record → Bool) (recs recs' : List Record) (used i : ℕ) (n : Bool) → i < used → used ≤ length recs → StruckAt test recs i recs' n
+    → bool_byte n + length (live_of used recs') ≡ length (live_of used recs)
 struck-count test recs recs' used i n below inside (stored, less) = rw (less, stored) (strike_count test recs used i below inside)
 
 -- ---- all that pass a test

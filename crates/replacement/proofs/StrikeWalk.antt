@@ -7,6 +7,7 @@ use mathlib.Core.List.{List}
 use mathlib.Core.Logic.{◌⊎◌, inl, inr, ◌≢◌}
 use Prim.Native.Nat.{ℕ, zero, suc, ◌+◌, ◌-◌, ◌≤◌, ◌<◌}
 use native.Mathlib.Omega.{arith}
+use mir.Val.{bool_byte}
 use lib.Dec.{T, eqb, not_T}
 use lib.ListN.{length, get_or, length-set}
 use lib.Seq.{get_or-set_same, get_or-set_other}
@@ -103,8 +104,8 @@ module _
 
     module _ {recs' : List Record} {lost c : ℕ} (s : Striking test h p recs recs' lost c) (some : c ≢ 0) where
       pub striking_again :
-          {recs'' : List Record} {n r : ℕ} → StruckAt test recs' (c - 1) recs'' n
-          → r ≡ cond p.linked (get_or recs'' (c - 1) empty_record).size (c - 1) → Striking test h p recs recs'' (lost + n) r × (r < c)
+          {recs'' : List Record} {n : Bool} {r : ℕ} → StruckAt test recs' (c - 1) recs'' n
+          → r ≡ cond p.linked (get_or recs'' (c - 1) empty_record).size (c - 1) → Striking test h p recs recs'' (lost + bool_byte n) r × (r < c)
       striking_again {recs''} {n} {r} (stored, less) e = (
         record {
           same_length = rw stored (length-set recs' i y ∙ s.same_length);
@@ -139,7 +140,7 @@ module _
           elsewhere : (j : ℕ) → j ≢ i → get_or recs'' j empty_record ≡ get_or recs' j empty_record
           elsewhere j d = rw stored (get_or-set_other recs' i j y empty_record d)
 
-          counted : n + length (live_of p.used recs'') ≡ length (live_of p.used recs')
+          counted : bool_byte n + length (live_of p.used recs'') ≡ length (live_of p.used recs')
           counted = struck-count test recs' recs'' p.used i n low (omega (arith, s.same_length)) (stored, less)
 
           -- its link is as it was: to the last record before it of its bucket

@@ -38,10 +38,12 @@ fn cleared(
 {
     leave(w, p, i, index);
     let lost = strike_all(w, p, kids, change.taking, index);
-    let mut q = p;
-    q.active = p.active - 1 - lost;
-    q.used = trim(w, active_lane(p), index);
-    q
+    let used = trim(w, active_lane(p), index);
+    Layout {
+        used,
+        active: p.active - 1 - lost,
+        ..p
+    }
 }
 
 // Whether the lane is to be squeezed: U fell, or there is no room behind it, or too many of its records are gone, on which no answer depends.
@@ -49,13 +51,9 @@ fn due(p: Layout, change: Change) -> bool
     requires { (p.active ≤ p.used) × ((p.used + p.far ≤ p.capacity) × ((p.capacity + change.far < 2 ^ 61) × (change.alive < 2 ^ most_stops))) }
     ensures { result ≡ false → (change.fell ≡ false) × (p.used + length (stops_in change.alive) + change.far ≤ p.capacity) }
 {
-    if change.fell {
-        return true;
-    }
-    if p.capacity < p.used + count(change.alive) + change.far {
-        return true;
-    }
-    p.active / LIVE_FOR_GONE + SPARED < p.used - p.active
+    change.fell
+        || p.capacity < p.used + count(change.alive) + change.far
+        || p.active / LIVE_FOR_GONE + SPARED < p.used - p.active
 }
 
 // The lane squeezed to its nodes with bounds up to a limit; its chains and its minima are made anew.
@@ -63,9 +61,12 @@ fn squeezed(w: &mut [u32], p: Layout, limit: u32, index: &mut [u32]) -> Layout
     requires { Laid (records w.old) p index.old × (limit < gone) }
     ensures { Kept (records w.old) p (keep (is_within limit) (live_of p.used (records w.old))) (records w.new) result index.new × (result.used ≡ result.active) }
 {
-    let mut q = p;
-    q.used = squeeze(w, p.used, limit);
-    q.active = q.used;
+    let used = squeeze(w, p.used, limit);
+    let q = Layout {
+        used,
+        active: used,
+        ..p
+    };
     relink(w, active_lane(q), index);
     reranked(w, q, index);
     q
@@ -91,9 +92,7 @@ fn held(w: &mut [u32], p: Layout, b: Record, far: usize, index: &mut [u32]) -> L
         return p;
     }
     hold(w, far_lane(p), b, index);
-    let mut q = p;
-    q.far = far;
-    q
+    Layout { far, ..p }
 }
 
 // The minima of a lane that has grown from `from` records, in wider blocks where they would not reach.
@@ -110,9 +109,7 @@ fn ranked(w: &[u32], p: Layout, from: usize, index: &mut [u32]) -> Layout
         return p;
     }
     rebuild(w, p.used, shift, index);
-    let mut q = p;
-    q.shift = shift;
-    q
+    Layout { shift, ..p }
 }
 
 // The children by the stops of `alive` are written behind the lane.
@@ -121,9 +118,11 @@ fn joined(w: &mut [u32], p: Layout, kids: &[u32], alive: u32, index: &mut [u32])
     ensures { Kept (records w.old) p (live_of p.used (records w.old) ++ slots alive (records kids.now)) (records w.new) result index.new }
 {
     let new = write_at(w, active_lane(p), kids, alive, index);
-    let mut q = p;
-    q.used = p.used + new;
-    q.active = p.active + new;
+    let q = Layout {
+        used: p.used + new,
+        active: p.active + new,
+        ..p
+    };
     ranked(w, q, p.used, index)
 }
 

@@ -32,10 +32,7 @@ fn stays(w: &[u32], i: usize, change: Change, kids: &[u32]) -> bool
     requires { (i < length (records w.now)) × Slotted change.taking (records kids.now) }
     ensures { result ≡ is_staying change.limit (slots change.taking (records kids.now)) (sized (get_or (records w.now) i empty_record)) }
 {
-    if change.limit < bound_at(w, i) {
-        return false;
-    }
-    unbeaten(w, i, kids, change.taking)
+    bound_at(w, i) <= change.limit && unbeaten(w, i, kids, change.taking)
 }
 
 // How many of the records from `from` to `to` stay active.
@@ -45,9 +42,7 @@ fn staying(w: &[u32], from: usize, to: usize, change: Change, kids: &[u32]) -> u
 {
     let mut stay = 0;
     for i in from..to {
-        if stays(w, i, change, kids) {
-            stay += 1;
-        }
+        stay += usize::from(stays(w, i, change, kids));
     }
     stay
 }

@@ -1,5 +1,5 @@
 // Rule 8: active records that a child dominates are marked as gone, found along the child's chain.
-ghost use Rattle.std.specs.Prelude.{◌≡◌, cond, ◌&&◌, ◌<◌, length, get_or, set};
+ghost use Rattle.std.specs.Prelude.{◌≡◌, ◌&&◌, ◌<◌, length, get_or, set};
 ghost use Rattle.std.specs.Int.Count.{ones};
 ghost use Rattle.stops.specs.Code.{empty_record, rec_dominates};
 ghost use Rattle.records.specs.Code.{records, slots, Slotted};
@@ -20,10 +20,7 @@ pub fn beaten(w: &[u32], i: usize, kids: &[u32], k: usize) -> bool
     requires { (i < length (records w.now)) × (k < length (records kids.now)) }
     ensures { result ≡ rec_dominates (get_or (records kids.now) k empty_record) (sized (get_or (records w.now) i empty_record)) }
 {
-    if set_at(w, i) != set_at(kids, k) {
-        return false;
-    }
-    load(kids, k).dominates(sized_at(w, i))
+    set_at(w, i) == set_at(kids, k) && load(kids, k).dominates(sized_at(w, i))
 }
 
 // Record i leaves the active nodes.
@@ -38,19 +35,19 @@ pub fn leave(w: &mut [u32], p: Layout, i: usize, index: &mut [u32])
     mark(w, i);
 }
 
-// Record i leaves them if record k of kids dominates it; says how many left.
-fn strike_at(w: &mut [u32], p: Layout, i: usize, kids: &[u32], k: usize, index: &mut [u32]) -> usize
+// Record i leaves them if record k of kids dominates it; says whether it did.
+fn strike_at(w: &mut [u32], p: Layout, i: usize, kids: &[u32], k: usize, index: &mut [u32]) -> bool
     requires { (Laid (records w.old) p index.old × (i < p.used)) × (k < length (records kids.now)) }
-    ensures { Laid (records w.new) p index.new × ((records w.new ≡ set (records w.old) i (struck (λ x. rec_dominates (get_or (records kids.now) k empty_record) x) (get_or (records w.old) i empty_record))) × (result ≡ cond (is_live (get_or (records w.old) i empty_record) && rec_dominates (get_or (records kids.now) k empty_record) (sized (get_or (records w.old) i empty_record))) 1 0)) }
+    ensures { Laid (records w.new) p index.new × ((records w.new ≡ set (records w.old) i (struck (λ x. rec_dominates (get_or (records kids.now) k empty_record) x) (get_or (records w.old) i empty_record))) × (result ≡ (is_live (get_or (records w.old) i empty_record) && rec_dominates (get_or (records kids.now) k empty_record) (sized (get_or (records w.old) i empty_record))))) }
 {
     if !live(w, i) {
-        return 0;
+        return false;
     }
     if !beaten(w, i, kids, k) {
-        return 0;
+        return false;
     }
     leave(w, p, i, index);
-    1
+    true
 }
 
 // The records that record k of kids dominates leave; says how many.
@@ -62,7 +59,7 @@ fn strike(w: &mut [u32], p: Layout, kids: &[u32], k: usize, index: &mut [u32]) -
     let mut lost = 0;
     let mut c = top(lane, index, load(kids, k));
     while c != 0 {
-        lost += strike_at(w, p, c - 1, kids, k, index);
+        lost += usize::from(strike_at(w, p, c - 1, kids, k, index));
         c = after(w, lane, c);
     }
     lost

@@ -1,16 +1,13 @@
 -- `cleared` meets its contract: the nodes that are left are those that no child dominates, and what is taken off the end is gone.
 use mathlib.Core.Path.{◌≡◌, refl, sym, ◌∙◌}
-use Prim.Native.Nat.{suc, ◌+◌, ◌≤◌}
+use Prim.Native.Nat.{suc, ◌+◌}
 use native.Mathlib.Omega.{arith}
 use lib.ListN.{length}
 use Rattle.records.specs.Code.{records}
 use Rattle.lanes.specs.Code.{live_of}
 use Rattle.replacement.proofs.ClearLaws.{taking_slots, left_few, kept-cleared}
 use Rattle.replacement.proofs.commit.cleared.Goals as goal
-use Rattle.replacement.proofs.commit.cleared.Goals.{After-strike_all-lost, Start}
-
-inside : (c : Start) → c.args.p.used ≤ length (records c.args.w.now)
-inside c = omega (arith, c.requires.0.whole, c.requires.0.fits)
+use Rattle.replacement.proofs.commit.cleared.Goals.{After-strike_all-lost}
 
 pub strike_all-lost-requires : goal.strike_all-lost-requires
 strike_all-lost-requires c =
@@ -24,23 +21,23 @@ few :
 few c =
     let a = c.args in
     let change = c.requires.1 in
-    left_few (records a.w.now) a.p a.i change.inside (inside c.before.before.before.before.before.before.before.before.before.before.before.before.before.before) change.live c.leave.ensures.0 c.strike_all-lost.ensures.1
+    left_few (records a.w.now) a.p a.i change.inside (omega (arith, c.requires.0.whole, c.requires.0.fits)) change.live c.leave.ensures.0 c.strike_all-lost.ensures.1
     ∙ sym change.counted
 
-pub trim-requires : goal.trim-requires
-trim-requires c =
+pub trim-used-requires : goal.trim-used-requires
+trim-used-requires c =
     rw c.active_lane.ensures (refl, c.strike_all-lost.ensures.0.lane)
 
 pub returns : goal.returns
 returns c =
     let a = c.args in
     let change = c.requires.1 in
-    kept-cleared (records a.w.now) a.p a.i change.inside (inside (goal.at.returns c).Start) change.live c.leave.ensures.0
-    c.strike_all-lost.ensures.1 _ _ c.trim.result change.counted c.strike_all-lost.ensures.0
-    (rw c.active_lane.ensures at c.trim.ensures)
+    kept-cleared (records a.w.now) a.p a.i change.inside (omega (arith, c.requires.0.whole, c.requires.0.fits)) change.live c.leave.ensures.0
+    c.strike_all-lost.ensures.1 _ _ c.trim-used.result change.counted c.strike_all-lost.ensures.0
+    (rw c.active_lane.ensures at c.trim-used.ensures)
 
-pub overflow_sub-q : goal.overflow_sub-q
-overflow_sub-q c = omega (arith, few (goal.at.overflow_sub-q c).After-strike_all-lost)
+pub overflow_sub-result : goal.overflow_sub-result
+overflow_sub-result c = omega (arith, few (goal.at.overflow_sub-result c).After-strike_all-lost)
 
-pub overflow_sub-q-2 : goal.overflow_sub-q-2
-overflow_sub-q-2 c = omega (arith, few (goal.at.overflow_sub-q-2 c).After-strike_all-lost)
+pub overflow_sub-result-2 : goal.overflow_sub-result-2
+overflow_sub-result-2 c = omega (arith, few (goal.at.overflow_sub-result-2 c).After-strike_all-lost)

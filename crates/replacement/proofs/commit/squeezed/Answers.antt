@@ -17,24 +17,23 @@ relink-requires c =
     let a = c.args in
     subst
     (λ (l : Lane).
-    Inside (records c.squeeze.new.w) l × (T l.linked → (l.count < 2 ^ 32) × (l.heads + heads ≤ length a.index.now)))
+    Inside (records c.squeeze-used.new.w) l × (T l.linked → (l.count < 2 ^ 32) × (l.heads + heads ≤ length a.index.now)))
     (sym c.active_lane.ensures)
-    (relinkable (records a.w.now) (records c.squeeze.new.w) a.p a.index.now a.limit c.squeeze.result c.requires.0
-    c.squeeze.ensures)
+    (relinkable (records a.w.now) (records c.squeeze-used.new.w) a.p a.index.now a.limit c.squeeze-used.result c.requires.0 c.squeeze-used.ensures)
 
 -- what `relink` ensures of the lane
 relinked :
     (c : After-relink)
     → let a = c.args in
-    let l = active_lane (numbered a.p c.squeeze.result c.squeeze.result) in
+    let l = active_lane (numbered a.p c.squeeze-used.result c.squeeze-used.result) in
     (T l.linked → Chained (records c.relink.new.w) l c.relink.new.index)
-    × (Only l.heads a.index.now c.relink.new.index × Relinked (records c.squeeze.new.w) l (records c.relink.new.w))
+    × (Only l.heads a.index.now c.relink.new.index × Relinked (records c.squeeze-used.new.w) l (records c.relink.new.w))
 relinked c =
     let a = c.args in
     subst
     (λ (l : Lane).
     (T l.linked → Chained (records c.relink.new.w) l c.relink.new.index)
-    × (Only l.heads a.index.now c.relink.new.index × Relinked (records c.squeeze.new.w) l (records c.relink.new.w)))
+    × (Only l.heads a.index.now c.relink.new.index × Relinked (records c.squeeze-used.new.w) l (records c.relink.new.w)))
     c.active_lane.ensures
     c.relink.ensures
 
@@ -42,15 +41,15 @@ pub reranked-requires : goal.reranked-requires
 reranked-requires c =
     let a = c.args in
     let r = relinked (goal.at.reranked-requires c).After-relink in
-    rerankable (records a.w.now) (records c.squeeze.new.w) a.p a.index.now a.limit c.squeeze.result c.requires.0
-    c.squeeze.ensures (records c.relink.new.w) c.relink.new.index r.1.0 r.1.1
+    rerankable (records a.w.now) (records c.squeeze-used.new.w) a.p a.index.now a.limit c.squeeze-used.result c.requires.0
+    c.squeeze-used.ensures (records c.relink.new.w) c.relink.new.index r.1.0 r.1.1
 
 pub returns : goal.returns
 returns c =
     let a = c.args in
     let r = relinked (goal.at.returns c).After-relink in (
-      squeezed_kept (records a.w.now) (records c.squeeze.new.w) a.p a.index.now a.limit c.squeeze.result c.requires.0
-          c.squeeze.ensures (records c.relink.new.w) c.relink.new.index r.1.0 r.1.1 c.requires.1 _
+      squeezed_kept (records a.w.now) (records c.squeeze-used.new.w) a.p a.index.now a.limit c.squeeze-used.result c.requires.0
+          c.squeeze-used.ensures (records c.relink.new.w) c.relink.new.index r.1.0 r.1.1 c.requires.1 _
           r.0 c.reranked.ensures.0 c.reranked.ensures.1,
       refl,
     )

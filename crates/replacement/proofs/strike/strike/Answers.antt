@@ -1,9 +1,10 @@
 -- The goals of `strike::strike` that the search leaves.
 use mathlib.Core.Path.{◌≡◌, sym}
 use mathlib.Core.Bool.{cond}
-use Prim.Native.Nat.{◌+◌, ◌-◌, ◌≤◌, ◌<◌}
+use mir.Val.{bool_byte}
+use Prim.Native.Nat.{◌+◌, ◌-◌, ◌<◌}
 use native.Mathlib.Omega.{arith}
-use lib.ListN.{length, get_or}
+use lib.ListN.{get_or}
 use Rattle.stops.specs.Code.{empty_record, rec_dominates}
 use Rattle.records.specs.Code.{records}
 use Rattle.lanes.specs.Sizes.{active_heads}
@@ -13,15 +14,11 @@ use Rattle.chains.proofs.WalkLaws.{dominates_bucket, bucket_head}
 use Rattle.replacement.proofs.StrikeLaws.{struck-count}
 use Rattle.replacement.proofs.StrikeWalk.{Striking, striking_starts, striking_again, striking_ends}
 use Rattle.replacement.proofs.strike.strike.Goals as goal
-use Rattle.replacement.proofs.strike.strike.Goals.{After-after-c, Start}
+use Rattle.replacement.proofs.strike.strike.Goals.{After-after-c}
 
 pub top-c-requires : goal.top-c-requires
 top-c-requires c =
     rw c.active_lane-lane.ensures (λ on. (c.requires.0.0.lane.chains on).room)
-
--- the records of the lane are in the pool
-inside : (c : Start) → c.args.p.used ≤ length (records c.args.w.now)
-inside c = omega (arith, c.requires.0.0.whole, c.requires.0.0.fits)
 
 pub loop-c-init : goal.loop-c-init
 loop-c-init c =
@@ -30,7 +27,7 @@ loop-c-init c =
     let there : c.top-c.result ≡ cond a.p.linked (get_or a.index.now (active_heads + bucket_of x) 0) a.p.used =
     rw (c.active_lane-lane.ensures, c.load.ensures) at c.top-c.ensures in (
       c.requires.0.0,
-      striking_starts (rec_dominates x) (bucket_of x) a.p (records a.w.now) a.index.now c.requires.0.0.lane (inside (goal.at.loop-c-init c).Start)
+      striking_starts (rec_dominates x) (bucket_of x) a.p (records a.w.now) a.index.now c.requires.0.0.lane (omega (arith, c.requires.0.0.whole, c.requires.0.0.fits))
           (λ y t. sym (dominates_bucket x y t)) (bucket_head x) c.top-c.result there,
     )
 
@@ -43,8 +40,9 @@ overflow_add-lost c =
     omega (
       arith,
       s.count,
+      c.from-lost.ensures,
       struck-count (rec_dominates kid) (records c.loop-c.w) _ a.p.used (c.loop-c.c - 1) _ (omega (arith, s.below))
-          (omega (arith, s.same_length, inside (goal.at.overflow_add-lost c).Start)) c.strike_at-lost.ensures.1,
+          (omega (arith, s.same_length, c.requires.0.0.whole, c.requires.0.0.fits)) c.strike_at.ensures.1,
       live_few (records a.w.now) a.p.used,
       c.ranges,
     )
@@ -52,7 +50,7 @@ overflow_add-lost c =
 -- the record that the walk stands at is in the pool
 pub after-c-requires : goal.after-c-requires
 after-c-requires c =
-    let laid = c.strike_at-lost.ensures.0 in
+    let laid = c.strike_at.ensures.0 in
     let low = c.loop-c.invariant.1.below in
     let some = c.loop-c-test.true in
     rw c.active_lane-lane.ensures (omega arith, ((λ h. absurd (omega arith)), omega (arith, laid.whole, laid.fits)))
@@ -62,20 +60,20 @@ goes_on :
     (c : After-after-c)
     → let a = c.args in
     let x = get_or (records a.kids.now) a.k empty_record in
-    Striking (rec_dominates x) (bucket_of x) a.p (records a.w.now) (records c.strike_at-lost.new.w)
-    (c.loop-c.lost + c.strike_at-lost.result)
+    Striking (rec_dominates x) (bucket_of x) a.p (records a.w.now) (records c.strike_at.new.w)
+    (c.loop-c.lost + bool_byte c.strike_at.result)
     c.after-c.result
     × (c.after-c.result < c.loop-c.c)
 goes_on c =
     let a = c.args in
     let x = get_or (records a.kids.now) a.k empty_record in
-    striking_again (rec_dominates x) (bucket_of x) a.p (records a.w.now) a.index.now c.requires.0.0.lane (inside c.before.before.before.before.before.before.before.before.before.before.before.before.before.before.before.before.before)
-    (λ y t. sym (dominates_bucket x y t)) c.loop-c.invariant.1 c.loop-c-test.true c.strike_at-lost.ensures.1
+    striking_again (rec_dominates x) (bucket_of x) a.p (records a.w.now) a.index.now c.requires.0.0.lane (omega (arith, c.requires.0.0.whole, c.requires.0.0.fits))
+    (λ y t. sym (dominates_bucket x y t)) c.loop-c.invariant.1 c.loop-c-test.true c.strike_at.ensures.1
     (rw c.active_lane-lane.ensures at c.after-c.ensures)
 
 pub loop-c-preserved : goal.loop-c-preserved
 loop-c-preserved c =
-    (c.strike_at-lost.ensures.0, (goes_on c).0)
+    (c.strike_at.ensures.0, rw c.from-lost.ensures (goes_on c).0)
 
 pub loop-c-smaller : goal.loop-c-smaller
 loop-c-smaller c = (goes_on c).1
