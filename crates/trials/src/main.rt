@@ -4,7 +4,6 @@
 #![tactic(auto)]
 
 ghost use Rattle.std.specs.Prelude.{◌≤◌};
-ghost use Rattle.sizes.specs.Sizes.{most_stops};
 
 mod enumerate;
 mod judge;
@@ -12,14 +11,11 @@ mod stopped;
 mod tables;
 mod tally;
 
-use crate::enumerate::{Day, Optimum, best, pair_bytes, pairs_in};
-use crate::judge::{Verdict, first_right, judged};
+use crate::enumerate::{Day, best};
+use crate::judge::{Table, first_right, judged};
 use crate::stopped::{budget_of, limited};
-use crate::tables::{TABLES, day_of, next, size_of, start_of, table_of};
-use crate::tally::{
-    Limited, Tally, counted, counted_limited, no_limited, none, summed, summed_limited, tell,
-    tell_limited,
-};
+use crate::tables::{TABLES, day_of, next, order_from, table_of};
+use crate::tally::{Tally, summed, summed_limited};
 use answer::{Job, Report};
 use first_order::first_order;
 use planner::plan;
@@ -38,17 +34,11 @@ const RULES: u32 = 16;
 
 const CHOICES: u32 = 128;
 
-// The jobs without a starting order and with one that is drawn: the whole runs, and those within a budget.
-#[derive(Clone, Copy)]
-struct Typed {
-    whole: Tally,
-    limited: Limited,
-}
-
-// These, and the jobs from the unit's first order.
-#[derive(Clone, Copy)]
+// The jobs without a starting order and with one that is drawn: the whole runs, and those within a budget; and the jobs from the unit's first order.
+#[derive(Clone, Copy, Default)]
 struct Tallies {
-    typed: Typed,
+    whole: Tally,
+    limited: Tally,
     first: Tally,
 }
 
@@ -60,9 +50,7 @@ fn plain_for(day: Day) -> u32
 }
 
 // A day's job under a choice: the selection, four times the rules, and 64 times the bound, plain or close.
-fn job_of(day: Day, choice: u32) -> Job
-    requires { day.n ≤ most_stops }
-{
+fn job_of(day: Day, choice: u32) -> Job {
     Job {
         n: day.n as u32,
         selection: choice % SELECTIONS,
@@ -71,161 +59,82 @@ fn job_of(day: Day, choice: u32) -> Job
     }
 }
 
-// A day's job under a choice, planned with the day's pairs.
-fn planned(
-    day: Day,
-    choice: u32,
-    table: &[u32],
-    start: &[u8],
-    budget: u64,
-    pool: &mut [u32],
-) -> Report
-    requires { day.n ≤ most_stops }
-{
-    let pairs = pairs_in(day);
-    let end = pair_bytes(day.paired);
+// The job over a table under a choice, planned with the day's pairs.
+fn planned(t: Table, choice: u32, start: &[u8], budget: u64, pool: &mut [u32]) -> Report {
+    let day = t.day;
     plan(
         job_of(day, choice),
-        table,
+        t.numbers,
         start,
-        &pairs[..end],
+        day.pair_stops(),
         budget,
         pool,
     )
 }
 
-// One job, planned and judged.
-fn one(
-    table: &[u32],
-    day: Day,
-    best: Optimum,
-    choice: u32,
-    start: &[u8],
-    pool: &mut [u32],
-    t: Tally,
-) -> Tally
-    requires { day.n ≤ most_stops }
-{
-    let r = planned(day, choice, table, start, NO_BUDGET, pool);
-    counted(t, judged(best, r), summed(t.sum, r))
-}
-
-// One job, planned and judged twice: whole, and within a budget.
-fn one_twice(
-    table: &[u32],
-    day: Day,
-    best: Optimum,
-    choice: u32,
-    start: &[u8],
-    pool: &mut [u32],
-    t: Typed,
-) -> Typed
-    requires { day.n ≤ most_stops }
-{
-    let r = planned(day, choice, table, start, NO_BUDGET, pool);
-    let budget = budget_of(r, choice);
-    let q = planned(day, choice, table, start, budget, pool);
-    let verdict = judged(best, r);
-    let ending = limited(table, day, best, budget, r, q);
-    let whole = t.whole;
-    let limited = t.limited;
-    Typed {
-        whole: counted(whole, verdict, summed(whole.sum, r)),
-        limited: counted_limited(limited, ending, summed_limited(limited.sum, q)),
+// All choices over one table from one starting order or none, each job planned and judged twice: whole, and within a budget.
+fn jobs_twice(t: Table, start: &[u8], pool: &mut [u32], tallies: Tallies) -> Tallies {
+    let mut whole = tallies.whole;
+    let mut within = tallies.limited;
+    for choice in 0..CHOICES {
+        let r = planned(t, choice, start, NO_BUDGET, pool);
+        whole = whole.counted(judged(t.best, r), summed(whole.sum, r));
+        let budget = budget_of(r, choice);
+        let q = planned(t, choice, start, budget, pool);
+        within = within.counted(limited(t, budget, r, q), summed_limited(within.sum, q));
+    }
+    Tallies {
+        whole,
+        limited: within,
+        ..tallies
     }
 }
 
-// All choices over one table, from one starting order or none.
-fn jobs(table: &[u32], day: Day, best: Optimum, start: &[u8], pool: &mut [u32], t: Tally) -> Tally
-    requires { day.n ≤ most_stops }
-{
-    let mut tally = t;
-    let mut choice = 0u32;
-    while choice < CHOICES {
-        tally = one(table, day, best, choice, start, pool, tally);
-        choice += 1;
+// All choices over one table from the unit's first order, if that is right.
+fn from_first(t: Table, pool: &mut [u32], tally: Tally) -> Tally {
+    let day = t.day;
+    let first = first_order(day.n as u32, plain_for(day), t.numbers, day.pair_stops());
+    if !first_right(t, first) {
+        return tally.counted(None, tally.sum);
+    }
+    let start = first.order;
+    let mut tally = tally;
+    for choice in 0..CHOICES {
+        let r = planned(t, choice, &start[..day.n], NO_BUDGET, pool);
+        tally = tally.counted(judged(t.best, r), summed(tally.sum, r));
     }
     tally
 }
 
-// The same, each job planned twice.
-fn jobs_twice(
-    table: &[u32],
-    day: Day,
-    best: Optimum,
-    start: &[u8],
-    pool: &mut [u32],
-    t: Typed,
-) -> Typed
-    requires { day.n ≤ most_stops }
-{
-    let mut typed = t;
-    let mut choice = 0u32;
-    while choice < CHOICES {
-        typed = one_twice(table, day, best, choice, start, pool, typed);
-        choice += 1;
-    }
-    typed
-}
-
-// The jobs over one table, without a starting order and with one.
-fn both(table: &[u32], day: Day, best: Optimum, start: &[u8], pool: &mut [u32], t: Typed) -> Typed
-    requires { day.n ≤ most_stops }
-{
-    let without = jobs_twice(table, day, best, &start[..0], pool, t);
-    jobs_twice(table, day, best, start, pool, without)
-}
-
-// The jobs over one table from the unit's first order, if that is right.
-fn from_first(table: &[u32], day: Day, best: Optimum, pool: &mut [u32], t: Tally) -> Tally
-    requires { day.n ≤ most_stops }
-{
-    let pairs = pairs_in(day);
-    let end = pair_bytes(day.paired);
-    let first = first_order(day.n as u32, plain_for(day), table, &pairs[..end]);
-    if !first_right(table, day, best, first) {
-        return counted(t, Verdict::Differs, t.sum);
-    }
-    let start = first.order;
-    jobs(table, day, best, &start[..day.n], pool, t)
-}
-
 // The jobs over table k, each kind behind those over the tables before it.
-fn trial(k: u64, pool: &mut [u32], t: Tallies) -> Tallies {
+fn trial(k: u64, pool: &mut [u32], tallies: Tallies) -> Tallies {
     let day = day_of(k);
-    let n = day.n;
-    let size = size_of(n);
-    let table = table_of(k, n);
-    let start = start_of(day, next(k));
-    let optimum = best(&table[..size], day);
-    let typed = both(&table[..size], day, optimum, &start[..n], pool, t.typed);
-    let first = from_first(&table[..size], day, optimum, pool, t.first);
-    Tallies { typed, first }
-}
-
-// The jobs over all tables.
-fn all_tables(pool: &mut [u32]) -> Tallies {
-    let typed = Typed {
-        whole: none(),
-        limited: no_limited(),
+    let numbers = table_of(k, day.n);
+    let numbers = &numbers[..(day.n + 1) * (day.n + 1)];
+    let start = order_from(day, next(k));
+    let Some(best) = best(numbers, day) else {
+        return Tallies {
+            whole: tallies.whole.counted(None, tallies.whole.sum),
+            ..tallies
+        };
     };
-    let mut t = Tallies {
-        typed: typed,
-        first: none(),
-    };
-    let mut k = 0u64;
-    while k < TABLES {
-        t = trial(k, pool, t);
-        k += 1;
+    let t = Table { numbers, day, best };
+    let without = jobs_twice(t, &start[..0], pool, tallies);
+    let with = jobs_twice(t, &start[..day.n], pool, without);
+    Tallies {
+        first: from_first(t, pool, with.first),
+        ..with
     }
-    t
 }
 
 fn main(rt: HostRuntime) -> io::Result<()> {
     let mut pool = [0u32; POOL];
-    let t = all_tables(&mut pool);
-    let typed = t.typed;
-    tell(&rt, typed.whole, " jobs planned\n")?;
-    tell(&rt, t.first, " jobs planned from the unit's first order\n")?;
-    tell_limited(&rt, typed.limited)
+    let mut t = Tallies::default();
+    for k in 0..TABLES {
+        t = trial(k, &mut pool, t);
+    }
+    t.whole.tell(&rt, " jobs planned\n")?;
+    t.first
+        .tell(&rt, " jobs planned from the unit's first order\n")?;
+    t.limited.tell_limited(&rt)
 }
