@@ -123,6 +123,7 @@ pub fn sequence(day: Day, k: u64) -> [u8; ORDER_PLACES]
 pub struct Optimum {
     pub cost: u64,
     pub order: [u8; ORDER_PLACES],
+    ghost whole: { order_places ≡ length order },
 }
 
 // The least cost over all orders that respect the pairs, and the smallest of the orders that cost it (request A.8): the first of them.

@@ -15,7 +15,7 @@ use crate::enumerate::{Day, best};
 use crate::judge::{Table, first_right, judged};
 use crate::stopped::{budget_of, limited};
 use crate::tables::{TABLES, day_of, next, order_from, table_of};
-use crate::tally::{Tally, summed, summed_limited};
+use crate::tally::{OF_WHOLE, Tally, numbers_of};
 use answer::{Job, Report};
 use first_order::first_order;
 use planner::plan;
@@ -72,66 +72,64 @@ fn planned(t: Table, choice: u32, start: &[u8], budget: u64, pool: &mut [u32]) -
     )
 }
 
-// All choices over one table from one starting order or none, each job planned and judged twice: whole, and within a budget.
-fn jobs_twice(t: Table, start: &[u8], pool: &mut [u32], tallies: Tallies) -> Tallies {
-    let mut whole = tallies.whole;
-    let mut within = tallies.limited;
+// One job, planned and judged.
+fn one(t: Table, choice: u32, start: &[u8], pool: &mut [u32], tally: &mut Tally) -> Report {
+    let r = planned(t, choice, start, NO_BUDGET, pool);
+    let numbers = numbers_of(r);
+    tally.count(judged(t.best, r), &numbers[..OF_WHOLE]);
+    r
+}
+
+// The same job, whose run without a budget gave `whole`, planned within one.
+fn again(t: Table, choice: u32, start: &[u8], whole: Report, pool: &mut [u32], tally: &mut Tally) {
+    let budget = budget_of(whole, choice);
+    let r = planned(t, choice, start, budget, pool);
+    tally.count(limited(t, budget, whole, r), &numbers_of(r));
+}
+
+// All choices over one table from one starting order or none, each job planned twice.
+fn jobs_twice(t: Table, start: &[u8], pool: &mut [u32], tallies: &mut Tallies) {
     for choice in 0..CHOICES {
-        let r = planned(t, choice, start, NO_BUDGET, pool);
-        whole = whole.counted(judged(t.best, r), summed(whole.sum, r));
-        let budget = budget_of(r, choice);
-        let q = planned(t, choice, start, budget, pool);
-        within = within.counted(limited(t, budget, r, q), summed_limited(within.sum, q));
-    }
-    Tallies {
-        whole,
-        limited: within,
-        ..tallies
+        let whole = one(t, choice, start, pool, &mut tallies.whole);
+        again(t, choice, start, whole, pool, &mut tallies.limited);
     }
 }
 
 // All choices over one table from the unit's first order, if that is right.
-fn from_first(t: Table, pool: &mut [u32], tally: Tally) -> Tally {
+fn from_first(t: Table, pool: &mut [u32], tally: &mut Tally) {
     let day = t.day;
     let first = first_order(day.n as u32, plain_for(day), t.numbers, day.pair_stops());
     if !first_right(t, first) {
-        return tally.counted(None, tally.sum);
+        tally.count(None, &[]);
+        return;
     }
     let start = first.order;
-    let mut tally = tally;
     for choice in 0..CHOICES {
-        let r = planned(t, choice, &start[..day.n], NO_BUDGET, pool);
-        tally = tally.counted(judged(t.best, r), summed(tally.sum, r));
+        one(t, choice, &start[..day.n], pool, tally);
     }
-    tally
 }
 
-// The jobs over table k, each kind behind those over the tables before it.
-fn trial(k: u64, pool: &mut [u32], tallies: Tallies) -> Tallies {
+// The jobs over table k, without a starting order, with one, and from the unit's first order. That a table has no order at all would be one that differs.
+fn trial(k: u64, pool: &mut [u32], tallies: &mut Tallies) {
     let day = day_of(k);
     let numbers = table_of(k, day.n);
     let numbers = &numbers[..(day.n + 1) * (day.n + 1)];
-    let start = order_from(day, next(k));
     let Some(best) = best(numbers, day) else {
-        return Tallies {
-            whole: tallies.whole.counted(None, tallies.whole.sum),
-            ..tallies
-        };
+        tallies.whole.count(None, &[]);
+        return;
     };
     let t = Table { numbers, day, best };
-    let without = jobs_twice(t, &start[..0], pool, tallies);
-    let with = jobs_twice(t, &start[..day.n], pool, without);
-    Tallies {
-        first: from_first(t, pool, with.first),
-        ..with
-    }
+    let start = order_from(day, next(k));
+    jobs_twice(t, &start[..0], pool, tallies);
+    jobs_twice(t, &start[..day.n], pool, tallies);
+    from_first(t, pool, &mut tallies.first);
 }
 
 fn main(rt: HostRuntime) -> io::Result<()> {
     let mut pool = [0u32; POOL];
     let mut t = Tallies::default();
     for k in 0..TABLES {
-        t = trial(k, &mut pool, t);
+        trial(k, &mut pool, &mut t);
     }
     t.whole.tell(&rt, " jobs planned\n")?;
     t.first

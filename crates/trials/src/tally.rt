@@ -1,4 +1,6 @@
 // How many jobs ended in which way, with checksums, and what is printed of it.
+ghost use Rattle.std.specs.Prelude.{◌≡◌, length};
+
 use crate::judge::Ending;
 use answer::Report;
 use std::io;
@@ -11,9 +13,14 @@ fn mixed(sum: u64, x: u64) -> u64 {
     (sum % PRIME * 31 + x % PRIME) % PRIME
 }
 
-// A checksum with a report's cost and counts.
-pub fn summed(sum: u64, r: Report) -> u64 {
-    let numbers = [
+// What a checksum of whole runs is over: so many of a report's numbers.
+pub const OF_WHOLE: usize = 7;
+
+// A report's cost and counts, and its mark and floor.
+pub fn numbers_of(r: Report) -> [u64; 9]
+    ensures { 9 ≡ length result }
+{
+    [
         u64::from(r.number),
         u64::from(r.cost),
         r.branched,
@@ -21,13 +28,9 @@ pub fn summed(sum: u64, r: Report) -> u64 {
         r.eliminated,
         r.active,
         r.most,
-    ];
-    numbers.iter().fold(sum, |sum, x| mixed(sum, *x))
-}
-
-// The same, and the mark and the floor.
-pub fn summed_limited(sum: u64, r: Report) -> u64 {
-    mixed(mixed(summed(sum, r), u64::from(r.mark)), u64::from(r.floor))
+        u64::from(r.mark),
+        u64::from(r.floor),
+    ]
 }
 
 // How many jobs ended in which way, how many differed, and a checksum over their reports.
@@ -39,13 +42,13 @@ pub struct Tally {
     with_none: u64,
     finished: u64,
     differed: u64,
-    pub sum: u64,
+    sum: u64,
 }
 
 impl Tally {
-    // With one job more: how it ended, if its report is right, and the checksum then.
-    pub fn counted(mut self, ending: Option<Ending>, sum: u64) -> Tally {
-        self.sum = sum;
+    // One job more: how it ended, if its report is right, and the numbers of that for the checksum.
+    pub fn count(&mut self, ending: Option<Ending>, numbers: &[u64]) {
+        self.sum = numbers.iter().fold(self.sum, |sum, x| mixed(sum, *x));
         let jobs = match ending {
             Some(Ending::Best) => &mut self.best,
             Some(Ending::Full) => &mut self.full,
@@ -55,7 +58,6 @@ impl Tally {
             None => &mut self.differed,
         };
         *jobs = jobs.wrapping_add(1);
-        self
     }
 
     // How many jobs these are.
