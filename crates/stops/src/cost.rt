@@ -13,12 +13,10 @@ pub fn order_cost(t: &Rows, x: &[u8]) -> u32
 {
     let mut sum = 0;
     let mut place = 0;
-    let mut k = 0;
-    while k < x.len() {
-        let s = x[k] as u32;
+    for s in x {
+        let s = u32::from(*s);
         sum += leg(t, place, s);
         place = s;
-        k += 1;
     }
     sum + leg(t, place, 0)
 }

@@ -12,14 +12,12 @@ fn digits_before(a: u32, b: u32) -> bool
 {
     let mut x = a;
     let mut y = b;
-    let mut left = WORD_STOPS;
-    while left != 0 {
+    for _ in 0..WORD_STOPS {
         if x % STOP_BASE != y % STOP_BASE {
             return x % STOP_BASE < y % STOP_BASE;
         }
         x /= STOP_BASE;
         y /= STOP_BASE;
-        left -= 1;
     }
     false
 }

@@ -17,12 +17,10 @@ pub type Rows = [[u32; PLACES]; PLACES];
 pub fn small(table: &[u32]) -> bool
     ensures { result ≡ not (any (ltb dearest_leg) table.now) }
 {
-    let mut k = 0;
-    while k < table.len() {
-        if DEAREST_LEG < table[k] {
+    for w in table {
+        if DEAREST_LEG < *w {
             return false;
         }
-        k += 1;
     }
     true
 }
@@ -48,12 +46,10 @@ pub fn small_charges(n: usize, table: &[u32]) -> bool
     requires { (n ≤ most_stops) × (length table.now ≡ suc n * suc n) }
     ensures { result ≡ not (any (λ j. ltb dearest_charge (charge n table.now j)) (from 0 (suc n))) }
 {
-    let mut j = 0;
-    while j <= n {
+    for j in 0..n + 1 {
         if DEAREST_CHARGE < charge(n, table, j) {
             return false;
         }
-        j += 1;
     }
     true
 }
@@ -72,10 +68,8 @@ fn row(n: usize, table: &[u32], i: usize) -> [u32; PLACES]
     ensures { result ≡ row_of n table.now i }
 {
     let mut r = [0u32; PLACES];
-    let mut j = 0;
-    while j <= n {
+    for j in 0..n + 1 {
         r[j] = flying(n, table, i, j);
-        j += 1;
     }
     r
 }
@@ -86,17 +80,13 @@ pub fn rows(n: usize, bound: u32, table: &[u32]) -> Rows
     ensures { result ≡ rows n (ends_away bound) table.now }
 {
     let mut t = [[0u32; PLACES]; PLACES];
-    let mut i = 0;
-    while i <= n {
+    for i in 0..n + 1 {
         t[i] = row(n, table, i);
-        i += 1;
     }
     if ends_away(bound) {
         // no leg home counts
-        let mut s = 0;
-        while s <= n {
+        for s in 0..n + 1 {
             t[s][0] = 0;
-            s += 1;
         }
     }
     t

@@ -8,10 +8,10 @@ pub flying-requires : goal.flying-requires
 flying-requires c = let p = c.requires in (p.0, (p.1, omega arith))
 
 pub loop-j-preserved : goal.loop-j-preserved
-loop-j-preserved c = (omega arith, rw (c.loop-j.invariant.1, c.flying.ensures) (filled_more _ _ _ (omega arith)))
+loop-j-preserved c = rw (c.loop-j.invariant, c.flying.ensures) (filled_more _ _ _ (omega arith))
 
 pub returns : goal.returns
-returns c = c.loop-j.invariant.1 ∙ filled_row _ _ _ c.loop-j.invariant.0 c.loop-j-test.false _
+returns c = c.loop-j.invariant ∙ filled_row c.args.n _ c.loop-j.j (omega arith) (omega arith) _
 
 pub loop-j-init : goal.loop-j-init
-loop-j-init c = (omega arith, filled_none _ (λ k. 0))
+loop-j-init c = filled_none _ (λ k. 0)

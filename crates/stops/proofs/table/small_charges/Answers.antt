@@ -1,5 +1,4 @@
 -- The goals of `table::small_charges` that the search leaves.
-use mathlib.Core.Path.{refl}
 use native.Mathlib.Omega.{arith}
 use Rattle.stops.proofs.RowLaws.{charge_finds, charge_skips, charges_end}
 use Rattle.stops.proofs.table.small_charges.Goals as goal
@@ -10,18 +9,14 @@ charge-requires c = let p = c.requires in (p.0, (p.1, omega arith))
 pub returns-then-charge-gt-DEAREST_CHARGE : goal.returns-then-charge-gt-DEAREST_CHARGE
 returns-then-charge-gt-DEAREST_CHARGE c =
     let a = c.args in
-    charge_finds a.n a.table.now c.loop-j.j c.loop-j.invariant.1 (omega arith) (omega (arith, c.charge.ensures))
+    charge_finds a.n a.table.now c.loop-j.j c.loop-j.invariant (omega arith) (omega (arith, c.charge.ensures))
 
 pub loop-j-preserved : goal.loop-j-preserved
 loop-j-preserved c =
     let a = c.args in
-    let skipped = charge_skips a.n a.table.now c.loop-j.j c.loop-j.invariant.1 in
-    (omega arith, skipped (omega arith) (omega (arith, c.charge.ensures)))
+    charge_skips a.n a.table.now c.loop-j.j c.loop-j.invariant (omega arith) (omega (arith, c.charge.ensures))
 
 pub returns : goal.returns
 returns c =
     let a = c.args in
-    charges_end a.n a.table.now c.loop-j.j c.loop-j.invariant.1 (omega arith)
-
-pub loop-j-init : goal.loop-j-init
-loop-j-init c = (omega arith, refl)
+    charges_end a.n a.table.now c.loop-j.j c.loop-j.invariant (omega arith)
