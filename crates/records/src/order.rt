@@ -21,11 +21,7 @@ pub fn stop_at(first: u32, second: u32, k: u32) -> u32
 pub fn places(count: u32) -> u32
     ensures { result ≡ min count most_stops }
 {
-    if count < MOST_STOPS {
-        count
-    } else {
-        MOST_STOPS
-    }
+    count.min(MOST_STOPS)
 }
 
 // The stops at the first places, so many as `count` says, and zeros behind.
@@ -34,10 +30,8 @@ pub fn stops_of(count: u32, first: u32, second: u32) -> [u8; ORDER_PLACES]
     ensures { result ≡ padded order_places (map (stop_at first second) (from 0 count)) }
 {
     let mut stops = [0u8; ORDER_PLACES];
-    let mut k = 0;
-    while k < count {
+    for k in 0..count {
         stops[k as usize] = stop_at(first, second, k) as u8;
-        k += 1;
     }
     stops
 }
