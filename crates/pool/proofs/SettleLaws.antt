@@ -77,15 +77,12 @@ module _ {A : Type 0} where
       whole =
           rw (slice-cons i (suc j) l d (omega arith) k, slice_snoc (suc i) j l d h k, reverse-cons, reverse-append)
 
-  -- the same in the loop's own terms
+  -- the same in the loop's own terms: m is the last place before j
   pub turn_again :
-      (i j : ℕ) (l l₁ l₂ : List A) (d x y : A) → 1 < j - i → j ≤ length l → x ≡ get_or l i d → y ≡ get_or l (j - 1) d
-      → l₁ ≡ set l i y → l₂ ≡ set l₁ (j - 1) x → turned (i + 1) (j - 1) l₂ ≡ turned i j l
-  turn_again i j l l₁ l₂ d x y h k ex ey e₁ e₂ =
-      rw (e₂, e₁, ex, ey, add-one) (turn_step i (j - 1) l d (omega arith) (omega arith) ∙ ap (λ (m : ℕ). turned i m l) again)
-    where
-      again : suc (j - 1) ≡ j
-      again = omega arith
+      (i j m i' j' : ℕ) (l l₁ l₂ : List A) (d x y : A) → i' ≡ suc i → suc m ≡ j → j' ≡ m → i < m → m < length l → x ≡ get_or l i d
+      → y ≡ get_or l m d → l₁ ≡ set l i y → l₂ ≡ set l₁ m x → turned i' j' l₂ ≡ turned i j l
+  turn_again i j m i' j' l l₁ l₂ d x y up last down h k ex ey e₁ e₂ =
+      rw (e₂, e₁, ex, ey, up, down) (turn_step i m l d h k ∙ ap (λ (n : ℕ). turned i n l) last)
 
   -- the list with its elements from k to n cleared
   abbrev pub cleared : ℕ → A → ℕ → List A → List A

@@ -17,15 +17,13 @@ fn turn(w: &mut [u32], from: usize, to: usize)
     requires { (from ≤ to) × (to ≤ length (records w.old)) }
     ensures { records w.new ≡ take from (records w.old) ++ (reverse (slice from to (records w.old)) ++ drop to (records w.old)) }
 {
-    let mut i = from;
-    let mut j = to;
-    while 1 < j - i {
-        j -= 1;
+    for k in 0..(to - from) / 2 {
+        let i = from + k;
+        let j = to - 1 - k;
         let x = load(w, i);
         let y = load(w, j);
         store(w, i, y);
         store(w, j, x);
-        i += 1;
     }
 }
 
@@ -38,12 +36,10 @@ fn slide(w: &mut [u32], from: usize, to: usize, at: usize) -> usize
         return to;
     }
     let mut next = at;
-    let mut i = from;
-    while i < to {
+    for i in from..to {
         let x = load(w, i);
         store(w, next, x);
         next += 1;
-        i += 1;
     }
     next
 }
@@ -53,10 +49,8 @@ fn clear(w: &mut [u32], capacity: usize, from: usize)
     requires { (capacity ≡ length (records w.old)) × (from ≤ capacity) }
     ensures { records w.new ≡ take from (records w.old) ++ replicate (capacity - from) empty_record }
 {
-    let mut k = from;
-    while k < capacity {
+    for k in from..capacity {
         store(w, k, Record::empty());
-        k += 1;
     }
 }
 

@@ -1,55 +1,41 @@
 -- The goals of `settle::turn` that the search leaves.
-use mathlib.Core.Path.{refl, sym, ap, ◌∙◌}
+use mathlib.Core.Path.{◌≡◌, sym, ap, ◌∙◌}
+use Prim.Native.Nat.{◌+◌, ◌-◌}
 use native.Mathlib.Omega.{arith}
 use lib.ListN.{length, length-set}
 use Rattle.stops.specs.Code.{empty_record}
 use Rattle.records.specs.Code.{records}
+use Rattle.records.proofs.ViewLaws.{same-records}
 use Rattle.pool.proofs.SettleLaws.{turn_again, turn_ends}
 use Rattle.pool.proofs.settle.turn.Goals as goal
+use Rattle.pool.proofs.settle.turn.Goals.{At-loop-k}
 
-pub loop-j-init : goal.loop-j-init
-loop-j-init c = (c.requires.0, omega arith, c.requires.1, refl, refl)
-
-pub overflow_sub-j : goal.overflow_sub-j
-overflow_sub-j c = omega arith
-
-pub overflow_sub-j-in-loop-j : goal.overflow_sub-j-in-loop-j
-overflow_sub-j-in-loop-j c = omega arith
-
-pub load-x-requires : goal.load-x-requires
-load-x-requires c = omega arith
+-- there are as many records as before
+long : (c : At-loop-k) → length (records c.loop-k.w) ≡ length (records c.args.w.now)
+long c = same-records c.args.w.now c.loop-k.w (omega arith)
 
 pub load-y-requires : goal.load-y-requires
-load-y-requires c = omega arith
+load-y-requires c = omega (arith, long (goal.at.load-y-requires c).At-loop-k)
 
 pub store-requires : goal.store-requires
-store-requires c = omega arith
+store-requires c = omega (arith, long (goal.at.store-requires c).At-loop-k)
 
-pub store-requires-in-loop-j : goal.store-requires-in-loop-j
-store-requires-in-loop-j c = omega (arith, simp length-set at (ap length c.store.ensures))
+pub store-requires-in-loop-k : goal.store-requires-in-loop-k
+store-requires-in-loop-k c =
+    omega (arith, long (goal.at.store-requires-in-loop-k c).At-loop-k, simp length-set at (ap length c.store.ensures))
 
-pub overflow_add-i : goal.overflow_add-i
-overflow_add-i c = omega arith
-
-pub loop-j-smaller : goal.loop-j-smaller
-loop-j-smaller c = omega arith
-
-pub loop-j-preserved : goal.loop-j-preserved
-loop-j-preserved c =
-    let stored = c.store.ensures in
-    let stored2 = c.store-in-loop-j.ensures in (
-      omega arith,
-      omega arith,
-      omega (arith, simp length-set at (ap length stored), simp length-set at (ap length stored2)),
-      cc,
-      turn_again _ _ (records c.loop-j.w) _ _ empty_record _ _ (omega arith) (omega arith) (cc) (cc) stored stored2
-          ∙ c.loop-j.invariant.4,
-    )
-
-pub shape_of-w : goal.shape_of-w
-shape_of-w c = c.loop-j.invariant.3
+pub loop-k-preserved : goal.loop-k-preserved
+loop-k-preserved c =
+    let a = c.args in
+    let k = c.loop-k.k in
+    turn_again (a.from + k) (a.to - k) (a.to - 1 - k) _ _ (records c.loop-k.w) _ _ empty_record _ _ (omega arith) (omega arith) (omega arith)
+    (omega arith) (omega (arith, long (goal.at.loop-k-preserved c).At-loop-k)) c.load-x.ensures c.load-y.ensures c.store.ensures
+    c.store-in-loop-k.ensures
+    ∙ c.loop-k.invariant
 
 pub returns : goal.returns
 returns c =
-    let s = c.loop-j in
-    sym (turn_ends s.i s.j (records s.w) (omega arith) (omega arith) (omega arith)) ∙ s.invariant.4
+    let a = c.args in
+    let k = c.loop-k.k in
+    let inside = long (goal.at.returns c).At-loop-k in
+    sym (turn_ends (a.from + k) (a.to - k) (records c.loop-k.w) (omega arith) (omega arith) (omega arith)) ∙ c.loop-k.invariant
