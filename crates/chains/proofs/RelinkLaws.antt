@@ -1,7 +1,7 @@
 -- Linking a lane from nothing.
 --   relinked_same, relinked_on, relinked_more    what changes of the pool's records
 --   Relinking                                    the lane's first k records are linked, one after the other
-use mathlib.Core.Path.{◌≡◌, refl, sym, ap, subst, ◌∙◌}
+use mathlib.Core.Path.{◌≡◌, refl, sym, ap, ◌∙◌}
 use mathlib.Core.List.{List}
 use mathlib.Core.Logic.{◌⊎◌, inl, inr, ◌≢◌}
 use Prim.Native.Nat.{ℕ, suc, ◌+◌, ◌≤◌, ◌<◌}
@@ -89,17 +89,9 @@ module _
         inside : place_of p.end (suc k) < length recs
         inside = omega (arith, lies.inside k more, l.relinked.same_length)
 
-    pub relinking_room : place_of p.end (k + 1) < length recs
-    relinking_room = rw (add-one k) (omega (arith, lies.inside k more, l.relinked.same_length))
-
     pub relinking_again :
         {recs' : List Record} {index' : List ℕ} {i : ℕ} {x y : Record} → i ≡ place_of p.end (k + 1) → x ≡ sized (get_or recs i empty_record)
         → y ≡ joined_of p index x → recs' ≡ set recs i y → index' ≡ index_with p (k + 1) index x → Relinking recs₀ p index₀ recs' index' (k + 1)
     relinking_again {i = i} {x} {y} place read linked stored new =
         let here : i ≡ place_of p.end (suc k) = place ∙ rw (add-one k) in
         rw (stored, new, linked, read, here, add-one k) relinking_next
-
-pub relinking_ends :
-    (recs₀ : List Record) (p : Lane) (index₀ : List ℕ) (recs : List Record) (index : List ℕ) (k : ℕ)
-    → Relinking recs₀ p index₀ recs index k → k ≡ p.count → Chained recs p index
-relinking_ends recs₀ p index₀ recs index k l e = subst (λ (n : ℕ). Chained recs (counting p n) index) e l.chained
