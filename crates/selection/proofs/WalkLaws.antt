@@ -1,6 +1,6 @@
 -- Walks from one number to another, from the front or from the end, and what they have passed.
 --   nth_in                                     where a walk stands
---   walked_none, walked_more, walked_all       what holds of all that is passed: at the start, a number further, at the end
+--   walked_more, walked_all                    what holds of all that is passed: a number further, at the end
 --   walked_before                              what comes before a walk's number is passed
 --   before_block                               the block of a place that comes before another's, if it is another block
 use mathlib.Core.Path.{◌≡◌}
@@ -44,10 +44,6 @@ module _ (late : Bool) (from to c r : ℕ) (e : r ≡ nth_of late from to c) whe
       go : (b : Bool) → r ≡ nth_of b from to c → Walked b from to c Q → (j : ℕ) → from ≤ j → j < to → Before b j r → Q j
       go true same w j low high h = w j low high (omega arith)
       go false same w j low high h = w j low high (omega arith)
-
-pub walked_none : (late : Bool) (from to : ℕ) (Q : ℕ → Type 0) → Walked late from to 0 Q
-walked_none true from to Q j low high p = absurd (omega arith)
-walked_none false from to Q j low high p = absurd (omega arith)
 
 pub walked_all : (late : Bool) (from to c : ℕ) (Q : ℕ → Type 0) → to ≤ from + c → Walked late from to c Q → (j : ℕ) → from ≤ j → j < to → Q j
 walked_all true from to c Q h w j low high = w j low high (omega arith)

@@ -47,8 +47,8 @@ fn counted(r: Run, best: Best, generated: usize, layout: Layout) -> Run
     let before = r.layout;
     let gone = before.active - 1 + generated - layout.active;
     Run {
-        layout: layout,
-        best: best,
+        layout,
+        best,
         branched: r.branched + 1,
         generated: r.generated + generated as u64,
         eliminated: r.eliminated + gone as u64,
@@ -83,10 +83,10 @@ fn expand(
     let limit = limit_of(setting.rules, best.upper);
     let alive = survivors(setting, kids, born, w, r.layout, index, limit);
     Expanded {
-        born: born,
-        alive: alive,
-        limit: limit,
-        best: best,
+        born,
+        alive,
+        limit,
+        best,
     }
 }
 

@@ -88,27 +88,18 @@ loop-s-init c =
 turn : (c : In-Some) → In c.in-Some.s (stops_in c.ready-born.result)
 turn c = c.loop-s.invariant.1.passed.among c.in-Some.s c.in-Some.ensures.steps.0.member
 
-bears :
-    (c : In-Some) →
-    let a = c.args in
-    let s = c.in-Some.s in
-    let leg = get_or c.child_costs-costs.result.legs s 0 in
-    let ahead = ahead_of c.child_costs-costs.result.family (get_or c.child_costs-costs.new.into s 0) s in
-    Kid a.setting a.t a.b s leg ahead → Bears a.b s leg ahead
-bears c its = kid_bears its
-
 pub added-ahead-requires : goal.added-ahead-requires
 unfolding rest_of
 added-ahead-requires c =
     let s = c.in-Some.s in
-    (c.child_costs-costs.ensures.gives.less s (stays (goal.at.added-ahead-requires c).After-child_costs-costs s (turn (goal.at.added-ahead-requires c).In-Some)), omega (arith, (bears (goal.at.added-ahead-requires c).In-Some (kid (goal.at.added-ahead-requires c).After-child_costs-costs c.in-Some.s (turn (goal.at.added-ahead-requires c).In-Some))).fits))
+    let own = turn (goal.at.added-ahead-requires c).In-Some in
+    let d = (goal.at.added-ahead-requires c).After-child_costs-costs in
+    (c.child_costs-costs.ensures.gives.less s (stays d s own), omega (arith, (kid_bears (kid d s own)).fits))
 
 pub child-requires : goal.child-requires
-child-requires c = rw c.added-ahead.ensures (bears (goal.at.child-requires c).In-Some (kid (goal.at.child-requires c).After-child_costs-costs c.in-Some.s (turn (goal.at.child-requires c).In-Some)))
-
-pub store-requires : goal.store-requires
-store-requires c =
-    omega (arith, c.slot.ensures, c.in-Some.ensures.steps.0, c.loop-s.invariant.1.room)
+child-requires c =
+    rw c.added-ahead.ensures
+    (kid_bears (kid (goal.at.child-requires c).After-child_costs-costs c.in-Some.s (turn (goal.at.child-requires c).In-Some)))
 
 pub loop-s-preserved : goal.loop-s-preserved
 loop-s-preserved c =
@@ -131,20 +122,5 @@ returns c =
       room = l.room;
     }
 
-pub overflow_shl-rest : goal.overflow_shl-rest
-overflow_shl-rest c = let h = c.requires.0.few in omega arith
-
-pub overflow_sub-rest : goal.overflow_sub-rest
-overflow_sub-rest c = omega (arith, sums (goal.at.overflow_sub-rest c).Start)
-
 pub overflow_sub-rest-2 : goal.overflow_sub-rest-2
 overflow_sub-rest-2 c = omega (arith, sums (goal.at.overflow_sub-rest-2 c).Start)
-
-pub slice_bounds-child_costs-end : goal.slice_bounds-child_costs-end
-slice_bounds-child_costs-end c = refl
-
-pub slot-requires : goal.slot-requires
-slot-requires c = c.in-Some.ensures.steps.0.some
-
-pub shape_of-kids : goal.shape_of-kids
-shape_of-kids c = c.loop-s.invariant.0
