@@ -14,7 +14,7 @@ use Rattle.stops.proofs.SetLoops.{passed_ends}
 use Rattle.pairs.specs.Code.{pairs_in}
 use Rattle.carried.specs.Code.{ahead_of}
 use Rattle.records.proofs.Mask.{rest_small}
-use Rattle.children.specs.Code.{rest_of, born_of, Bears}
+use Rattle.children.specs.Code.{rest_of, born_of}
 use Rattle.children.proofs.FamilyLaws.{rest_sum, placing_starts, placing_again}
 use Rattle.children.proofs.KidLaws.{Kid, kid_bears, kid_made}
 use Rattle.children.proofs.family.family.Goals as goal
@@ -82,11 +82,11 @@ kid c s i =
 pub loop-s-init : goal.loop-s-init
 loop-s-init c =
     rw (c.into_iter-s-iterator.ensures.into_iter_gives, c.stops_of-s-items.ensures)
-    (refl, placing_starts refl c.ready-born.ensures.small c.requires.1.1)
+    (placing_starts refl c.ready-born.ensures.small c.requires.1.1)
 
 -- the stop of a turn is one of them
 turn : (c : In-Some) → In c.in-Some.s (stops_in c.ready-born.result)
-turn c = c.loop-s.invariant.1.passed.among c.in-Some.s c.in-Some.ensures.steps.0.member
+turn c = c.loop-s.invariant.passed.among c.in-Some.s c.in-Some.ensures.steps.0.member
 
 pub added-ahead-requires : goal.added-ahead-requires
 unfolding rest_of
@@ -103,17 +103,15 @@ child-requires c =
 
 pub loop-s-preserved : goal.loop-s-preserved
 loop-s-preserved c =
-    let l = c.loop-s in (
-      c.store.auto.w ∙ l.invariant.0,
-      placing_again l.invariant.1 c.in-Some.ensures.steps.0 c.in-Some.ensures.steps.1
-          (c.child.ensures
-          ∙ ap (born_of c.args.b c.in-Some.s (leg_of (goal.at.loop-s-preserved c).After-child_costs-costs c.in-Some.s)) c.added-ahead.ensures)
-          (rw c.slot.ensures at c.store.ensures),
-    )
+    let steps = c.in-Some.ensures.steps in
+    placing_again c.loop-s.invariant steps.0 steps.1
+    (c.child.ensures
+    ∙ ap (born_of c.args.b c.in-Some.s (leg_of (goal.at.loop-s-preserved c).After-child_costs-costs c.in-Some.s)) c.added-ahead.ensures)
+    (rw c.slot.ensures at c.store.ensures)
 
 pub returns : goal.returns
 returns c =
-    let l = c.loop-s.invariant.1 in
+    let l = c.loop-s.invariant in
     let r = c.ready-born.ensures in
     record {
       small = r.small;
