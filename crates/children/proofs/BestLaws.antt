@@ -2,7 +2,7 @@
 --   replaces, replaces_dearer, replaces_cheaper, replaces_tied    whether a complete child goes before what is known
 --   learn_keeps, learn-replaces            of one child
 --   learn-none, learn_more                 of a list without a complete child, and of one child in front of a list
---   Learning, learning_starts, learning_again, learning_ends    the invariant of the loop over the children in their slots
+--   Learning, learning_again, learning_ends    the invariant of the loop over the children in their slots
 use mathlib.Core.Path.{◌≡◌, refl, sym, ◌∙◌}
 use mathlib.Core.Bool.{Bool, true, false, ◌&&◌, ◌||◌, and-false, or-false}
 use mathlib.Core.List.Memᴰ
@@ -89,10 +89,6 @@ pub record Learning (size : ℕ) (kids : List Record) (born : ℕ) (known₀ kno
   pub small : left < 2 ^ most_stops
   pub among : (s : ℕ) → In s (stops_in left) → In s (stops_in born)
   pub same : (d : Setting) (b : Best) → size ≡ d.n → Learnt d known (slots left kids) b → Learnt d known₀ (slots born kids) b
-
-pub learning_starts :
-    {size : ℕ} {kids : List Record} {born : ℕ} {known : Best} → born < 2 ^ most_stops → Learning size kids born known known born
-learning_starts h = record { small = h; among = λ s i. i; same = λ d b n learnt. learnt }
 
 module _ {size : ℕ} {kids : List Record} {born : ℕ} {known₀ known : Best} {left : ℕ} (l : Learning size kids born known₀ known left) where
   pub learning_again :

@@ -1,17 +1,13 @@
 -- The goals of `best::learn` that the search leaves.
 use mathlib.Core.Path.{sym, ◌∙◌}
 use Rattle.records.specs.Code.{records, in_slot, slots}
-use Rattle.children.proofs.BestLaws.{learn-none, learning_starts, learning_again, learning_ends}
+use Rattle.children.proofs.BestLaws.{learn-none, learning_again, learning_ends}
 use Rattle.children.proofs.best.learn.Goals as goal
 
 pub returns-then-size-setting : goal.returns-then-size-setting
 returns-then-size-setting c =
     let a = c.args in
     learn-none a.setting a.best (slots a.born (records a.kids.now)) (λ x i e. c.if-size-setting.true (sym (c.requires.1 x i) ∙ e))
-
-pub loop-s-init : goal.loop-s-init
-loop-s-init c =
-    rw (c.into_iter-s-iterator.ensures.into_iter_gives, c.stops_of-s-items.ensures) (learning_starts c.requires.0.small)
 
 pub loop-s-preserved : goal.loop-s-preserved
 unfolding in_slot
