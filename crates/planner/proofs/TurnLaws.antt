@@ -13,6 +13,7 @@ use native.Mathlib.Omega.{arith}
 use lib.Dec.{T, ltb, eqb}
 use lib.ListN.{length, length-map}
 use borrow.Author.Tests.{eqb-false, lt-ltb, le-ltb}
+use Rattle.std.specs.Prelude.{None, Some}
 use Rattle.sizes.specs.Sizes.{most_stops}
 use Rattle.lists.specs.Lists.{In}
 use Rattle.lists.proofs.Members.{in_map}
@@ -44,7 +45,6 @@ use Rattle.children.proofs.RecordRun.{record_maps}
 use Rattle.children.proofs.SettingLaws.{setting_lawful, setting_bounds, setting_solvable, setting_counts, choice_selection, choice_rules, given_known, given_valid, encode-size}
 use Rattle.step.specs.Code.{Ready, Shown, held_of, active_in, node_at, rest_at, step_of, Stepping}
 use Rattle.step.specs.declared.Run.{Run}
-use Rattle.step.specs.declared.After.TheVariants.{Full as FullAfter, Go as GoAfter}
 use Rattle.planner.specs.Code.{records_of, Running, Turned}
 use Rattle.planner.specs.declared.run.Turn.TheVariants.{Finish, Stop, Full, Go}
 use Rattle.planner.proofs.StartLaws.{root_within}
@@ -249,12 +249,12 @@ module _
             put_to_pool = shown-next ∙ rw (goes_on, lt-ltb r.branched d.budget allowed)
 
             pub turn_full :
-                {w' : List ℕ} → Stepping d t (node_at w i) (rest_at w r i) w w' index (records_of d t s) FullAfter → Turned d t w w' index s Full
+                {w' : List ℕ} → Stepping d t (node_at w i) (rest_at w r i) w w' index (records_of d t s) None → Turned d t w w' index s Full
             unfolding fitting rec_choices
             turn_full (over, same) = (unmap_overflow f _ (sym next-shown ∙ put_to_pool ∙ rw (lt-ltb _ _ over)), same)
 
             pub turn_goes :
-                {w' index' : List ℕ} {r' : Run} → Stepping d t (node_at w i) (rest_at w r i) w w' index' (records_of d t s) (GoAfter r')
+                {w' index' : List ℕ} {r' : Run} → Stepping d t (node_at w i) (rest_at w r i) w w' index' (records_of d t s) (Some r')
                 → Turned d t w w' index' s (Go r')
             unfolding fitting rec_choices records_of
             turn_goes {w'} {index'} {r'} (fits, shown) =

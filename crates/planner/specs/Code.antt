@@ -3,13 +3,14 @@
 --   records_of    a state with each node as its record
 --   Running      the run goes on at a state, which the pool and the counts show
 --   next_of       what comes next of it
---   Turned       what a turn gives
+--   Turned, Took    what a turn gives, and what it gives or is refused by
 --   reported, places_of, finished_by, full_by, stopped_by    the report of a run that has ended, and by how it ended
 --   links, layout_of, Roomy    the layout that a run begins with, by what its choices need, and an index with room for that
 --   rows_by, Begins    the rows that a setting goes by, and what the turns begin with
 --   Told, Settled, Ran    the turns have come to an end: what they tell of it, and how they leave the pool
 --   Ended        what is returned and left in the pool is what the call's run ends with
-use Rattle.std.specs.Prelude.{◌≡◌, Bool, cond, ◌&&◌, ◌||◌, List, [], ◌++◌, map, reverse, ◌⊎◌, ℕ, ◌+◌, ◌-◌, ◌≤◌, ◌<◌, T, eqb, ltb, length, get_or, replicate}
+--   told         the report that is returned, of a run or of a refusal
+use Rattle.std.specs.Prelude.{◌≡◌, Bool, cond, ◌&&◌, ◌||◌, List, [], ◌++◌, map, reverse, ◌⊎◌, ℕ, ◌+◌, ◌-◌, ◌≤◌, ◌<◌, T, eqb, ltb, length, get_or, replicate, Result, Ok, Err}
 use Rattle.std.proofs.Math.Option
 use Rattle.sizes.specs.Sizes.{order_places, above_every_cost}
 use Rattle.lists.specs.Lists.{from, padded, least}
@@ -24,8 +25,10 @@ use Rattle.stops.specs.Code.{empty_record}
 use Rattle.stops.specs.declared.node_record.Record.{Record}
 use Rattle.records.specs.Records.{stop_at, records_in}
 use Rattle.records.specs.Code.{records}
-use Rattle.answer.specs.Call.{Call, Answer}
+use Rattle.answer.specs.Call.{Call, Answer, refusal}
 use Rattle.answer.specs.declared.Report.{Report}
+use Rattle.answer.specs.declared.refusal.Refusal.{Refusal}
+use Rattle.answer.specs.Refusals.{number}
 use Rattle.answer.specs.Answer.{given, outcome, ending}
 use Rattle.children.specs.Code.{Table, Rows, pairs_by, problem_of, choices_of, encode_of}
 use Rattle.children.specs.declared.best.Best.{Best}
@@ -35,7 +38,7 @@ use Rattle.lanes.specs.declared.layout.Layout.{Layout}
 use Rattle.step.specs.Code.{Shown, active_in, far_in}
 use Rattle.step.specs.declared.Run.{Run}
 use Rattle.planner.specs.declared.run.Turn.{Turn}
-use Rattle.planner.specs.declared.run.Turn.TheVariants.{Finish, Stop, Full, Refused, Go}
+use Rattle.planner.specs.declared.run.Turn.TheVariants.{Finish, Stop, Full, Go}
 
 unfoldable pub records_of : Setting → Table → State Node → State Record
 records_of d t s = record {
@@ -59,14 +62,18 @@ pub record Running (d : Setting) (t : Table) (first w index : List ℕ) (r : Run
 abbrev pub next_of : Setting → Table → List ℕ → State Node → Next Node
 next_of d t w s = next (problem_of d t) (choices_of d t) (length (records w)) s
 
--- a turn as the written run has it: the run is finished, or the budget is spent, or the pool is full, or the selection is none that there is,
--- and the pool is as it was; or the pool shows the next state
+-- a turn as the written run has it: the run is finished, or the budget is spent, or the pool is full, and the pool is as it was; or the pool shows
+-- the next state
 abbrev pub Turned : Setting → Table → List ℕ → List ℕ → List ℕ → State Node → Turn → Type 0
 Turned d t w w' index' s Finish = (next_of d t w s ≡ finish) × (w' ≡ w)
 Turned d t w w' index' s Stop = (next_of d t w s ≡ halt) × (w' ≡ w)
 Turned d t w w' index' s Full = (next_of d t w s ≡ overflow) × (w' ≡ w)
-Turned d t w w' index' s (Refused number) = ((3 < d.selection) × (number ≡ 4)) × (w' ≡ w)
 Turned d t w w' index' s (Go r) = (s' : State Node) × (next_of d t w s ≡ go s') × Shown d w' index' r (records_of d t s')
+
+-- a turn, or the refusal of a selection that there is not, by number 4
+abbrev pub Took : Setting → Table → List ℕ → List ℕ → List ℕ → State Node → Result Turn Refusal → Type 0
+Took d t w w' index' s (Ok turn) = Turned d t w w' index' s turn
+Took d t w w' index' s (Err e) = (3 < d.selection) × (number e ≡ 4)
 
 -- a report with a number, a mark, a cost, a floor and an order's places, and the counts of a run
 unfoldable pub reported : ℕ → ℕ → ℕ → ℕ → List ℕ → Run → Report
@@ -160,3 +167,8 @@ pub record Ran (d : Setting) (t : Table) (first w : List ℕ) (q : Report) (w' :
 
 abbrev pub Ended : Call → Report → List ℕ → Type 0
 Ended c q pool = ◌≡◌ {A = Answer} (record { report = q; pool = pool }) (ending c (outcome c))
+
+-- the report of a call that ran, or of its refusal
+abbrev pub told : Result Report Refusal → Report
+told (Ok q) = q
+told (Err e) = refusal (number e)

@@ -5,6 +5,8 @@
 ghost use Rattle.std.specs.Prelude.{◌≡◌, ℕ};
 ghost use Rattle.answer.specs.Call.{call_of};
 ghost use Rattle.answer.specs.Checks.{cause};
+ghost use Rattle.answer.specs.Refusals.{number_in};
+ghost use Rattle.planner.specs.Code.{told};
 ghost use Rattle.planner.specs.Promise.{Promised};
 
 mod report;
@@ -12,29 +14,36 @@ mod run;
 
 use crate::report::refused;
 use crate::run::search;
+use answer::refusal::Refusal;
 use answer::{Job, Report};
 use checks::{job_cause, pair_cause};
 use sizes::RECORD_WORDS;
 
-// The number of the first of causes 1 to 6 and 11 that applies to a call, 0 if none does; whatever its budget.
-fn cause_of(job: Job, table: &[u32], start: &[u8], pairs: &[u8], pool: &[u32]) -> u32
-    ensures { (budget : ℕ) → result ≡ cause (call_of job table.now start.now pairs.now budget pool.now) }
+// The first of causes 1 to 6 and 11 that applies to a call, if one does; whatever its budget.
+fn checked(job: Job, table: &[u32], start: &[u8], pairs: &[u8], pool: &[u32]) -> Result<(), Refusal>
+    ensures { (budget : ℕ) → number_in result ≡ cause (call_of job table.now start.now pairs.now budget pool.now) }
 {
-    let number = job_cause(job, table, start);
-    if number != 0 {
-        return number;
+    job_cause(job, table, start)?;
+    pair_cause(job.n, start, pairs)?;
+    if pool.len() < RECORD_WORDS || pool.len() % RECORD_WORDS != 0 {
+        return Err(Refusal::Pool);
     }
-    let of_pairs = pair_cause(job.n, start, pairs);
-    if of_pairs != 0 {
-        return of_pairs;
-    }
-    if pool.len() < RECORD_WORDS {
-        return 6;
-    }
-    if pool.len() % RECORD_WORDS != 0 {
-        return 6;
-    }
-    0
+    Ok(())
+}
+
+// The report of a call that ran, or why it is refused.
+fn planned(
+    job: Job,
+    table: &[u32],
+    start: &[u8],
+    pairs: &[u8],
+    budget: u64,
+    pool: &mut [u32],
+) -> Result<Report, Refusal>
+    ensures { Promised (call_of job table.now start.now pairs.now budget pool.old) (told result) pool.new }
+{
+    checked(job, table, start, pairs, pool)?;
+    search(job, table, start, pairs, budget, pool)
 }
 
 // Puts the stops 1 to n into the cheapest order that respects the pairs, with as many branchings as the budget has at most. The report and the pool's
@@ -50,9 +59,8 @@ pub fn plan(
 ) -> Report
     ensures { Promised (call_of job table.now start.now pairs.now budget pool.old) result pool.new }
 {
-    let number = cause_of(job, table, start, pairs, pool);
-    if number != 0 {
-        return refused(number);
+    match planned(job, table, start, pairs, budget, pool) {
+        Ok(report) => report,
+        Err(refusal) => refused(refusal),
     }
-    search(job, table, start, pairs, budget, pool)
 }

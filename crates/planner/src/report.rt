@@ -2,19 +2,21 @@
 ghost use Rattle.std.specs.Prelude.{◌≡◌, ◌≤◌};
 ghost use Rattle.sizes.specs.Sizes.{most_stops};
 ghost use Rattle.answer.specs.Call.{refusal};
+ghost use Rattle.answer.specs.Refusals.{number};
 ghost use Rattle.planner.specs.Code.{reported, finished_by, full_by, stopped_by};
 
 use answer::Report;
+use answer::refusal::Refusal;
 use records::order::stops_of;
 use sizes::{ABOVE_EVERY_COST, ORDER_PLACES};
 use step::Run;
 
 // A refusal: its number, and zeros.
-pub fn refused(number: u32) -> Report
-    ensures { result ≡ refusal number }
+pub fn refused(cause: Refusal) -> Report
+    ensures { result ≡ refusal (number cause) }
 {
     Report {
-        number: number,
+        number: cause.into(),
         mark: 0,
         cost: 0,
         floor: 0,
@@ -33,11 +35,11 @@ fn ended(number: u32, mark: u32, cost: u32, floor: u32, order: [u8; ORDER_PLACES
 {
     let p = r.layout;
     Report {
-        number: number,
-        mark: mark,
-        cost: cost,
-        floor: floor,
-        order: order,
+        number,
+        mark,
+        cost,
+        floor,
+        order,
         branched: r.branched,
         generated: r.generated,
         eliminated: r.eliminated,

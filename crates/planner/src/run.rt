@@ -1,5 +1,6 @@
 // The run: one turn after another until the finish test ends it, the budget is spent or the pool is full.
-ghost use Rattle.std.specs.Prelude.{◌≡◌, false, List, [], ◌⊎◌, ℕ, ◌≤◌, eqb, length};
+ghost use Rattle.std.specs.Prelude.{◌≡◌, List, [], ◌⊎◌, ◌||◌, ℕ, ◌≤◌, eqb, length, T};
+ghost use Rattle.std.specs.Result.{IsOkAnd};
 ghost use Rattle.sizes.specs.Sizes.{most_stops};
 ghost use Rattle.search.specs.Problem.{State, start};
 ghost use Rattle.orders.specs.Orders.{Node, Order};
@@ -12,9 +13,11 @@ ghost use Rattle.answer.specs.Answer.{given};
 ghost use Rattle.pairs.specs.Code.{OfStops};
 ghost use Rattle.children.specs.Code.{setting_by, Rows, problem_of};
 ghost use Rattle.step.specs.Code.{Shown};
-ghost use Rattle.planner.specs.Code.{Running, Turned, links, layout_of, Roomy, rows_by, Begins, Ran, Ended, records_of};
+ghost use Rattle.lanes.specs.Sizes.{blocks, index_words};
+ghost use Rattle.planner.specs.Code.{Running, Turned, Took, links, layout_of, Roomy, rows_by, Begins, Ran, Ended, records_of};
 
-use crate::report::{finished, full, refused, stopped};
+use crate::report::{finished, full, stopped};
+use answer::refusal::Refusal;
 use answer::{Job, Report};
 use chains::join::hold;
 use children::best::started;
@@ -27,9 +30,9 @@ use lanes::sized_at;
 use pairs::precedence_of;
 use pool::rank::reranked;
 use pool::settle::settle;
-use selection::{Place, choose, floor};
+use selection::{choose, floor};
 use sizes::{ORDER_PLACES, PLACES, RECORD_WORDS};
-use step::{After, Run, step};
+use step::{Run, step};
 use stops::node_record::Record;
 use stops::table::rows;
 
@@ -45,7 +48,6 @@ pub enum Turn {
     Finish,
     Stop,
     Full,
-    Refused(u32),
     Go(Run),
 }
 
@@ -76,11 +78,10 @@ fn turn_at(
     if setting.budget <= r.branched {
         return Turn::Stop;
     }
-    let after = step(setting, t, w, i, r, kids, index);
-    let After::Go(next) = after else {
-        return Turn::Full;
-    };
-    Turn::Go(next)
+    match step(setting, t, w, i, r, kids, index) {
+        Some(next) => Turn::Go(next),
+        None => Turn::Full,
+    }
 }
 
 // One turn: the selection, then the turn of the node that it picks. The refusal of a selection that there is not is handed on.
@@ -91,25 +92,19 @@ fn take_turn(
     r: Run,
     kids: &mut [u32],
     index: &mut [u32],
-) -> Turn
+) -> Result<Turn, Refusal>
     requires { ((first : List ℕ) × (s : State Node) × Running setting t first w.old index.old r s) × (most_stops ≤ length (records kids.old)) }
-    ensures { (first : List ℕ) (s : State Node) → Running setting t first w.old index.old r s → Turned setting t w.old w.new index.new s result }
+    ensures { (first : List ℕ) (s : State Node) → Running setting t first w.old index.old r s → Took setting t w.old w.new index.new s result }
 {
-    let place = choose(w, r.layout, setting.n, setting.selection, index);
-    match place {
-        Place::At(i) => turn_at(setting, t, w, i, r, kids, index),
-        Place::Refused(number) => Turn::Refused(number),
-    }
+    let i = choose(w, r.layout, setting.n, setting.selection, index)?;
+    Ok(turn_at(setting, t, w, i, r, kids, index))
 }
 
 // Whether the chains of a lane are kept, in a pool of some capacity: a rule looks along them, and its records can be numbered by a word.
 fn links(rule: bool, capacity: usize) -> bool
     ensures { result ≡ links rule capacity }
 {
-    if rule {
-        return capacity < MOST_LINKED;
-    }
-    false
+    rule && capacity < MOST_LINKED
 }
 
 // The layout of a pool that holds nothing yet: what a setting does not need is not kept.
@@ -117,7 +112,7 @@ fn layout_of(setting: Setting, capacity: usize) -> Layout
     ensures { result ≡ layout_of setting capacity }
 {
     Layout {
-        capacity: capacity,
+        capacity,
         used: 0,
         active: 0,
         far: 0,
@@ -148,7 +143,7 @@ fn begun(
     reranked(w, q, index);
     Run {
         layout: q,
-        best: best,
+        best,
         branched: 0,
         generated: 1,
         eliminated: 0,
@@ -164,55 +159,49 @@ fn turns(
     w: &mut [u32],
     p: Layout,
     index: &mut [u32],
-) -> Report
+) -> Result<Report, Refusal>
     requires { Priced setting.n table.now × (Begins setting (rows_by setting table.now) start.now w.old p × Roomy p index.old) }
-    ensures { Ran setting (rows_by setting table.now) start.now w.old result w.new }
+    ensures { IsOkAnd result (λ q. Ran setting (rows_by setting table.now) start.now w.old q w.new) }
 {
     let t = rows(setting.n as usize, setting.bound, table);
     let mut r = begun(setting, t, start, w, p, index);
     let mut kids = [0u32; FAMILY_WORDS];
     loop {
-        let next = take_turn(setting, t, w, r, &mut kids, index);
+        let next = take_turn(setting, t, w, r, &mut kids, index)?;
         match next {
             Turn::Go(q) => {
                 r = q;
             }
             Turn::Finish => {
                 settle(w, r.layout);
-                return finished(setting.n, r);
+                return Ok(finished(setting.n, r));
             }
             Turn::Stop => {
                 let q = r.layout;
                 let least = floor(w, q.used);
                 settle(w, q);
-                return stopped(setting.n, least, r);
+                return Ok(stopped(setting.n, least, r));
             }
             Turn::Full => {
                 settle(w, r.layout);
-                return full(r);
-            }
-            Turn::Refused(number) => {
-                return refused(number);
+                return Ok(full(r));
             }
         }
     }
 }
 
-// The turns with a whole index, where chains are kept.
-fn linked_turns(setting: Setting, table: &[u32], start: &[u8], w: &mut [u32], p: Layout) -> Report
-    requires { Priced setting.n table.now × Begins setting (rows_by setting table.now) start.now w.old p }
-    ensures { Ran setting (rows_by setting table.now) start.now w.old result w.new }
+// The turns with an index of some words: a whole one where chains are kept, and one with room for the minima alone where none are.
+fn turns_over<const WORDS: usize>(
+    setting: Setting,
+    table: &[u32],
+    start: &[u8],
+    w: &mut [u32],
+    p: Layout,
+) -> Result<Report, Refusal>
+    requires { (Priced setting.n table.now × Begins setting (rows_by setting table.now) start.now w.old p) × ((WORDS ≤ index_words) × ((T p.ranked → blocks ≤ WORDS) × (T (p.linked || p.far_linked) → index_words ≤ WORDS))) }
+    ensures { IsOkAnd result (λ q. Ran setting (rows_by setting table.now) start.now w.old q w.new) }
 {
-    let mut index = [0u32; INDEX_WORDS];
-    turns(setting, table, start, w, p, &mut index)
-}
-
-// The turns with room for the minima alone, where no chains are.
-fn unlinked_turns(setting: Setting, table: &[u32], start: &[u8], w: &mut [u32], p: Layout) -> Report
-    requires { (Priced setting.n table.now × Begins setting (rows_by setting table.now) start.now w.old p) × ((p.linked ≡ false) × (p.far_linked ≡ false)) }
-    ensures { Ran setting (rows_by setting table.now) start.now w.old result w.new }
-{
-    let mut index = [0u32; BLOCKS];
+    let mut index = [0u32; WORDS];
     turns(setting, table, start, w, p, &mut index)
 }
 
@@ -226,7 +215,7 @@ fn setting_of(job: Job, pairs: &[u8], budget: u64) -> Setting
         selection: job.selection,
         rules: job.rules,
         bound: job.bound,
-        budget: budget,
+        budget,
         precedence: precedence_of(pairs),
     }
 }
@@ -239,17 +228,14 @@ pub fn search(
     pairs: &[u8],
     budget: u64,
     w: &mut [u32],
-) -> Report
+) -> Result<Report, Refusal>
     requires { cause (call_of job table.now start.now pairs.now budget w.old) ≡ 0 }
-    ensures { Ended (call_of job table.now start.now pairs.now budget w.old) result w.new }
+    ensures { IsOkAnd result (λ q. Ended (call_of job table.now start.now pairs.now budget w.old) q w.new) }
 {
     let setting = setting_of(job, pairs, budget);
     let p = layout_of(setting, w.len() / RECORD_WORDS);
-    if p.linked {
-        return linked_turns(setting, table, start, w, p);
+    if p.linked || p.far_linked {
+        return turns_over::<INDEX_WORDS>(setting, table, start, w, p);
     }
-    if p.far_linked {
-        return linked_turns(setting, table, start, w, p);
-    }
-    unlinked_turns(setting, table, start, w, p)
+    turns_over::<BLOCKS>(setting, table, start, w, p)
 }

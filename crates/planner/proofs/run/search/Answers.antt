@@ -1,6 +1,10 @@
 -- `search` meets its contract: the setting is that of the call, so the turns end as its run does (`EndLaws`), whatever index they have.
 use mathlib.Core.Path.{◌≡◌, refl, sym, subst}
 use mathlib.Core.List.{List}
+use Rattle.std.specs.Prelude.{Result, Ok, Err}
+use Rattle.std.specs.Result.{IsOkAnd}
+use native.Mathlib.Omega.{arith}
+use Rattle.answer.specs.declared.refusal.Refusal.{Refusal}
 use Prim.Native.Nat.{ℕ}
 use Rattle.stops.specs.Code.{Priced}
 use Rattle.records.specs.Records.{records_in}
@@ -49,31 +53,27 @@ begins c =
 
 -- and how they end
 ends :
-    (c : After-layout_of-p) {q : Report} {w : List ℕ}
+    (c : After-layout_of-p) (q : Result Report Refusal) (w : List ℕ)
     → let d = c.setting_of-setting.result in
     let a = c.args in
-    Ran d (rows_by d a.table.now) a.start.now a.w.now q w → Ended (call c.before.before.before.before.before.before.before) q w
+    IsOkAnd q (λ x. Ran d (rows_by d a.table.now) a.start.now a.w.now x w) → IsOkAnd q (λ x. Ended (call c.before.before.before.before.before.before.before) x w)
 unfolding call_of
-ends c {q} {w} ran =
+ends c (Ok q) w ran =
     let a = c.args in
     run_ends _ c.requires refl
     (subst (λ (d : Setting). Ran d (rows_by d a.table.now) a.start.now a.w.now q w) c.setting_of-setting.ensures ran)
+ends c (Err e) w h = h
 
 pub returns-then-p : goal.returns-then-p
-returns-then-p c = ends (goal.at.returns-then-p c).After-layout_of-p c.linked_turns.ensures
-
-pub returns-then-p-2 : goal.returns-then-p-2
-returns-then-p-2 c = ends (goal.at.returns-then-p-2 c).After-layout_of-p c.linked_turns-then-p-2.ensures
-
-pub unlinked_turns-requires : goal.unlinked_turns-requires
-unlinked_turns-requires c =
-    (begins (goal.at.unlinked_turns-requires c).After-layout_of-p, (c.if-p.false, c.if-p-2.false))
+returns-then-p c = ends (goal.at.returns-then-p c).After-layout_of-p c.turns_over.result _ c.turns_over.ensures
 
 pub returns : goal.returns
-returns c = ends (goal.at.returns c).After-layout_of-p c.unlinked_turns.ensures
+returns c = ends (goal.at.returns c).After-layout_of-p c.turns_over-2.result _ c.turns_over-2.ensures
 
-pub linked_turns-requires : goal.linked_turns-requires
-linked_turns-requires c = begins (goal.at.linked_turns-requires c).After-layout_of-p
+pub turns_over-requires : goal.turns_over-requires
+turns_over-requires c =
+    (begins (goal.at.turns_over-requires c).After-layout_of-p, (omega arith, ((λ h. omega arith), (λ h. omega arith))))
 
-pub linked_turns-requires-then-p-2 : goal.linked_turns-requires-then-p-2
-linked_turns-requires-then-p-2 c = begins (goal.at.linked_turns-requires-then-p-2 c).After-layout_of-p
+pub turns_over-requires-2 : goal.turns_over-requires-2
+turns_over-requires-2 c =
+    (begins (goal.at.turns_over-requires-2 c).After-layout_of-p, (omega arith, ((λ h. omega arith), (λ h. absurd (rw (c.if-p.false, c.if-p-2.false) at h)))))

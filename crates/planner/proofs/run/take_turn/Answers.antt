@@ -1,24 +1,15 @@
 -- `take_turn` meets its contract: the turn of the node that the selection picks, or the refusal of a selection that there is not.
-use mathlib.Core.Path.{◌≡◌, refl}
-use Rattle.records.specs.Code.{records}
-use Rattle.selection.specs.Code.{Chose}
-use Rattle.selection.specs.declared.Place.{Place}
+use Rattle.std.proofs.lemmas.Result.{err_from_is_err_and}
 use Rattle.planner.proofs.TurnLaws.{turn_chooses}
 use Rattle.planner.proofs.run.take_turn.Goals as goal
-use Rattle.planner.proofs.run.take_turn.Goals.{After-choose-place}
 
--- what was chosen, by the answer of `choose`
-chose :
-    (c : After-choose-place) (place : Place) → c.choose-place.result ≡ place
-    → let a = c.args in Chose a.setting.n (records a.w.now) a.r.layout.used a.setting.selection place
-chose c place e = rw (← e) c.choose-place.ensures
+pub choose-requires : goal.choose-requires
+choose-requires c = turn_chooses c.requires.0.2
 
 pub turn_at-requires : goal.turn_at-requires
-turn_at-requires c =
-    ((chose (goal.at.turn_at-requires c).After-choose-place _ c.in-At.is, c.requires.0), c.requires.1)
+turn_at-requires c = ((c.in_ok-i.ensures, c.requires.0), c.requires.1)
 
-pub returns-in-Refused : goal.returns-in-Refused
-returns-in-Refused c first s running = (chose (goal.at.returns-in-Refused c).After-choose-place _ c.in-Refused.is, refl)
-
-pub choose-place-requires : goal.choose-place-requires
-choose-place-requires c = turn_chooses c.requires.0.2
+pub returns-in_err-i : goal.returns-in_err-i
+returns-in_err-i c first s running =
+    let (e, is, same) = err_from_is_err_and c.from_residual.result c.from_residual.ensures.1 in
+    rw (is, same) c.in_err-i.ensures

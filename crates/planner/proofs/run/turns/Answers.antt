@@ -14,18 +14,18 @@ use Rattle.planner.specs.Code.{Turned, rows_by, Begins, Ran, stopped_by}
 use Rattle.planner.specs.declared.run.Turn.{Turn}
 use Rattle.planner.proofs.SearchLaws.{run_begins, turn_keeps, turn_falls, settle_ready, floor-ready, turns_end}
 use Rattle.planner.proofs.run.turns.Goals as goal
-use Rattle.planner.proofs.run.turns.Goals.{After-rows-t, After-take_turn-next, At-loop-q}
+use Rattle.planner.proofs.run.turns.Goals.{After-rows-t, In_ok-next, At-loop-next}
 
 -- the pool and the index after the turn
-abbrev pool : After-take_turn-next → List ℕ
-pool c = c.take_turn-next.new.w
+abbrev pool : In_ok-next → List ℕ
+pool c = c.take_turn.new.w
 
-abbrev kept_index : After-take_turn-next → List ℕ
-kept_index c = c.take_turn-next.new.index
+abbrev kept_index : In_ok-next → List ℕ
+kept_index c = c.take_turn.new.index
 
 -- the pool and the index at the loop's head have the length they had at the entry
-long : (c : At-loop-q) → length c.loop-q.w ≡ length c.args.w.now
-long c = c.loop-q.invariant.0.0 ∙ c.begun-r.auto.w
+long : (c : At-loop-next) → length c.loop-next.w ≡ length c.args.w.now
+long c = c.loop-next.invariant.0.0 ∙ c.begun-r.auto.w
 
 -- the rows are those of the table
 its_rows : (c : After-rows-t) → let a = c.args in c.rows-t.result ≡ rows_by a.setting a.table.now
@@ -38,52 +38,52 @@ begins c =
     subst (λ (t : Table). Begins a.setting t a.start.now a.w.now a.p) (sym (its_rows c)) c.requires.1.0
 
 -- what the turn then gives, and that the pool keeps its length
-abbrev Gives : After-take_turn-next → Turn → Type 0
+abbrev Gives : In_ok-next → Turn → Type 0
 Gives c q =
-    let loop = c.loop-q in
+    let loop = c.loop-next in
     Turned c.args.setting c.rows-t.result loop.w (pool c) (kept_index c) loop.invariant.1.0 q
 
-turned : (c : After-take_turn-next) (q : Turn) → c.take_turn-next.result ≡ q → Gives c q
-turned c q e = let inv = c.loop-q.invariant in subst (Gives c) e (c.take_turn-next.ensures _ inv.1.0 inv.1.1)
+turned : (c : In_ok-next) (q : Turn) → c.in_ok-next.next ≡ q → Gives c q
+turned c q e = let inv = c.loop-next.invariant in subst (Gives c) e (c.in_ok-next.ensures _ inv.1.0 inv.1.1)
 
-kept : (c : After-take_turn-next) → length (pool c) ≡ length c.loop-q.w
-kept c = c.take_turn-next.auto.w
+kept : (c : In_ok-next) → length (pool c) ≡ length c.loop-next.w
+kept c = c.take_turn.auto.w
 
 -- and so does the index
-even : (c : After-take_turn-next) → length (kept_index c) ≡ length c.args.index.now
-even c = c.take_turn-next.auto.index ∙ c.loop-q.invariant.0.1.0 ∙ c.begun-r.auto.index
+even : (c : In_ok-next) → length (kept_index c) ≡ length c.args.index.now
+even c = c.take_turn.auto.index ∙ c.loop-next.invariant.0.1.0 ∙ c.begun-r.auto.index
 
 pub begun-r-requires : goal.begun-r-requires
 begun-r-requires c =
     let b = begins (goal.at.begun-r-requires c).After-rows-t in
     ((b.rows, (start_too (λ a. a.order) b.starts, b.room)), (b.empty, c.requires.1.1))
 
-pub loop-q-init : goal.loop-q-init
-loop-q-init c =
-    ((refl, (refl, omega arith)), (_, run_begins (begins (goal.at.loop-q-init c).After-rows-t) c.begun-r.ensures))
+pub loop-next-init : goal.loop-next-init
+loop-next-init c =
+    ((refl, (refl, omega arith)), (_, run_begins (begins (goal.at.loop-next-init c).After-rows-t) c.begun-r.ensures))
 
-pub take_turn-next-requires : goal.take_turn-next-requires
-take_turn-next-requires c =
-    let loop = c.loop-q in
+pub take_turn-requires : goal.take_turn-requires
+take_turn-requires c =
+    let loop = c.loop-next in
     ((_, loop.invariant.1.0, loop.invariant.1.1), omega (arith, length-records loop.kids))
 
-pub loop-q-smaller : goal.loop-q-smaller
-loop-q-smaller c =
-    turn_falls c.loop-q.invariant.1.1 (turned (goal.at.loop-q-smaller c).After-take_turn-next _ c.in-Go.is) (kept (goal.at.loop-q-smaller c).After-take_turn-next)
+pub loop-next-smaller : goal.loop-next-smaller
+loop-next-smaller c =
+    turn_falls c.loop-next.invariant.1.1 (turned (goal.at.loop-next-smaller c).In_ok-next _ c.in-Go.is) (kept (goal.at.loop-next-smaller c).In_ok-next)
 
-pub loop-q-preserved : goal.loop-q-preserved
-loop-q-preserved c =
-    let inv = c.loop-q.invariant in (
+pub loop-next-preserved : goal.loop-next-preserved
+loop-next-preserved c =
+    let inv = c.loop-next.invariant in (
       (
-        kept (goal.at.loop-q-preserved c).After-take_turn-next ∙ inv.0.0,
-        (c.take_turn-next.auto.index ∙ inv.0.1.0, c.take_turn-next.auto.kids ∙ inv.0.1.1),
+        kept (goal.at.loop-next-preserved c).In_ok-next ∙ inv.0.0,
+        (c.take_turn.auto.index ∙ inv.0.1.0, c.take_turn.auto.kids ∙ inv.0.1.1),
       ),
-      turn_keeps inv.1.1 (turned (goal.at.loop-q-preserved c).After-take_turn-next _ c.in-Go.is) (kept (goal.at.loop-q-preserved c).After-take_turn-next),
+      turn_keeps inv.1.1 (turned (goal.at.loop-next-preserved c).In_ok-next _ c.in-Go.is) (kept (goal.at.loop-next-preserved c).In_ok-next),
     )
 
 -- what comes to an end over the rows does so over the table's
 over :
-    (c : After-take_turn-next) {q : Report} {w : List ℕ}
+    (c : In_ok-next) {q : Report} {w : List ℕ}
     → let a = c.args in Ran a.setting c.rows-t.result a.start.now a.w.now q w
     → Ran a.setting (rows_by a.setting a.table.now) a.start.now a.w.now q w
 over c {q} {w} ran =
@@ -91,83 +91,78 @@ over c {q} {w} ran =
     subst (λ (t : Table). Ran a.setting t a.start.now a.w.now q w) c.rows-t.ensures ran
 
 -- as many stops as there may be
-few : (c : After-take_turn-next) → c.args.setting.n ≤ most_stops
+few : (c : In_ok-next) → c.args.setting.n ≤ most_stops
 few c = c.requires.0.few
 
 -- where the turn ends the run, `settle` has what it asks
 settles :
-    (c : After-take_turn-next)
-    → let p = c.loop-q.r.layout in (p.capacity ≡ length (records (pool c))) × (p.used + p.far ≤ p.capacity)
-settles c = settle_ready c.loop-q.invariant.1.1 (pool c) (kept c)
+    (c : In_ok-next)
+    → let p = c.loop-next.r.layout in (p.capacity ≡ length (records (pool c))) × (p.used + p.far ≤ p.capacity)
+settles c = settle_ready c.loop-next.invariant.1.1 (pool c) (kept c)
 
 pub shape_of-w-in-Finish : goal.shape_of-w-in-Finish
 shape_of-w-in-Finish c =
-    c.settle.auto.w ∙ kept (goal.at.shape_of-w-in-Finish c).After-take_turn-next ∙ long (goal.at.shape_of-w-in-Finish c).At-loop-q
+    c.settle.auto.w ∙ kept (goal.at.shape_of-w-in-Finish c).In_ok-next ∙ long (goal.at.shape_of-w-in-Finish c).At-loop-next
 
 pub shape_of-index-in-Finish : goal.shape_of-index-in-Finish
-shape_of-index-in-Finish c = even (goal.at.shape_of-index-in-Finish c).After-take_turn-next
+shape_of-index-in-Finish c = even (goal.at.shape_of-index-in-Finish c).In_ok-next
 
 pub returns-in-Finish : goal.returns-in-Finish
 returns-in-Finish c =
-    over (goal.at.returns-in-Finish c).After-take_turn-next
-    (turns_end c.loop-q.invariant.1.1 (long (goal.at.returns-in-Finish c).At-loop-q) (turned (goal.at.returns-in-Finish c).After-take_turn-next _ c.in-Finish.is)
+    over (goal.at.returns-in-Finish c).In_ok-next
+    (turns_end c.loop-next.invariant.1.1 (long (goal.at.returns-in-Finish c).At-loop-next) (turned (goal.at.returns-in-Finish c).In_ok-next _ c.in-Finish.is)
     c.settle.auto.w c.settle.ensures c.finished.ensures)
 
 pub floor-least-requires : goal.floor-least-requires
 floor-least-requires c =
-    floor-ready c.loop-q.invariant.1.1 (turned (goal.at.floor-least-requires c).After-take_turn-next _ c.in-Stop.is).1
+    floor-ready c.loop-next.invariant.1.1 (turned (goal.at.floor-least-requires c).In_ok-next _ c.in-Stop.is).1
 
 pub shape_of-w-in-Stop : goal.shape_of-w-in-Stop
 shape_of-w-in-Stop c =
-    c.settle-in-Stop.auto.w ∙ kept (goal.at.shape_of-w-in-Stop c).After-take_turn-next ∙ long (goal.at.shape_of-w-in-Stop c).At-loop-q
+    c.settle-in-Stop.auto.w ∙ kept (goal.at.shape_of-w-in-Stop c).In_ok-next ∙ long (goal.at.shape_of-w-in-Stop c).At-loop-next
 
 pub shape_of-index-in-Stop : goal.shape_of-index-in-Stop
-shape_of-index-in-Stop c = even (goal.at.shape_of-index-in-Stop c).After-take_turn-next
+shape_of-index-in-Stop c = even (goal.at.shape_of-index-in-Stop c).In_ok-next
 
 pub returns-in-Stop : goal.returns-in-Stop
 returns-in-Stop c =
-    over (goal.at.returns-in-Stop c).After-take_turn-next
-    (turns_end c.loop-q.invariant.1.1 (long (goal.at.returns-in-Stop c).At-loop-q) (turned (goal.at.returns-in-Stop c).After-take_turn-next _ c.in-Stop.is)
+    over (goal.at.returns-in-Stop c).In_ok-next
+    (turns_end c.loop-next.invariant.1.1 (long (goal.at.returns-in-Stop c).At-loop-next) (turned (goal.at.returns-in-Stop c).In_ok-next _ c.in-Stop.is)
     c.settle-in-Stop.auto.w c.settle-in-Stop.ensures
-    (c.stopped.ensures ∙ ap (λ (m : ℕ). stopped_by c.args.setting.n m c.loop-q.r) c.floor-least.ensures))
+    (c.stopped.ensures ∙ ap (λ (m : ℕ). stopped_by c.args.setting.n m c.loop-next.r) c.floor-least.ensures))
 
 pub shape_of-w-in-Full : goal.shape_of-w-in-Full
 shape_of-w-in-Full c =
-    c.settle-in-Full.auto.w ∙ kept (goal.at.shape_of-w-in-Full c).After-take_turn-next ∙ long (goal.at.shape_of-w-in-Full c).At-loop-q
+    c.settle-in-Full.auto.w ∙ kept (goal.at.shape_of-w-in-Full c).In_ok-next ∙ long (goal.at.shape_of-w-in-Full c).At-loop-next
 
 pub shape_of-index-in-Full : goal.shape_of-index-in-Full
-shape_of-index-in-Full c = even (goal.at.shape_of-index-in-Full c).After-take_turn-next
+shape_of-index-in-Full c = even (goal.at.shape_of-index-in-Full c).In_ok-next
 
 pub returns-in-Full : goal.returns-in-Full
 returns-in-Full c =
-    over (goal.at.returns-in-Full c).After-take_turn-next
-    (turns_end c.loop-q.invariant.1.1 (long (goal.at.returns-in-Full c).At-loop-q) (turned (goal.at.returns-in-Full c).After-take_turn-next _ c.in-Full.is)
+    over (goal.at.returns-in-Full c).In_ok-next
+    (turns_end c.loop-next.invariant.1.1 (long (goal.at.returns-in-Full c).At-loop-next) (turned (goal.at.returns-in-Full c).In_ok-next _ c.in-Full.is)
     c.settle-in-Full.auto.w c.settle-in-Full.ensures c.full.ensures)
 
-pub shape_of-w-in-Refused : goal.shape_of-w-in-Refused
-shape_of-w-in-Refused c = kept (goal.at.shape_of-w-in-Refused c).After-take_turn-next ∙ long (goal.at.shape_of-w-in-Refused c).At-loop-q
-
-pub shape_of-index-in-Refused : goal.shape_of-index-in-Refused
-shape_of-index-in-Refused c = even (goal.at.shape_of-index-in-Refused c).After-take_turn-next
-
-pub returns-in-Refused : goal.returns-in-Refused
-returns-in-Refused c =
-    absurd (omega (arith, (turned (goal.at.returns-in-Refused c).After-take_turn-next _ c.in-Refused.is).0.0, c.loop-q.invariant.1.1.selects))
+pub returns-in_err-next : goal.returns-in_err-next
+returns-in_err-next c =
+    let inv = c.loop-next.invariant in
+    absurd (omega (arith, (c.in_err-next.ensures _ inv.1.0 inv.1.1).0, inv.1.1.selects))
 
 pub rows-t-requires : goal.rows-t-requires
 rows-t-requires c = c.requires.0
 
 pub settle-requires : goal.settle-requires
-settle-requires c = settles (goal.at.settle-requires c).After-take_turn-next
+settle-requires c = settles (goal.at.settle-requires c).In_ok-next
 
 pub finished-requires : goal.finished-requires
-finished-requires c = few (goal.at.finished-requires c).After-take_turn-next
+finished-requires c = few (goal.at.finished-requires c).In_ok-next
 
 pub settle-requires-in-Stop : goal.settle-requires-in-Stop
-settle-requires-in-Stop c = settles (goal.at.settle-requires-in-Stop c).After-take_turn-next
+settle-requires-in-Stop c = settles (goal.at.settle-requires-in-Stop c).In_ok-next
 
 pub stopped-requires : goal.stopped-requires
-stopped-requires c = few (goal.at.stopped-requires c).After-take_turn-next
+stopped-requires c = few (goal.at.stopped-requires c).In_ok-next
 
 pub settle-requires-in-Full : goal.settle-requires-in-Full
-settle-requires-in-Full c = settles (goal.at.settle-requires-in-Full c).After-take_turn-next
+settle-requires-in-Full c = settles (goal.at.settle-requires-in-Full c).In_ok-next

@@ -10,10 +10,10 @@ use Rattle.orders.specs.Orders.{Node, nodes}
 use Rattle.planner.specs.Code.{Running}
 use Rattle.planner.proofs.run.turns.Given as goal
 
-abbrev pub invariant-loop-q : goal.invariant-loop-q
-invariant-loop-q l =
+abbrev pub invariant-loop-next : goal.invariant-loop-next
+invariant-loop-next l =
     ((length l.w ≡ length l.initial.w) × ((length l.index ≡ length l.initial.index) × (length l.kids ≡ most_stops * record_words)))
     × ((s : State Node) × Running l.setting l.t l.start l.w l.index l.r s)
 
-abbrev pub decreases-loop-q : goal.decreases-loop-q
-decreases-loop-q l = nodes l.setting.n - l.r.branched
+abbrev pub decreases-loop-next : goal.decreases-loop-next
+decreases-loop-next l = nodes l.setting.n - l.r.branched
