@@ -2,9 +2,9 @@
 --   run_begins      the start is a state of the run
 --   turn_keeps      a turn that goes on leads to a state of the run, which pool and counts show
 --   turn_falls      each turn branches one node more, and no run branches more nodes than there are
---   settle_ready, floor-ready    what `settle` and `floor` ask
+--   floor-ready     what `floor` asks
 --   turns_end       a turn that does not go on ends the run
-use mathlib.Core.Path.{◌≡◌, ap, sym, subst, ◌∙◌}
+use mathlib.Core.Path.{◌≡◌, ap, subst, ◌∙◌}
 use mathlib.Core.List.{List, ◌++◌, reverse}
 use Prim.Native.Nat.{ℕ, ◌+◌, ◌-◌, ◌/◌, ◌≤◌, ◌<◌}
 use native.Mathlib.Omega.{arith}
@@ -85,11 +85,6 @@ Laid_out w r w' =
 
 -- The end, in a pool as long as at the entry. A turn that does not go on leaves it as it was.
 module _ {d : Setting} {t : Table} {first w index : List ℕ} {r : Run} {s : State Node} (here : Running d t first w index r s) where
-  pub settle_ready :
-      (w₁ : List ℕ) → length w₁ ≡ length w
-      → (r.layout.capacity ≡ length (records w₁)) × (r.layout.used + r.layout.far ≤ r.layout.capacity)
-  settle_ready w₁ kept = (here.shows.laid.whole ∙ sym (same-records w w₁ kept), here.shows.laid.fits)
-
   pub floor-ready : {w₁ : List ℕ} → w₁ ≡ w → (r.layout.used ≤ length (records w₁)) × (0 < length (active_in w₁ r))
   floor-ready same = rw same (turn_counts here)
 

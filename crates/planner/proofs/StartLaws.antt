@@ -1,6 +1,5 @@
 -- How a run starts.
 --   root_within    the bound of e is at most the U of the start
---   zeros_roomy    an index of zeros has room, if it is long enough
 --   hold_ready, rank_ready    what `hold` and `reranked` ask, in an empty layout
 --   start_laid     once a record has joined the active lane, it is all that the layout has
 --   start-shown    once e has joined, the pool shows the state at the start
@@ -9,10 +8,10 @@ use mathlib.Core.Bool.{Bool, true, false, ◌||◌}
 use mathlib.Core.List.{List, [], ◌∷◌, map}
 use mathlib.Core.Logic.{◌⊎◌}
 use mathlib.Core.Option
-use Prim.Native.Nat.{ℕ, zero, suc, ◌+◌, ◌-◌, ◌*◌, ◌^◌, ◌≤◌, ◌<◌}
+use Prim.Native.Nat.{ℕ, ◌+◌, ◌-◌, ◌*◌, ◌^◌, ◌≤◌, ◌<◌}
 use native.Mathlib.Omega.{arith}
 use lib.Dec.{T, ltb, ltb→lt, lt→ltb}
-use lib.ListN.{length, get_or, drop, set, replicate, length-set, length-replicate}
+use lib.ListN.{length, get_or, drop, set, length-set}
 use lib.Seq.{take-suc-set, drop-length}
 use Rattle.lists.proofs.Tests.{and_right, or_left, or_right}
 use Rattle.search.specs.Problem.{upper, start}
@@ -22,7 +21,7 @@ use Rattle.orders.specs.Pairs.{Allowed}
 use Rattle.stops.specs.declared.node_record.Record.{Record}
 use Rattle.records.specs.Code.{records}
 use Rattle.answer.specs.Answer.{given}
-use Rattle.lanes.specs.Sizes.{blocks, first_shift, most_linked, heads, active_heads, far_heads, index_words}
+use Rattle.lanes.specs.Sizes.{blocks, first_shift, most_linked, heads, active_heads, far_heads}
 use Rattle.lanes.specs.Code.{sized, live_in, live_of, far_of, place_of}
 use Rattle.lanes.specs.Layouts.{active_lane, far_lane}
 use Rattle.lanes.specs.declared.Lane.{Lane}
@@ -47,18 +46,6 @@ use Rattle.planner.specs.Code.{records_of, links, layout_of, Roomy}
 links_few : (rule : Bool) (capacity : ℕ) → T (links rule capacity) → capacity < 2 ^ 32
 unfolding links
 links_few rule capacity h = omega (arith, ltb→lt capacity most_linked (and_right rule (ltb capacity most_linked) h))
-
--- an index of zeros has room if it is long enough
-zeros_clear : (n k : ℕ) → get_or {A = ℕ} (replicate n 0) k 0 ≡ 0
-zeros_clear zero k = refl
-zeros_clear (suc n) zero = refl
-zeros_clear (suc n) (suc k) = zeros_clear n k
-
-pub zeros_roomy :
-    (p : Layout) (n : ℕ) → (T p.ranked → blocks ≤ n) → (T (p.linked || p.far_linked) → index_words ≤ n) → Roomy p (replicate n 0)
-zeros_roomy p n minima heads =
-    let long : length {A = ℕ} (replicate n 0) ≡ n = length-replicate n 0 in
-    record { minima = λ h. omega (arith, minima h); heads = λ h. omega (arith, heads h); clear = zeros_clear n }
 
 -- a layout with one node in its active lane
 abbrev with_one : Layout → Layout

@@ -1,5 +1,5 @@
 -- One turn of a run that goes on (`Running`): what comes next of its state is told by the records in the pool.
---   turn_chooses, turn_loads, turn_ready    what `choose`, `sized_at` and `step` require; turn-counts: some place has an active node
+--   turn_chooses, turn_ready    what `choose` and `step` require; turn-counts: some place has an active node
 --   turn_finishes, turn_stops, turn_full, turn_goes    each of the turn's answers is what comes next of the state
 -- b is the node that the selection picks, and rest are the other active ones. P and C are the problem and the choices of the run, Q and D
 -- the same on records, and S the state that the pool shows.
@@ -177,9 +177,6 @@ module _
     next-shown = next_maps maps capacity s valid
 
     module _ {i : ℕ} (picked : Chosen d.n (records w) r.layout.used d.selection i) where
-      pub turn_loads : i < length (records w)
-      turn_loads = omega (arith, picked.inside, used_inside)
-
       abbrev b : Record
       b = node_at w i
 

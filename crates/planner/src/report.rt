@@ -33,7 +33,6 @@ pub fn refused(cause: Refusal) -> Report
 fn ended(number: u32, mark: u32, cost: u32, floor: u32, order: [u8; ORDER_PLACES], r: Run) -> Report
     ensures { result ≡ reported number mark cost floor order r }
 {
-    let p = r.layout;
     Report {
         number,
         mark,
@@ -43,7 +42,7 @@ fn ended(number: u32, mark: u32, cost: u32, floor: u32, order: [u8; ORDER_PLACES
         branched: r.branched,
         generated: r.generated,
         eliminated: r.eliminated,
-        active: p.active as u64,
+        active: r.layout.active as u64,
         most: r.most,
     }
 }

@@ -137,12 +137,14 @@ fn begun(
 {
     let best = started(setting, t, start);
     hold(w, active_lane(p), root(setting, t), index);
-    let mut q = p;
-    q.used = 1;
-    q.active = 1;
-    reranked(w, q, index);
+    let layout = Layout {
+        used: 1,
+        active: 1,
+        ..p
+    };
+    reranked(w, layout, index);
     Run {
-        layout: q,
+        layout,
         best,
         branched: 0,
         generated: 1,
@@ -169,17 +171,14 @@ fn turns(
     loop {
         let next = take_turn(setting, t, w, r, &mut kids, index)?;
         match next {
-            Turn::Go(q) => {
-                r = q;
-            }
+            Turn::Go(q) => r = q,
             Turn::Finish => {
                 settle(w, r.layout);
                 return Ok(finished(setting.n, r));
             }
             Turn::Stop => {
-                let q = r.layout;
-                let least = floor(w, q.used);
-                settle(w, q);
+                let least = floor(w, r.layout.used);
+                settle(w, r.layout);
                 return Ok(stopped(setting.n, least, r));
             }
             Turn::Full => {

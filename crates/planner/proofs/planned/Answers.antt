@@ -1,5 +1,4 @@
 -- `planned` meets its contract: a call with a cause is told of by its number, and the pool stays as it was; a call without one answers as its run ends.
-use mathlib.Core.Path.{sym}
 use Rattle.answer.specs.Call.{Call, call_of}
 use Rattle.planner.proofs.CauseLaws.{refused_told, run_told}
 use Rattle.planner.proofs.planned.Goals as goal
@@ -12,9 +11,6 @@ pub returns-in_err-checked : goal.returns-in_err-checked
 unfolding call_of
 returns-in_err-checked c =
     refused_told (call (goal.at.returns-in_err-checked c).Start) c.from_residual.result _ c.from_residual.ensures.1 (c.in_err-checked.ensures _)
-
-pub search-requires : goal.search-requires
-search-requires c = sym (c.in_ok-checked.ensures _)
 
 pub returns : goal.returns
 returns c = run_told (call (goal.at.returns c).Start) c.search.result (c.in_ok-checked.ensures _) c.search.ensures

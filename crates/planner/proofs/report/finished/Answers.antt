@@ -10,6 +10,3 @@ unfolding places_of finished_by
 returns c =
     let r = c.args.r in
     c.ended.ensures ∙ ap (λ (places : List ℕ). reported 0 0 r.best.upper 0 places r) c.stops_of-order.ensures
-
-pub stops_of-order-requires : goal.stops_of-order-requires
-stops_of-order-requires c = c.requires

@@ -17,6 +17,3 @@ returns c =
     c.ended-2.ensures
     ∙ ap (λ (places : List ℕ). reported 0 1 a.r.best.upper a.floor places a.r) c.stops_of-order.ensures
     ∙ rw (ne_eqb _ _ c.if-best.false)
-
-pub stops_of-order-requires : goal.stops_of-order-requires
-stops_of-order-requires c = c.requires

@@ -13,7 +13,6 @@ use Rattle.answer.specs.declared.Report.{Report}
 use Rattle.answer.proofs.Passes.{Passes, passes}
 use Rattle.pairs.proofs.GoodFile.{of_stops}
 use Rattle.lanes.specs.declared.layout.Layout.{Layout}
-use Rattle.children.specs.Code.{setting_of}
 use Rattle.children.specs.declared.setting.Setting.{Setting}
 use Rattle.planner.specs.Code.{layout_of, rows_by, Begins, Ran, Ended}
 use Rattle.planner.proofs.EndLaws.{call_begins, run_ends}
@@ -26,11 +25,6 @@ call c = let a = c.args in call_of a.job a.table.now a.start.now a.pairs.now a.b
 
 ok : (c : Start) → Passes (call c)
 ok c = passes (call c) c.requires
-
--- the setting is the call's
-its_setting : (c : After-setting_of-setting) → c.setting_of-setting.result ≡ setting_of (call c.before.before.before.before.before.before)
-unfolding call_of
-its_setting c = c.setting_of-setting.ensures
 
 pub setting_of-setting-requires : goal.setting_of-setting-requires
 unfolding call_of

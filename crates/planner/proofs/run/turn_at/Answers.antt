@@ -1,7 +1,7 @@
 -- `turn_at` meets its contract: each of its four answers is what comes next of the state (`TurnLaws`).
 use native.Mathlib.Omega.{arith}
 use Rattle.planner.specs.Code.{records_of}
-use Rattle.planner.proofs.TurnLaws.{turn_loads, turn_finishes, turn_stops, turn_ready, turn_full, turn_goes}
+use Rattle.planner.proofs.TurnLaws.{turn_finishes, turn_stops, turn_ready, turn_full, turn_goes}
 use Rattle.planner.proofs.run.turn_at.Goals as goal
 
 pub returns-then-finishes : goal.returns-then-finishes
@@ -29,6 +29,3 @@ returns-in-Some c first s running =
     turn_goes running c.requires.0.0 c.sized_at-b.ensures c.finishes.ensures c.if-finishes.false
     (omega (arith, c.if-setting-r.false))
     (c.in-Some.ensures (records_of _ _ s) running.shows)
-
-pub sized_at-b-requires : goal.sized_at-b-requires
-sized_at-b-requires c = let p = c.requires.0 in turn_loads p.1.2 p.0

@@ -1,18 +1,15 @@
 -- The goals of `run::turns` that the search leaves.
 use mathlib.Core.Path.{◌≡◌, refl, ap, sym, ◌∙◌, subst}
 use mathlib.Core.List.{List}
-use Prim.Native.Nat.{ℕ, ◌+◌, ◌≤◌}
+use Prim.Native.Nat.{ℕ}
 use native.Mathlib.Omega.{arith}
 use lib.ListN.{length}
-use Rattle.sizes.specs.Sizes.{most_stops}
-use Rattle.records.specs.Code.{records}
 use Rattle.records.proofs.ViewLaws.{length-records}
 use Rattle.answer.specs.declared.Report.{Report}
-use Rattle.answer.proofs.Passes.{start_too}
 use Rattle.children.specs.Code.{Table}
 use Rattle.planner.specs.Code.{Turned, rows_by, Begins, Ran, stopped_by}
 use Rattle.planner.specs.declared.run.Turn.{Turn}
-use Rattle.planner.proofs.SearchLaws.{run_begins, turn_keeps, turn_falls, settle_ready, floor-ready, turns_end}
+use Rattle.planner.proofs.SearchLaws.{run_begins, turn_keeps, turn_falls, floor-ready, turns_end}
 use Rattle.planner.proofs.run.turns.Goals as goal
 use Rattle.planner.proofs.run.turns.Goals.{After-rows-t, In_ok-next, At-loop-next}
 
@@ -49,15 +46,6 @@ turned c q e = let inv = c.loop-next.invariant in subst (Gives c) e (c.in_ok-nex
 kept : (c : In_ok-next) → length (pool c) ≡ length c.loop-next.w
 kept c = c.take_turn.auto.w
 
--- and so does the index
-even : (c : In_ok-next) → length (kept_index c) ≡ length c.args.index.now
-even c = c.take_turn.auto.index ∙ c.loop-next.invariant.0.1.0 ∙ c.begun-r.auto.index
-
-pub begun-r-requires : goal.begun-r-requires
-begun-r-requires c =
-    let b = begins (goal.at.begun-r-requires c).After-rows-t in
-    ((b.rows, (start_too (λ a. a.order) b.starts, b.room)), (b.empty, c.requires.1.1))
-
 pub loop-next-init : goal.loop-next-init
 loop-next-init c =
     ((refl, (refl, omega arith)), (_, run_begins (begins (goal.at.loop-next-init c).After-rows-t) c.begun-r.ensures))
@@ -90,23 +78,6 @@ over c {q} {w} ran =
     let a = c.args in
     subst (λ (t : Table). Ran a.setting t a.start.now a.w.now q w) c.rows-t.ensures ran
 
--- as many stops as there may be
-few : (c : In_ok-next) → c.args.setting.n ≤ most_stops
-few c = c.requires.0.few
-
--- where the turn ends the run, `settle` has what it asks
-settles :
-    (c : In_ok-next)
-    → let p = c.loop-next.r.layout in (p.capacity ≡ length (records (pool c))) × (p.used + p.far ≤ p.capacity)
-settles c = settle_ready c.loop-next.invariant.1.1 (pool c) (kept c)
-
-pub shape_of-w-in-Finish : goal.shape_of-w-in-Finish
-shape_of-w-in-Finish c =
-    c.settle.auto.w ∙ kept (goal.at.shape_of-w-in-Finish c).In_ok-next ∙ long (goal.at.shape_of-w-in-Finish c).At-loop-next
-
-pub shape_of-index-in-Finish : goal.shape_of-index-in-Finish
-shape_of-index-in-Finish c = even (goal.at.shape_of-index-in-Finish c).In_ok-next
-
 pub returns-in-Finish : goal.returns-in-Finish
 returns-in-Finish c =
     over (goal.at.returns-in-Finish c).In_ok-next
@@ -117,13 +88,6 @@ pub floor-least-requires : goal.floor-least-requires
 floor-least-requires c =
     floor-ready c.loop-next.invariant.1.1 (turned (goal.at.floor-least-requires c).In_ok-next _ c.in-Stop.is).1
 
-pub shape_of-w-in-Stop : goal.shape_of-w-in-Stop
-shape_of-w-in-Stop c =
-    c.settle-in-Stop.auto.w ∙ kept (goal.at.shape_of-w-in-Stop c).In_ok-next ∙ long (goal.at.shape_of-w-in-Stop c).At-loop-next
-
-pub shape_of-index-in-Stop : goal.shape_of-index-in-Stop
-shape_of-index-in-Stop c = even (goal.at.shape_of-index-in-Stop c).In_ok-next
-
 pub returns-in-Stop : goal.returns-in-Stop
 returns-in-Stop c =
     over (goal.at.returns-in-Stop c).In_ok-next
@@ -131,38 +95,8 @@ returns-in-Stop c =
     c.settle-in-Stop.auto.w c.settle-in-Stop.ensures
     (c.stopped.ensures ∙ ap (λ (m : ℕ). stopped_by c.args.setting.n m c.loop-next.r) c.floor-least.ensures))
 
-pub shape_of-w-in-Full : goal.shape_of-w-in-Full
-shape_of-w-in-Full c =
-    c.settle-in-Full.auto.w ∙ kept (goal.at.shape_of-w-in-Full c).In_ok-next ∙ long (goal.at.shape_of-w-in-Full c).At-loop-next
-
-pub shape_of-index-in-Full : goal.shape_of-index-in-Full
-shape_of-index-in-Full c = even (goal.at.shape_of-index-in-Full c).In_ok-next
-
 pub returns-in-Full : goal.returns-in-Full
 returns-in-Full c =
     over (goal.at.returns-in-Full c).In_ok-next
     (turns_end c.loop-next.invariant.1.1 (long (goal.at.returns-in-Full c).At-loop-next) (turned (goal.at.returns-in-Full c).In_ok-next _ c.in-Full.is)
     c.settle-in-Full.auto.w c.settle-in-Full.ensures c.full.ensures)
-
-pub returns-in_err-next : goal.returns-in_err-next
-returns-in_err-next c =
-    let inv = c.loop-next.invariant in
-    absurd (omega (arith, (c.in_err-next.ensures _ inv.1.0 inv.1.1).0, inv.1.1.selects))
-
-pub rows-t-requires : goal.rows-t-requires
-rows-t-requires c = c.requires.0
-
-pub settle-requires : goal.settle-requires
-settle-requires c = settles (goal.at.settle-requires c).In_ok-next
-
-pub finished-requires : goal.finished-requires
-finished-requires c = few (goal.at.finished-requires c).In_ok-next
-
-pub settle-requires-in-Stop : goal.settle-requires-in-Stop
-settle-requires-in-Stop c = settles (goal.at.settle-requires-in-Stop c).In_ok-next
-
-pub stopped-requires : goal.stopped-requires
-stopped-requires c = few (goal.at.stopped-requires c).In_ok-next
-
-pub settle-requires-in-Full : goal.settle-requires-in-Full
-settle-requires-in-Full c = settles (goal.at.settle-requires-in-Full c).In_ok-next
