@@ -1,11 +1,12 @@
 -- What the functions of this crate compute between one another. These definitions are the code's own: a reader of the promises needs none of
 -- them.
 --   Begun                      a text within its places, with zeros behind it
+--   Put                        some bytes written behind what was written, and how many they are at most
 --   most_digits                how many digits a value of 64 bits has at most
 --   decimal_room               how many bytes one takes at most, printed: a space and its digits
 --   line_room                  .. and a line of some: its name, the values and the line's end
 --   answer_room, counts_room    how many bytes the lines of an order and of the counts take at most
-use Rattle.std.specs.Prelude.{◌≡◌, List, ℕ, ◌+◌, ◌*◌, ◌≤◌, length, take}
+use Rattle.std.specs.Prelude.{◌≡◌, List, ◌++◌, ℕ, ◌+◌, ◌*◌, ◌≤◌, length, take}
 use Rattle.sizes.specs.Sizes.{order_places}
 use Rattle.report_format.specs.Text.{ascii}
 use Rattle.printing.specs.Promise.{text_places, text_of}
@@ -14,6 +15,9 @@ use Rattle.printing.specs.declared.Text.{Text}
 pub record Begun (t : Text) : Type 0 where
   pub within : t.length ≤ text_places
   pub padded : t ≡ text_of (take t.length t.bytes)
+
+abbrev pub Put : List ℕ → List ℕ → ℕ → List ℕ → Type 0
+Put before bytes most after = (after ≡ before ++ bytes) × (length after ≤ length before + most)
 
 abbrev pub most_digits : ℕ
 most_digits = 20
