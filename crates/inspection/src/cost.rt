@@ -86,10 +86,8 @@ pub fn figures_of(
         return no_figures(false, 0);
     }
     // no starting order
-    let start = [0u8; 0];
-    let number = job_cause(job, table, &start);
-    if number != 0 {
-        return no_figures(true, number);
+    if let Err(refusal) = job_cause(job, table, &[]) {
+        return no_figures(true, u32::from(refusal));
     }
     if !is_record(size, set, first, second, job.n) {
         return no_figures(true, 0);

@@ -1,7 +1,6 @@
 -- `cost::figures_of` meets its contract: each `return` is the case of `figures` that its tests name (`FigureLaws`). The refusal by a number is
 -- found by `figures_refused`.
 use mathlib.Core.Path.{sym, ◌∙◌}
-use native.Mathlib.Omega.{arith}
 use Rattle.stops.specs.declared.node_record.Record.{Record}
 use Rattle.inspection.specs.Code.{of_four}
 use Rattle.inspection.proofs.FigureLaws.{figures_outside, figures-other}
@@ -22,14 +21,5 @@ returns-then-not-is_record c =
     rw c.if-not-inside.false
     (c.no_figures-then-not-is_record.ensures
     ∙ figures-other (x (goal.at.returns-then-not-is_record c).Start) c.args.job c.args.table.now
-    (omega arith)
+    (sym c.in_default.ensures)
     (sym c.is_record.ensures ∙ c.if-not-is_record.true))
-
-pub reckoned-requires : goal.reckoned-requires
-reckoned-requires c = (
-  rw (← c.is_record.ensures, c.if-not-is_record.false) tt,
-  omega arith,
-)
-
-pub returns : goal.returns
-returns c = rw c.if-not-inside.false c.reckoned.ensures
