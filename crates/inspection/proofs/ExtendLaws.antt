@@ -1,13 +1,11 @@
 -- A stop and its leg on a record: what `extend::fits_on` tests is whether they fit, and what `extended` makes of a record that they fit on
 -- is the longer one.
---   unfit, unfit_record, unfit_stop, unfit_above,   where they do not fit
---   unfit_flown
---   fits_last                                       what is left to test
---   fits_wide, fits-extended                        where they fit
+--   unfit, unfit_record, unfit_stop, unfit_flown   where they do not fit
+--   fits_last                                      what is left to test
+--   fits_wide, fits-extended                       where they fit
 use mathlib.Core.Path.{◌≡◌, refl, ap, sym, ◌∙◌, subst}
 use mathlib.Core.Bool.{Bool, true, false, not}
 use mathlib.Core.List.{List}
-use mathlib.Core.Logic.{◌⊎◌, inl, inr}
 use Prim.Native.Nat.{ℕ, ◌-◌, ◌^◌, ◌≤◌, ◌<◌}
 use native.Mathlib.Omega.{arith}
 use lib.Dec.{T, leb, leb→le, le→leb, T_not, not_T}
@@ -42,15 +40,8 @@ module _ (x : Record) (stop leg : ℕ) where
   pub unfit_record : is_node most_stops x ≡ false → false ≡ fits x stop leg
   unfit_record e = unfit (λ f. subst T e (record_node most_stops x f.node))
 
-  pub unfit_stop : (stop ≡ 0) ⊎ (most_stops < stop) → false ≡ fits x stop leg
-  unfit_stop h = unfit (λ f. go h (in_left most_stops (flown_stops x) stop f.leaves))
-    where
-      go : (stop ≡ 0) ⊎ (most_stops < stop) → (1 ≤ stop) × (stop ≤ most_stops) × T (not (flown (flown_stops x) stop)) → ⊥
-      go (inl e) h = absurd (omega (arith, h.0))
-      go (inr k) h = absurd (omega (arith, h.1))
-
-  pub unfit_above : most_stops < stop → false ≡ fits x stop leg
-  unfit_above h = unfit_stop (inr h)
+  pub unfit_stop : (1 ≤ stop → stop ≤ most_stops → ⊥) → false ≡ fits x stop leg
+  unfit_stop h = unfit (λ f. let m = in_left most_stops (flown_stops x) stop f.leaves in h m.0 m.1)
 
   -- a record that is a node's, and a stop of 1 to 16: its set holds the stop just when the node flies it
   module _ (node : is_node most_stops x ≡ true) (some : 1 ≤ stop) (few : stop ≤ most_stops) where

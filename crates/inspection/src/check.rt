@@ -10,14 +10,6 @@ use node_answers::Verdict;
 pub fn verdict_of(inside: bool, size: u32, set: u32, first: u32, second: u32, n: u32) -> Verdict
     ensures { result ≡ verdict inside (of_four size set first second) n }
 {
-    if !inside {
-        return Verdict {
-            inside: false,
-            node: false,
-        };
-    }
-    Verdict {
-        inside: true,
-        node: is_record(size, set, first, second, n),
-    }
+    let node = inside && is_record(size, set, first, second, n);
+    Verdict { inside, node }
 }

@@ -16,23 +16,16 @@ pub struct Added {
 }
 
 // Whether a stop and its leg fit on a record.
-#[tactic(auto, using(crate::proofs::ExtendLaws::unfit_above))]
 fn fits_on(x: Record, added: Added) -> bool
     ensures { result ≡ fits x added.stop added.leg }
 {
     if !is_record(x.size, x.set, x.first, x.second, MOST_STOPS) {
         return false;
     }
-    if added.stop == 0 {
+    if added.stop == 0 || MOST_STOPS < added.stop {
         return false;
     }
-    if MOST_STOPS < added.stop {
-        return false;
-    }
-    if holds(x.set, added.stop) {
-        return false;
-    }
-    added.leg <= u32::MAX - x.path
+    !holds(x.set, added.stop) && added.leg <= u32::MAX - x.path
 }
 
 // The record with both added where they fit, and as it was where they do not.
@@ -55,16 +48,15 @@ pub fn extended_of(
         first,
         second,
     };
-    if !fits_on(x, added) {
-        return Extended {
-            inside: true,
-            fits: false,
-            after: x,
-        };
-    }
+    let fits = fits_on(x, added);
+    let after = if fits {
+        x.extended(added.stop, added.leg)
+    } else {
+        x
+    };
     Extended {
         inside: true,
-        fits: true,
-        after: x.extended(added.stop, added.leg),
+        fits,
+        after,
     }
 }

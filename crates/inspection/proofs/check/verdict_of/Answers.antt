@@ -3,10 +3,10 @@ use mathlib.Core.Path.{refl}
 use Rattle.node_answers.specs.Answers.{verdict}
 use Rattle.inspection.proofs.check.verdict_of.Goals as goal
 
-pub returns-then-not-inside : goal.returns-then-not-inside
+pub returns-then-inside : goal.returns-then-inside
 unfolding verdict
-returns-then-not-inside c = rw c.if-not-inside.true refl
+returns-then-inside c = rw (c.if-inside.true, c.is_record-node.ensures) refl
 
-pub returns : goal.returns
+pub returns-else-inside : goal.returns-else-inside
 unfolding verdict
-returns c = rw (c.if-not-inside.false, c.is_record.ensures) refl
+returns-else-inside c = rw c.if-inside.false refl

@@ -1,41 +1,34 @@
 -- `extend::extended_of` meets its contract: where the stop does not fit the record is as it was, and where it fits `extended` makes the
 -- longer one (`ExtendLaws`).
-use mathlib.Core.Path.{◌≡◌, refl, sym, ◌∙◌, subst}
-use mathlib.Core.Bool.{true}
+use mathlib.Core.Path.{refl, sym, ◌∙◌, subst}
 use lib.Dec.{T}
-use Rattle.node_answers.specs.Answers.{fits, extension}
+use Rattle.node_answers.specs.Answers.{extension}
 use Rattle.node_answers.proofs.LongerLaws.{Fits, fits_parts}
 use Rattle.inspection.specs.Code.{of_six}
 use Rattle.inspection.proofs.ExtendLaws.{fits_wide, fits-extended}
 use Rattle.inspection.proofs.extend.extended_of.Goals as goal
-use Rattle.inspection.proofs.extend.extended_of.Goals.{Else-not-fits_on}
+use Rattle.inspection.proofs.extend.extended_of.Goals.{Then-fits}
 
-pub returns-then-not-fits_on : goal.returns-then-not-fits_on
+pub returns-else-fits : goal.returns-else-fits
 unfolding extension of_six
-returns-then-not-fits_on c =
-    let r = c.fits_on in
-    rw (← r.ensures, c.if-not-fits_on.true) refl
+returns-else-fits c =
+    let r = c.fits_on-fits in
+    rw (← r.ensures, c.if-fits.false) refl
 
 -- it fits
-fit :
-    (c : Else-not-fits_on) →
-    fits (of_six c.args.size c.args.set c.args.path c.args.bound c.args.first c.args.second) c.args.added.stop c.args.added.leg ≡ true
-unfolding of_six
-fit c = sym c.fits_on.ensures ∙ c.if-not-fits_on.false
-
 parts :
-    (c : Else-not-fits_on) →
+    (c : Then-fits) →
     Fits (of_six c.args.size c.args.set c.args.path c.args.bound c.args.first c.args.second) c.args.added.stop c.args.added.leg
-parts c =
-    let a = c.args in
-    fits_parts (of_six a.size a.set a.path a.bound a.first a.second) a.added.stop a.added.leg (subst T (sym (fit c)) tt)
-
-pub extended-requires : goal.extended-requires
 unfolding of_six
-extended-requires c = fits_wide (parts c)
+parts c =
+    fits_parts _ c.args.added.stop c.args.added.leg (subst T (sym c.if-fits.true ∙ c.fits_on-fits.ensures) tt)
 
-pub returns : goal.returns
+pub extended-after-requires : goal.extended-after-requires
+unfolding of_six
+extended-after-requires c = fits_wide (parts (goal.at.extended-after-requires c).Then-fits)
+
+pub returns-then-fits : goal.returns-then-fits
 unfolding extension of_six
-returns c =
-    let f = (goal.at.returns c).Else-not-fits_on in
-    rw (c.extended.ensures, fits-extended (parts f), fit f) refl
+returns-then-fits c =
+    let p = parts (goal.at.returns-then-fits c).Then-fits in
+    rw (c.extended-after.ensures, fits-extended p, ← c.fits_on-fits.ensures, c.if-fits.true) refl

@@ -1,8 +1,7 @@
--- `extend::fits_on` meets its contract: each `return` is a test of `fits` that fails, and the last one is the test that is left
--- (`ExtendLaws`). That a stop above 16 does not fit is found by `unfit_above`.
+-- `extend::fits_on` meets its contract: where one of its first tests fails, that test of `fits` fails, and the last one is the test that is left
+-- (`ExtendLaws`).
 use mathlib.Core.Path.{◌≡◌, sym, ◌∙◌}
 use mathlib.Core.Bool.{true}
-use mathlib.Core.Logic.{inl}
 use native.Mathlib.Omega.{arith}
 use borrow.Author.Rules.{rules}
 use Rattle.sizes.specs.Sizes.{most_stops}
@@ -25,18 +24,19 @@ node c =
 pub returns-then-added-eq0 : goal.returns-then-added-eq0
 returns-then-added-eq0 c =
     let a = c.args in
-    unfit_stop a.x a.added.stop a.added.leg (inl c.if-added-eq0.true)
+    unfit_stop a.x a.added.stop a.added.leg (λ h k. omega (arith, c.then-added-eq0.either))
 
-pub returns-then-holds : goal.returns-then-holds
-returns-then-holds c =
+pub returns-then-not-holds : goal.returns-then-not-holds
+returns-then-not-holds c =
     let a = c.args in
-    let g = goal.at.returns-then-holds c in
-    unfit_flown a.x a.added.stop a.added.leg (node g.Else-not-is_record) (omega arith) (omega arith)
-    (sym c.holds.ensures ∙ c.if-holds.true)
-
-pub returns : goal.returns
-returns c =
-    let a = c.args in
-    let g = goal.at.returns c in
+    let g = goal.at.returns-then-not-holds c in
     fits_last a.x a.added.stop a.added.leg (node g.Else-not-is_record) (omega arith) (omega arith)
-    (sym c.holds.ensures ∙ c.if-holds.false) (search rules)
+    (sym c.holds.ensures ∙ c.if-not-holds.true) (search rules)
+
+pub returns-else-not-holds : goal.returns-else-not-holds
+returns-else-not-holds c =
+    let a = c.args in
+    let g = goal.at.returns-else-not-holds c in
+    rw c.if-not-holds.false
+    (unfit_flown a.x a.added.stop a.added.leg (node g.Else-not-is_record) (omega arith) (omega arith)
+    (sym c.holds.ensures ∙ c.if-not-holds.false))
