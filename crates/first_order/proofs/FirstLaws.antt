@@ -23,8 +23,11 @@ use Rattle.stops.specs.Code.{Cheap}
 use Rattle.pairs.specs.Code.{OfStops, pairs_in, precedence_of}
 use Rattle.pairs.specs.declared.Precedence.{Precedence}
 use Rattle.pairs.proofs.GoodFile.{of_stops, its_pairing, its_respects}
+use Rattle.answer.specs.Refusals.{number}
 use Rattle.answer.specs.Checks.{first_cause}
+use Rattle.answer.specs.declared.refusal.Refusal.{Refusal}
 use Rattle.answer.proofs.Passes.{PairsPass, first_passed, pairs_pairing}
+use Rattle.checks.proofs.RefusalLaws.{numbered}
 use Rattle.first_answer.specs.Nearest.{nearest}
 use Rattle.first_answer.specs.Exchanges.{improved}
 use Rattle.first_answer.specs.First.{legs_of, nearest_of, first_of, respond, first_answer}
@@ -59,11 +62,12 @@ pub zeros-front : (n : ℕ) → n ≤ order_places → n ≡ length (take n zero
 unfolding zeros
 zeros-front n h = omega (arith, length-take n zeros)
 
-module _ (n bound : ℕ) (table pairs : List ℕ) (k : ℕ) (e : k ≡ first_cause n bound table pairs) where
+module _ (n bound : ℕ) (table pairs : List ℕ) where
   pub refused-first :
-      k ≢ 0 → ◌≡◌ {A = FirstOrder} (record { number = k; cost = 0; order = replicate order_places 0 }) (first_answer n bound table pairs)
+      (r : Refusal) → number r ≡ first_cause n bound table pairs
+      → ◌≡◌ {A = FirstOrder} (record { number = number r; cost = 0; order = replicate order_places 0 }) (first_answer n bound table pairs)
   unfolding first_answer respond
-  refused-first h = go k h ∙ ap (respond n bound table pairs) e
+  refused-first r e = go (number r) (numbered r) ∙ ap (respond n bound table pairs) e
     where
       go : (j : ℕ) → j ≢ 0 → ◌≡◌ {A = FirstOrder} (record { number = j; cost = 0; order = replicate order_places 0 }) (respond n bound table pairs j)
       go zero h = absurd (h refl)
@@ -74,14 +78,14 @@ module _ (n bound : ℕ) (table pairs : List ℕ) (k : ℕ) (e : k ≡ first_cau
   same_test few p is = ap (λ (d : Precedence). allowed_by d) is ∙ (λ i x. its_respects n few pairs p.only p.once x i)
 
   pub made-first :
-      k ≡ 0 → {t : List (List ℕ)} {d : Precedence} {j : ℕ} (x : List ℕ) {v : ℕ} → t ≡ rows n (ends_away bound) table → d ≡ precedence_of pairs → n ≡ j
+      0 ≡ first_cause n bound table pairs → {t : List (List ℕ)} {d : Precedence} {j : ℕ} (x : List ℕ) {v : ℕ} → t ≡ rows n (ends_away bound) table → d ≡ precedence_of pairs → n ≡ j
       → x ≡ improved (legs t) (allowed_by d) (nearest j (legs t) (allowed_by d)) → v ≡ cost (legs t) x
       → ◌≡◌ {A = FirstOrder} (record { number = 0; cost = v; order = x ++ drop n zeros }) (first_answer n bound table pairs)
   unfolding first_answer respond legs_of nearest_of first_of zeros
   made-first none x loaded marked lent made costs =
-      let (passes, p) = first_passed n bound table pairs (sym e ∙ none) in
+      let (passes, p) = first_passed n bound table pairs (sym none) in
       let test = same_test passes.priced.few p marked in
       let first : x ≡ first_of n bound table pairs = made ∙ rw (loaded, test, ← lent) in
       let allowed = first_of_allowed n bound table pairs (pairs_pairing p) in
       let long : length (first_of n bound table pairs) ≡ n = order-length n (first_of n bound table pairs) allowed.order in
-      rw (costs, first, loaded, append-zeros order_places n (first_of n bound table pairs) long) (ap (respond n bound table pairs) (sym none ∙ e))
+      rw (costs, first, loaded, append-zeros order_places n (first_of n bound table pairs) long) (ap (respond n bound table pairs) none)

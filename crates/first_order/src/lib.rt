@@ -39,10 +39,9 @@ pub fn first_order(n: u32, bound: u32, table: &[u32], pairs: &[u8]) -> FirstOrde
     ensures { Promised n bound table.now pairs.now result }
 {
     let mut order = [0u8; ORDER_PLACES];
-    let number = first_cause(n, bound, table, pairs);
-    if number != 0 {
+    if let Err(refusal) = first_cause(n, bound, table, pairs) {
         return FirstOrder {
-            number,
+            number: u32::from(refusal),
             cost: 0,
             order,
         };

@@ -1,5 +1,5 @@
 -- `first_order` meets its contract: a refusal is the answer where checks 1 to 4 and 11 find a cause; where they find none, what is made is.
-use mathlib.Core.Path.{◌≡◌, sym, subst, ◌∙◌}
+use mathlib.Core.Path.{◌≡◌, sym, subst}
 use Prim.Native.Nat.{ℕ}
 use native.Mathlib.Omega.{arith}
 use lib.ListN.{length, take}
@@ -11,28 +11,28 @@ use Rattle.stops.specs.Bounds.{ends_away}
 use Rattle.stops.proofs.LegTable.{rows_cheap}
 use Rattle.first_order.proofs.FirstLaws.{file_asks, zeros, zeros-front, refused-first, made-first}
 use Rattle.first_order.proofs.first_order.Goals as goal
-use Rattle.first_order.proofs.first_order.Goals.{Else-number-ne0}
+use Rattle.first_order.proofs.first_order.Goals.{In_default}
 
-passed : (c : Else-number-ne0) → let a = c.args in TablePasses a.n a.table.now × PairsPass a.n a.pairs.now
+passed : (c : In_default) → let a = c.args in TablePasses a.n a.table.now × PairsPass a.n a.pairs.now
 passed c =
     let a = c.args in
-    first_passed a.n a.bound a.table.now a.pairs.now (sym c.first_cause-number.ensures ∙ c.if-number-ne0.false)
+    first_passed a.n a.bound a.table.now a.pairs.now (sym c.in_default.ensures)
 
 -- the places that are lent to `make`
-lent : (c : Else-number-ne0) → let n = c.args.n in n ≡ length (take n zeros)
+lent : (c : In_default) → let n = c.args.n in n ≡ length (take n zeros)
 lent c = zeros-front _ (passed c).0.priced.few
 
-pub returns-then-number-ne0 : goal.returns-then-number-ne0
-returns-then-number-ne0 c = refused-first _ _ _ _ _ c.first_cause-number.ensures c.if-number-ne0.true
+pub returns-in-Err : goal.returns-in-Err
+returns-in-Err c = rw c.from.ensures (refused-first _ _ _ _ c.in-Err.refusal c.in-Err.ensures)
 
 pub slice_bounds-make-end : goal.slice_bounds-make-end
 unfolding zeros
-slice_bounds-make-end c = lent (goal.at.slice_bounds-make-end c).Else-number-ne0
+slice_bounds-make-end c = lent (goal.at.slice_bounds-make-end c).In_default
 
 pub make-cost-requires : goal.make-cost-requires
 unfolding zeros
 make-cost-requires c =
-    let checked = (goal.at.make-cost-requires c).Else-number-ne0 in
+    let checked = (goal.at.make-cost-requires c).In_default in
     let (table, pairs) = passed checked in
     let a = c.args in
     let few = table.priced.few in
@@ -46,14 +46,14 @@ make-cost-requires c =
 pub returns : goal.returns
 unfolding zeros
 returns c =
-    made-first _ _ _ _ _ c.first_cause-number.ensures c.if-number-ne0.false _ c.rows-t.ensures c.precedence_of-precedence.ensures (lent (goal.at.returns c).Else-number-ne0)
+    made-first _ _ _ _ c.in_default.ensures _ c.rows-t.ensures c.precedence_of-precedence.ensures (lent (goal.at.returns c).In_default)
     c.make-cost.ensures.0 c.make-cost.ensures.1
 
 pub rows-t-requires : goal.rows-t-requires
 rows-t-requires c = (passed c).0.priced
 
 pub precedence_of-precedence-requires : goal.precedence_of-precedence-requires
-precedence_of-precedence-requires c = let (table, pairs) = passed (goal.at.precedence_of-precedence-requires c).Else-number-ne0 in (file_asks table.priced.few pairs).0
+precedence_of-precedence-requires c = let (table, pairs) = passed (goal.at.precedence_of-precedence-requires c).In_default in (file_asks table.priced.few pairs).0
 
 pub slice_bounds-order-end : goal.slice_bounds-order-end
-slice_bounds-order-end c = (passed (goal.at.slice_bounds-order-end c).Else-number-ne0).0.priced.few
+slice_bounds-order-end c = (passed (goal.at.slice_bounds-order-end c).In_default).0.priced.few
