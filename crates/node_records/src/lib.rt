@@ -19,21 +19,14 @@ use stops::node_record::Record;
 pub fn read(pool: &[Record], i: usize) -> Found
     ensures { result ≡ found pool.now i }
 {
-    if i < pool.len() {
-        return Found {
+    match pool.get(i) {
+        Some(x) => Found {
             inside: true,
-            found: pool[i],
-        };
-    }
-    Found {
-        inside: false,
-        found: Record {
-            size: 0,
-            set: 0,
-            path: 0,
-            bound: 0,
-            first: 0,
-            second: 0,
+            found: *x,
+        },
+        None => Found {
+            inside: false,
+            found: Record::empty(),
         },
     }
 }
@@ -109,13 +102,6 @@ pub fn extend(pool: &mut [Record], i: usize, stop: u32, leg: u32) -> Extended
     Extended {
         inside: false,
         fits: false,
-        after: Record {
-            size: 0,
-            set: 0,
-            path: 0,
-            bound: 0,
-            first: 0,
-            second: 0,
-        },
+        after: Record::empty(),
     }
 }
