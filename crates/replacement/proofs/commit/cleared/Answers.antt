@@ -1,5 +1,5 @@
 -- `cleared` meets its contract: the nodes that are left are those that no child dominates, and what is taken off the end is gone.
-use mathlib.Core.Path.{◌≡◌, refl, sym, ◌∙◌}
+use mathlib.Core.Path.{◌≡◌, sym, ◌∙◌}
 use Prim.Native.Nat.{suc, ◌+◌}
 use native.Mathlib.Omega.{arith}
 use lib.ListN.{length}
@@ -23,10 +23,6 @@ few c =
     let change = c.requires.1 in
     left_few (records a.w.now) a.p a.i change.inside (omega (arith, c.requires.0.whole, c.requires.0.fits)) change.live c.leave.ensures.0 c.strike_all-lost.ensures.1
     ∙ sym change.counted
-
-pub trim-used-requires : goal.trim-used-requires
-trim-used-requires c =
-    rw c.active_lane.ensures (refl, c.strike_all-lost.ensures.0.lane)
 
 pub returns : goal.returns
 returns c =

@@ -1,7 +1,6 @@
 -- `commit` meets its contract: each part meets what the next asks, and the last leaves what is asked of all.
-use mathlib.Core.Path.{◌∙◌}
 use Rattle.records.specs.Code.{records}
-use Rattle.replacement.proofs.CommitLaws.{tidiable, roomy, joinable, committed}
+use Rattle.replacement.proofs.CommitLaws.{tidiable, committed}
 use Rattle.replacement.proofs.commit.commit.Goals as goal
 
 pub tidied-tidy-requires : goal.tidied-tidy-requires
@@ -9,31 +8,6 @@ tidied-tidy-requires c =
     let a = c.args in
     tidiable (records a.w.now) a.p a.i a.change (records a.kids.now) c.requires.0.1 c.requires.1.1
     (records c.cleared-lighter.new.w) c.cleared-lighter.result c.cleared-lighter.new.index c.cleared-lighter.ensures
-
-pub held-with_b-requires : goal.held-with_b-requires
-held-with_b-requires c =
-    let a = c.args in
-    roomy (records a.w.now) a.p a.i a.change (records a.kids.now) c.requires.0.1 c.requires.1.1
-    (records c.cleared-lighter.new.w) c.cleared-lighter.result c.cleared-lighter.new.index c.cleared-lighter.ensures
-    (records c.tidied-tidy.new.w) c.tidied-tidy.result c.tidied-tidy.new.index c.tidied-tidy.ensures.0 c.tidied-tidy.ensures.1
-    a.b c.requires.1.0
-
-pub joined-requires : goal.joined-requires
-joined-requires c =
-    let a = c.args in
-    joinable (records a.w.now) a.p a.i a.change (records a.kids.now) c.requires.0.1 c.requires.1.1
-    (records c.cleared-lighter.new.w) c.cleared-lighter.result c.cleared-lighter.new.index c.cleared-lighter.ensures
-    (records c.tidied-tidy.new.w) c.tidied-tidy.result c.tidied-tidy.new.index c.tidied-tidy.ensures.0 c.tidied-tidy.ensures.1
-    a.b (records c.held-with_b.new.w) c.held-with_b.result c.held-with_b.new.index c.held-with_b.ensures
-
--- the pool and the index keep their lengths
-pub shape_of-w : goal.shape_of-w
-shape_of-w c =
-    c.joined.auto.w ∙ c.held-with_b.auto.w ∙ c.tidied-tidy.auto.w ∙ c.cleared-lighter.auto.w
-
-pub shape_of-index : goal.shape_of-index
-shape_of-index c =
-    c.joined.auto.index ∙ c.held-with_b.auto.index ∙ c.tidied-tidy.auto.index ∙ c.cleared-lighter.auto.index
 
 pub returns : goal.returns
 returns c =

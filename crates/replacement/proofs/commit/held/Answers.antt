@@ -1,39 +1,18 @@
 -- `held` meets its contract: the branched node joins the far end's lane, and the active lane is as it was.
-use mathlib.Core.Path.{◌≡◌, refl, sym, subst}
-use Prim.Native.Nat.{◌+◌, ◌^◌, ◌≤◌, ◌<◌}
-use lib.Dec.{T}
-use lib.ListN.{length, set}
+use mathlib.Core.Path.{◌≡◌, refl, subst}
+use Prim.Native.Nat.{◌+◌}
+use lib.ListN.{set}
 use Rattle.records.specs.Code.{records}
-use Rattle.lanes.specs.Sizes.{heads}
 use Rattle.lanes.specs.Code.{place_of}
 use Rattle.lanes.specs.declared.Lane.{Lane}
 use Rattle.lanes.specs.Layouts.{far_lane}
 use Rattle.chains.specs.Code.{joined_of, index_with}
-use Rattle.replacement.proofs.HeldLaws.{holdable, held_laid, held-nodes, held-far, none-held, one_held}
+use Rattle.replacement.proofs.HeldLaws.{held_laid, held-nodes, held-far, one_held}
 use Rattle.replacement.proofs.commit.held.Goals as goal
 use Rattle.replacement.proofs.commit.held.Goals.{After-hold, Else-far-eq0}
 
-pub returns-then-far-eq0 : goal.returns-then-far-eq0
-returns-then-far-eq0 c =
-    let a = c.args in
-    let none = none-held (records a.w.now) a.p a.b a.far c.requires.1.1 c.if-far-eq0.true in (
-      (c.requires.0.0, record { capacity = refl; ranked = refl; linked = refl; far_linked = refl }),
-      ((refl, refl), (refl, none)),
-    )
-
 more : (c : Else-far-eq0) → let a = c.args in a.far ≡ a.p.far + 1
 more c = one_held c.args.p c.args.far c.requires.1.1 c.if-far-eq0.false
-
-pub hold-requires : goal.hold-requires
-hold-requires c =
-    let a = c.args in
-    subst
-    (λ (l : Lane).
-    (0 < l.end → l.count < l.end)
-    × ((place_of l.end (l.count + 1) < length (records a.w.now))
-    × (T l.linked → (l.count + 1 < 2 ^ 32) × (l.heads + heads ≤ length a.index.now))))
-    (sym c.far_lane.ensures)
-    (holdable (records a.w.now) a.p a.index.now a.far c.requires.0.0 (more (goal.at.hold-requires c).Else-far-eq0) c.requires.1.0)
 
 -- what `hold` ensures of the lane
 stored :

@@ -1,25 +1,13 @@
 -- `squeezed` meets its contract: what is left of the lane is linked and ranked, and the far end is as it was.
-use mathlib.Core.Path.{sym, refl, subst}
-use Prim.Native.Nat.{◌+◌, ◌^◌, ◌≤◌, ◌<◌}
+use mathlib.Core.Path.{refl, subst}
 use lib.Dec.{T}
-use lib.ListN.{length}
 use Rattle.records.specs.Code.{records}
-use Rattle.lanes.specs.Sizes.{heads}
 use Rattle.lanes.specs.declared.Lane.{Lane}
 use Rattle.lanes.specs.Layouts.{active_lane}
-use Rattle.chains.specs.Code.{Inside, Chained, Relinked, Only}
-use Rattle.replacement.proofs.TidyLaws.{numbered, relinkable, rerankable, squeezed_kept}
+use Rattle.chains.specs.Code.{Chained, Relinked, Only}
+use Rattle.replacement.proofs.TidyLaws.{numbered, rerankable, squeezed_kept}
 use Rattle.replacement.proofs.commit.squeezed.Goals as goal
 use Rattle.replacement.proofs.commit.squeezed.Goals.{After-relink}
-
-pub relink-requires : goal.relink-requires
-relink-requires c =
-    let a = c.args in
-    subst
-    (λ (l : Lane).
-    Inside (records c.squeeze-used.new.w) l × (T l.linked → (l.count < 2 ^ 32) × (l.heads + heads ≤ length a.index.now)))
-    (sym c.active_lane.ensures)
-    (relinkable (records a.w.now) (records c.squeeze-used.new.w) a.p a.index.now a.limit c.squeeze-used.result c.requires.0 c.squeeze-used.ensures)
 
 -- what `relink` ensures of the lane
 relinked :

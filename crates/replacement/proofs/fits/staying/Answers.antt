@@ -35,8 +35,3 @@ loop-i-preserved c =
     staying_more a.change.limit (slots a.change.taking (records a.kids.now)) (records a.w.now) c.requires.1.1 a.from c.loop-i.i
     c.loop-i.auto.i (omega (arith, c.loop-i-test.true, c.requires.0.1)) in
     (omega (arith, one, few, c.loop-i.invariant.0), omega (arith, more, one, c.loop-i.invariant.1))
-
-pub returns : goal.returns
-returns c =
-    let e : c.loop-i.i ≡ c.args.to = omega (arith, c.loop-i.auto.i-end c.requires.0.0, c.loop-i-test.false) in
-    rw e at c.loop-i.invariant.1

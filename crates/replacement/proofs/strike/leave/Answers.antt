@@ -4,11 +4,6 @@ use Rattle.blocks.proofs.KeepLaws.{same_none}
 use Rattle.replacement.proofs.StrikeLaws.{laid_marked}
 use Rattle.replacement.proofs.strike.leave.Goals as goal
 
-pub kill-requires : goal.kill-requires
-kill-requires c =
-    let ranks = c.requires.0.ranks (rw c.if-p.true tt) in
-    (ranks.minima, (c.requires.1, ranks.reach))
-
 pub returns-then-p : goal.returns-then-p
 returns-then-p c =
     let a = c.args in

@@ -12,13 +12,9 @@ use Rattle.lanes.proofs.LiveLaws.{live_few}
 use Rattle.chains.specs.Code.{bucket_of}
 use Rattle.chains.proofs.WalkLaws.{dominates_bucket, bucket_head}
 use Rattle.replacement.proofs.StrikeLaws.{struck-count}
-use Rattle.replacement.proofs.StrikeWalk.{Striking, striking_starts, striking_again, striking_ends}
+use Rattle.replacement.proofs.StrikeWalk.{Striking, striking_starts, striking_again}
 use Rattle.replacement.proofs.strike.strike.Goals as goal
 use Rattle.replacement.proofs.strike.strike.Goals.{After-after-c}
-
-pub top-c-requires : goal.top-c-requires
-top-c-requires c =
-    rw c.active_lane-lane.ensures (λ on. (c.requires.0.0.lane.chains on).room)
 
 pub loop-c-init : goal.loop-c-init
 loop-c-init c =
@@ -47,14 +43,6 @@ overflow_add-lost c =
       c.ranges,
     )
 
--- the record that the walk stands at is in the pool
-pub after-c-requires : goal.after-c-requires
-after-c-requires c =
-    let laid = c.strike_at.ensures.0 in
-    let low = c.loop-c.invariant.1.below in
-    let some = c.loop-c-test.true in
-    rw c.active_lane-lane.ensures (omega arith, ((λ h. absurd (omega arith)), omega (arith, laid.whole, laid.fits)))
-
 -- the walk stands at the next one, which is before
 goes_on :
     (c : After-after-c)
@@ -77,6 +65,3 @@ loop-c-preserved c =
 
 pub loop-c-smaller : goal.loop-c-smaller
 loop-c-smaller c = (goes_on c).1
-
-pub returns : goal.returns
-returns c = (c.loop-c.invariant.0, striking_ends c.loop-c.invariant.1 c.loop-c-test.false)
