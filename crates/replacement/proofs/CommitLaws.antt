@@ -1,13 +1,10 @@
 -- The parts of `commit`, one after the other: what each leaves meets what the next asks, and the last leaves the pool `Committed`.
 --   unbeaten_of, within-staying    the nodes that no child dominates; those of them up to the limit stay
 --   tidiable                      what is left of the active nodes can be tidied
---   roomy                         then the branched node has room at the far end
---   joinable                      then the children have room behind the active nodes
 --   committed                     the pool with them
 use mathlib.Core.Path.{◌≡◌, sym, ap, subst, ◌∙◌}
 use mathlib.Core.Bool.{Bool, true, false, not, ◌&&◌, and-false, and-true}
 use mathlib.Core.List.{List, ◌++◌}
-use mathlib.Core.Logic.{◌⊎◌}
 use Prim.Native.Nat.{ℕ, ◌+◌, ◌^◌, ◌≤◌, ◌<◌}
 use native.Mathlib.Omega.{arith}
 use lib.Dec.{leb}
@@ -18,12 +15,11 @@ use Rattle.lists.proofs.Keep.{keep-keep, keep_same}
 use Rattle.lists.proofs.Members.{in_keep}
 use Rattle.stops.specs.Code.{stops_in}
 use Rattle.stops.specs.declared.node_record.Record.{Record}
-use Rattle.records.specs.Code.{in_slot, slots, Slotted}
+use Rattle.records.specs.Code.{slots}
 use Rattle.records.proofs.SlotLaws.{slots_length}
 use Rattle.lanes.specs.Sizes.{gone}
-use Rattle.lanes.specs.Code.{sized, is_within, live_of, others_of, far_of}
+use Rattle.lanes.specs.Code.{is_within, live_of, others_of, far_of}
 use Rattle.lanes.specs.declared.layout.Layout.{Layout}
-use Rattle.chains.specs.Code.{Sized}
 use Rattle.pool.specs.Code.{Laid, OnePool}
 use Rattle.replacement.specs.Code.{is_beaten, is_staying, staying_of, far_with, Changing, Kept, Committed}
 use Rattle.replacement.specs.declared.change.Change.{Change}
@@ -88,12 +84,6 @@ module _
         far : q₂.far ≡ p.far
         far = tidied.far-count ∙ cleared.far-count
 
-        pub roomy :
-            (b : Record) → b ≡ sized b
-            → (Laid recs₂ q₂ index₂ × (b ≡ sized b))
-            × ((q₂.used + c.far ≤ q₂.capacity) × (((c.far ≡ 0) × (q₂.far ≡ 0)) ⊎ (c.far ≡ q₂.far + 1)))
-        roomy b whole = ((tidied.laid, whole), (omega arith, rw far h.back))
-
         module _
             (b : Record) (recs₃ : List Record) (q₃ : Layout) (index₃ : List ℕ)
             (held :
@@ -107,16 +97,6 @@ module _
 
             counted : q₃.active ≡ length (staying_of recs p i c kids)
             counted = held.1.0.1 ∙ tidied.counted ∙ ap length stays
-
-            pub joinable :
-                (Laid recs₃ q₃ index₃ × (q₃.active ≡ length (live_of q₃.used recs₃)))
-                × ((Slotted c.alive kids × Sized c.alive kids)
-                × (((s : ℕ) → In s (stops_in c.alive) → (in_slot kids s).bound < gone)
-                × (q₃.used + length (stops_in c.alive) + q₃.far ≤ q₃.capacity)))
-            joinable = (
-              (held.0.0, counted ∙ ap length (sym nodes)),
-              ((h.slotted, h.sizes), (h.lives, omega (arith, room, held.1.0.0, held.1.1.1.0, held.0.1.capacity))),
-            )
 
             pub committed :
                 (recs₄ : List Record) (q₄ : Layout) (index₄ : List ℕ)

@@ -1,5 +1,4 @@
 -- The active lane with records that have joined it.
---   widened, grown_laid          a layout with another shift; the pool whose minima are right by it
 --   sized_whole                  a record with its size
 --   writable                     there is room for the children
 --   joined_grown, joined_kept    the pool with them, before and after the minima are right
@@ -25,38 +24,10 @@ use Rattle.lanes.proofs.LiveLaws.{live_joined, live_all}
 use Rattle.chains.specs.Code.{Chained, Sized, joined_all, index_all, Only}
 use Rattle.chains.proofs.ChainLaws.{place-front, chained_all}
 use Rattle.chains.proofs.JoinLaws.{length_joined, nodes_joined, only_all}
-use Rattle.blocks.specs.Code.{Same}
-use Rattle.pool.specs.Code.{Laid, LaidTo, Ranked, OnePool}
+use Rattle.pool.specs.Code.{Laid, LaidTo, OnePool}
 use Rattle.replacement.specs.Code.{Kept}
-use Rattle.replacement.proofs.FrameLaws.{far_walkable, far-same, active_walkable, active_minima, spliced_long, spliced-before, spliced-behind, one_pool_on}
+use Rattle.replacement.proofs.FrameLaws.{far_walkable, far-same, active_minima, spliced_long, spliced-before, spliced-behind, one_pool_on}
 use Rattle.replacement.proofs.TidyLaws.{numbered}
-
-abbrev pub widened : Layout → ℕ → Layout
-widened p shift = record {
-  capacity = p.capacity;
-  used = p.used;
-  active = p.active;
-  far = p.far;
-  shift = shift;
-  ranked = p.ranked;
-  linked = p.linked;
-  far_linked = p.far_linked;
-}
-
-module _ (recs : List Record) (p : Layout) (from : ℕ) (index index' : List ℕ) (shift : ℕ) (grown : LaidTo recs p from index) where
-  pub grown_laid : Same index index' → (T p.ranked → Ranked recs (widened p shift) index') → Laid recs (widened p shift) index'
-  grown_laid same ranks = record {
-    whole = grown.whole;
-    some = grown.some;
-    fits = grown.fits;
-    lane = active_walkable recs recs index index' p refl same.same_length grown.whole grown.fits (λ i h. refl)
-        (λ h l. same.behind (active_heads + h) (omega arith)) grown.lane;
-    far_lane_lem = far_walkable recs recs index index' p refl same.same_length grown.whole grown.fits (λ i h. refl)
-        (λ h l. same.behind (far_heads + h) (omega arith)) grown.far_lane_lem;
-    few = grown.few;
-    far_few = grown.far_few;
-    ranks = ranks;
-  }
 
 pub sized_whole : (x : Record) → x.size ≡ ones x.set → x ≡ sized x
 unfolding sized

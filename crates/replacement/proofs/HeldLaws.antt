@@ -1,8 +1,7 @@
 -- The branched node at the far end.
 --   holding                              a layout with another number of branched records
---   holdable                             there is room for one more
 --   held_laid, held-nodes, held-far      the pool with it
---   none-held, one_held                  no branched node is held, or one more is
+--   one_held                             where branched nodes are held, one more is
 use mathlib.Core.Path.{◌≡◌, refl, sym, ap, ◌∙◌}
 use mathlib.Core.List.{List, ◌∷◌}
 use mathlib.Core.Logic.{◌⊎◌, inl, inr}
@@ -12,10 +11,10 @@ use native.Mathlib.Omega.{arith}
 use borrow.Author.Tests.{ne_eqb}
 use lib.Dec.{T}
 use lib.ListN.{length, get_or, take, drop, set, length-set}
-use lib.Seq.{length-take-le, set_split, drop_at, drop-length, get_or-set_other}
+use lib.Seq.{length-take-le, set_split, drop_at, get_or-set_other}
 use Rattle.stops.specs.Code.{empty_record}
 use Rattle.stops.specs.declared.node_record.Record.{Record}
-use Rattle.lanes.specs.Sizes.{heads, active_heads, far_heads}
+use Rattle.lanes.specs.Sizes.{active_heads, far_heads}
 use Rattle.lanes.specs.Code.{sized, place_of, live_of, far_of}
 use Rattle.lanes.specs.declared.layout.Layout.{Layout}
 use Rattle.lanes.specs.Layouts.{far_lane}
@@ -45,15 +44,6 @@ module _
   where
     place : place_of p.capacity (p.far + 1) ≡ p.capacity - far
     place = rw (more, add-one p.far) (far-place p.capacity p.used far p.far room (omega arith)).0
-
-    pub holdable :
-        (0 < p.capacity → p.far < p.capacity)
-        × ((place_of p.capacity (p.far + 1) < length recs)
-        × (T p.far_linked → (p.far + 1 < 2 ^ 32) × (far_heads + heads ≤ length index)))
-    holdable = (
-      (λ h. omega arith),
-      (rw place (omega (arith, laid.some, laid.whole)), λ t. (omega (arith, laid.far_few t), (laid.far_lane_lem.chains t).room)),
-    )
 
     module _
         (recs' : List Record) (index' : List ℕ) (b : Record)
@@ -120,15 +110,6 @@ module _
             ap (drop i) (set_split recs i y less) ∙ drop_at (take i recs) (y ∷ drop (suc i) recs) i (length-take-le i recs (omega arith)) in
             let node : sized y ≡ b = sized_joined (far_lane p) index b ∙ sym whole in
             rw (ne_eqb far 0 (λ e. omega arith), at, here, split, node, ← next)
-
--- no branched node is held
-pub none-held :
-    (recs : List Record) (p : Layout) (b : Record) (far : ℕ) → ((far ≡ 0) × (p.far ≡ 0)) ⊎ (far ≡ p.far + 1) → far ≡ 0
-    → (p.far ≡ far) × (far_of far recs ≡ far_with far b (far_of p.far recs))
-none-held recs p b far (inl none) e =
-    let all : length recs - 0 ≡ length recs = omega arith in
-    (none.1 ∙ sym e, rw (e, all, drop-length recs))
-none-held recs p b far (inr more) e = absurd (omega arith)
 
 pub one_held : (p : Layout) (far : ℕ) → ((far ≡ 0) × (p.far ≡ 0)) ⊎ (far ≡ p.far + 1) → (far ≡ 0 → ⊥) → far ≡ p.far + 1
 one_held p far (inl none) n = absurd (n none.0)

@@ -1,6 +1,6 @@
 -- A walk along a chain that strikes records out.
 --   last_none                behind the last number with some value, none has it
---   Striking, striking_starts, striking_again, striking_ends    the walk's invariant
+--   Striking, striking_starts, striking_again    the walk's invariant
 use mathlib.Core.Path.{◌≡◌, refl, ap, sym, ◌∙◌}
 use mathlib.Core.Bool.{Bool, true, false, cond}
 use mathlib.Core.List.{List}
@@ -21,7 +21,7 @@ use Rattle.lanes.specs.Layouts.{active_lane}
 use Rattle.chains.specs.Code.{bucket_of, last_with, key_at, Walkable}
 use Rattle.chains.proofs.WalkLaws.{last_below, last_kin}
 use Rattle.chains.proofs.ChainLaws.{place-front}
-use Rattle.replacement.specs.Code.{struck, Strikes}
+use Rattle.replacement.specs.Code.{struck}
 use Rattle.replacement.proofs.StrikeLaws.{struck_spared, struck_alike, StruckAt, struck-count}
 
 -- behind the last number with some value, none has it
@@ -47,16 +47,6 @@ pub record Striking (test : Record → Bool) (h : ℕ) (p : Layout) (recs recs' 
   pub each : (j : ℕ) → c ≤ j → j < p.used → get_or recs' j empty_record ≡ struck test (get_or recs j empty_record)
   pub behind : (j : ℕ) → p.used ≤ j → get_or recs' j empty_record ≡ get_or recs j empty_record
   pub count : lost + length (live_of p.used recs') ≡ length (live_of p.used recs)
-
-pub striking_ends :
-    {test : Record → Bool} {h : ℕ} {p : Layout} {recs recs' : List Record} {lost c : ℕ} → Striking test h p recs recs' lost c → c ≡ 0
-    → Strikes test p.used recs recs' lost
-striking_ends s e = record {
-  same_length = s.same_length;
-  each = λ j l. s.each j (omega arith) l;
-  behind = s.behind;
-  count = s.count;
-}
 
 -- for a test that only records of bucket h pass
 module _

@@ -1,7 +1,7 @@
 -- The active lane tidied: nothing goes, or it is squeezed, linked and ranked anew.
 --   numbered                          a layout with other numbers of active records and nodes
 --   tidy_kept                         nothing is above a limit
---   relinkable, rerankable            what squeezing the active lane leaves can be linked and ranked
+--   rerankable                        what squeezing the active lane leaves can be ranked, once it is linked
 --   squeezed_kept                     and is the pool with its nodes up to a limit
 use mathlib.Core.Path.{◌≡◌, refl, sym, ap, ◌∙◌}
 use mathlib.Core.List.{List}
@@ -16,7 +16,7 @@ use Rattle.lists.proofs.Numbers.{keep_parts}
 use Rattle.stops.specs.Code.{empty_record}
 use Rattle.stops.specs.declared.node_record.Record.{Record}
 use Rattle.records.specs.Code.{Sifted}
-use Rattle.lanes.specs.Sizes.{gone, blocks, heads, active_heads, far_heads}
+use Rattle.lanes.specs.Sizes.{gone, blocks, active_heads, far_heads}
 use Rattle.lanes.specs.Code.{is_within, live_of}
 use Rattle.lanes.specs.declared.layout.Layout.{Layout}
 use Rattle.lanes.specs.Layouts.{active_lane}
@@ -73,9 +73,6 @@ module _
       inside = λ j h. rw (place-front 0 j refl) (omega (arith, fewer, sifted.same_length, laid.fits, laid.whole));
       apart = λ h. absurd (omega arith);
     }
-
-    pub relinkable : Inside recs₁ (active_lane (numbered p e e)) × (T p.linked → (e < 2 ^ 32) × (active_heads + heads ≤ length index))
-    relinkable = (lies, λ t. (omega (arith, fewer, laid.few t, laid.fits), (laid.lane.chains t).room))
 
     module _
         (recs₂ : List Record) (index₁ : List ℕ) (only : Only active_heads index index₁) (relinked : Relinked recs₁ (active_lane (numbered p e e)) recs₂)
