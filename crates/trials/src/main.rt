@@ -1,6 +1,6 @@
-// Random tables under every choice, with pairs (request A.6) for half of the tables, without a starting order, with one, and with the unit's first order, each report held against full
-// enumeration; those of the first two kinds also within half of their branchings, or just enough. The tables, and so what is printed, are the same in
-// every run.
+// Random tables under every choice, with pairs (request A.6) for half of the tables, without a starting order, with one, and with the unit's first
+// order, each report held against full enumeration; those of the first two kinds also within half of their branchings, or just enough. The tables, and
+// so what is printed, are the same in every run.
 #![tactic(auto)]
 
 ghost use Rattle.std.specs.Prelude.{◌≤◌};
@@ -109,7 +109,8 @@ fn from_first(t: Table, pool: &mut [u32], tally: &mut Tally) {
     }
 }
 
-// The jobs over table k, without a starting order, with one, and from the unit's first order. That a table has no order at all would be one that differs.
+// The jobs over table k, without a starting order, with one, and from the unit's first order. A table without any order would count as a job that
+// differs.
 fn trial(k: u64, pool: &mut [u32], tallies: &mut Tallies) {
     let day = day_of(k);
     let numbers = table_of(k, day.n);

@@ -17,14 +17,19 @@ tested c = cc
 
 pub returns-then-beaten : goal.returns-then-beaten
 returns-then-beaten c =
-    let found = beaten_here (records c.args.kids.now) (sized (get_or (records c.args.w.now) c.args.i empty_record)) c.in-Some.ensures.steps.0 (sym (tested (goal.at.returns-then-beaten c).After-beaten) ∙ c.if-beaten.true) in
+    let a = c.args in
+    let x = sized (get_or (records a.w.now) a.i empty_record) in
+    let found = beaten_here (records a.kids.now) x c.in-Some.ensures.steps.0 (sym (tested (goal.at.returns-then-beaten c).After-beaten) ∙ c.if-beaten.true) in
     rw (← c.loop-s.invariant, found)
 
 pub loop-s-preserved : goal.loop-s-preserved
 loop-s-preserved c =
-    let on = beaten_later (records c.args.kids.now) (sized (get_or (records c.args.w.now) c.args.i empty_record)) c.in-Some.ensures.steps.0 (sym (tested (goal.at.loop-s-preserved c).After-beaten) ∙ c.if-beaten.false) in
+    let a = c.args in
+    let x = sized (get_or (records a.w.now) a.i empty_record) in
+    let on = beaten_later (records a.kids.now) x c.in-Some.ensures.steps.0 (sym (tested (goal.at.loop-s-preserved c).After-beaten) ∙ c.if-beaten.false) in
     rw (c.in-Some.ensures.steps.1, ← on) c.loop-s.invariant
 
 pub returns : goal.returns
 returns c =
-    rw (← c.loop-s.invariant, c.in-None.ensures.steps, beaten_none (records c.args.kids.now) (sized (get_or (records c.args.w.now) c.args.i empty_record)))
+    let a = c.args in
+    rw (← c.loop-s.invariant, c.in-None.ensures.steps, beaten_none (records a.kids.now) (sized (get_or (records a.w.now) a.i empty_record)))
