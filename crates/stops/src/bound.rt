@@ -1,5 +1,5 @@
 // Which bound a number names, and what it adds to the path cost.
-ghost use Rattle.std.specs.Prelude.{◌≡◌, ◌∷◌, ◌^◌, ◌≤◌, ◌<◌, min};
+ghost use Rattle.std.specs.Prelude.{◌≡◌, ◌∷◌, ◌^◌, ◌≤◌, ◌<◌};
 ghost use Rattle.sizes.specs.Sizes.{most_stops};
 ghost use Rattle.lists.specs.Lists.{least};
 ghost use Rattle.stops.specs.Legs.{row_leg, legs};
@@ -23,13 +23,6 @@ pub fn is_close(bound: u32) -> bool
     ensures { result ≡ is_close bound }
 {
     matches!(bound, 1 | 3)
-}
-
-// The lesser of two numbers.
-pub fn lesser(a: u32, b: u32) -> u32
-    ensures { result ≡ min a b }
-{
-    if b < a { b } else { a }
 }
 
 // The cheapest leg into a place from one of some stops.
