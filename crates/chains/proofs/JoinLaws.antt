@@ -112,12 +112,6 @@ pub record Joining (p : Lane) (part₀ kids : List Record) (alive : ℕ) (index�
     pub behind : drop k part ≡ drop k part₀
     pub long : length part ≡ length part₀
 
-pub joining_starts :
-    (p : Lane) (part kids : List Record) (alive : ℕ) (index : List ℕ) → alive < 2 ^ most_stops → Joining p part kids alive index part index alive 0
-joining_starts p part kids alive index h =
-    let none : p.count + 0 ≡ p.count = omega arith in
-    record { small = h; same = rw none; chains = rw none; number = omega arith; behind = refl; long = refl }
-
 module _
     {p : Lane} {part₀ kids : List Record} {alive : ℕ} {index₀ : List ℕ} {part : List Record} {index : List ℕ} {left k : ℕ}
     (l : Joining p part₀ kids alive index₀ part index left k)

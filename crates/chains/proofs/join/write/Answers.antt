@@ -3,25 +3,15 @@ use Prim.Native.Nat.{◌<◌}
 use native.Mathlib.Omega.{arith}
 use lib.ListN.{length}
 use Rattle.records.specs.Code.{records, slots}
-use Rattle.chains.proofs.JoinLaws.{joining_starts, joining_room, joining_again, joining_ends}
+use Rattle.chains.proofs.JoinLaws.{joining_room, joining_again, joining_ends}
 use Rattle.chains.proofs.join.write.Goals as goal
 use Rattle.chains.proofs.join.write.Goals.{In-Some}
-
-pub loop-s-init : goal.loop-s-init
-loop-s-init c =
-    let a = c.args in
-    rw (c.into_iter-s-iterator.ensures.into_iter_gives, c.stops_of-s-items.ensures)
-    (joining_starts a.p (records a.part.now) (records a.kids.now) a.alive a.index.now c.requires.0.0.small)
 
 -- one more child is among them all
 room :
     (c : In-Some)
     → c.loop-s.k < length (slots c.args.alive (records c.args.kids.now))
 room c = joining_room c.loop-s.invariant c.in-Some.ensures.steps.0
-
-pub load-x-requires : goal.load-x-requires
-load-x-requires c =
-    omega (arith, c.slot.ensures, c.in-Some.ensures.steps.0, c.requires.0.0.room)
 
 pub joined-requires : goal.joined-requires
 joined-requires c t =
@@ -43,12 +33,6 @@ loop-s-preserved c =
 
 pub returns : goal.returns
 returns c = joining_ends c.loop-s.invariant c.in-None.ensures.steps
-
-pub slot-requires : goal.slot-requires
-slot-requires c = c.in-Some.ensures.steps.0.some
-
-pub overflow_add-p : goal.overflow_add-p
-overflow_add-p c = omega (arith, room (goal.at.overflow_add-p c).In-Some, c.requires.1.0)
 
 pub overflow_add-p-in-loop-s : goal.overflow_add-p-in-loop-s
 overflow_add-p-in-loop-s c = omega (arith, room (goal.at.overflow_add-p-in-loop-s c).In-Some, c.requires.1.0)

@@ -98,9 +98,6 @@ pub child-init : goal.child-init
 child-init c =
     rw (c.into_iter-s-iterator.ensures.into_iter_gives, c.stops_of-s-items.ensures) (thinning_starts _ _ _ c.requires.0.0.small)
 
-pub slot-k-requires : goal.slot-k-requires
-slot-k-requires c = omega (arith, c.in-Some.ensures.steps.0)
-
 pub load-requires : goal.load-requires
 load-requires c = (child c).1
 
