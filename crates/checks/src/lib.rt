@@ -1,7 +1,7 @@
 // Checks 1 to 5, which look at a job, its table and its starting order: `job_cause`; and those of the pairs that are given with it (request A.6):
-// `pair_cause`. Each answers why a call is refused, if it is. The number of that is `job_cause` or `pair_cause` of crate `answer` (specs/Checks), whose
-// proofs/JobCause ties these to the cause of a call with a pool. `first_cause` is for a caller that has a bound and pairs but no job, `wrong_n` for one
-// that has n alone. They are public for the crates above and not for hosts; of them only `pair_cause` asks something, which `job_cause` has seen to.
+// `pair_cause`. Each answers why a call is refused, if it is, and the number of that is `job_cause` or `pair_cause` of crate `answer` (specs/Checks).
+// `first_cause` is for a caller that has a bound and pairs but no job, `wrong_n` for one that has n alone. They are public for the crates above and not
+// for hosts; of them only `pair_cause` asks something, which `job_cause` has seen to.
 #![tactic(auto)]
 
 ghost use Rattle.std.specs.Prelude.{◌≡◌, false, ◌≤◌};
