@@ -1,6 +1,6 @@
 -- Laws of a text that is being written.
---   written, begun    what is written of the text of some bytes, and that it is one that is being written
---   grown             some bytes more
+--   begun             the text of some bytes is one that is being written
+--   grown             .. and some bytes more are written
 --   spaced-next       the stops that the loop writes, one more
 use mathlib.Core.Path.{◌≡◌, refl, ap, sym, ◌∙◌}
 use mathlib.Core.List.{List, [], ◌∷◌, ◌++◌, append_assoc}
@@ -18,7 +18,7 @@ use Rattle.printing.specs.Promise.{text_places, text_of}
 use Rattle.printing.specs.Code.{Begun}
 use Rattle.printing.specs.declared.Text.{Text}
 
-pub written : (t : Text) (xs : List ℕ) → t ≡ text_of xs → take t.length t.bytes ≡ xs
+written : (t : Text) (xs : List ℕ) → t ≡ text_of xs → take t.length t.bytes ≡ xs
 unfolding text_of
 written t xs e = rw e (take-padded text_places xs)
 

@@ -2,7 +2,7 @@
 use mathlib.Core.List.{◌++◌}
 use native.Mathlib.Omega.{arith}
 use lib.ListN.{length-append}
-use Rattle.printing.proofs.DraftLaws.{begun, written, grown}
+use Rattle.printing.proofs.DraftLaws.{begun, grown}
 use Rattle.printing.proofs.draft.Draft.put_bytes.Goals as goal
 
 pub invariant_of-self : goal.invariant_of-self
@@ -10,9 +10,3 @@ invariant_of-self c =
     let old = c.args.self.now in
     let bytes = c.args.bytes.now in
     begun _ (old ++ bytes) (grown c.self.inside.text old bytes _ _ c.self.invariant c.self.view_is (omega arith) c.copy_from_slice.ensures.after) (omega (arith, length-append old bytes))
-
-pub returns : goal.returns
-returns c =
-    let old = c.args.self.now in
-    let bytes = c.args.bytes.now in
-    written _ (old ++ bytes) (grown c.self.inside.text old bytes _ _ c.self.invariant c.self.view_is (omega arith) c.copy_from_slice.ensures.after)
