@@ -1,6 +1,5 @@
 -- `order::flown_of` meets its contract: the stops of at most sixteen places are the record's.
 use mathlib.Core.Path.{refl}
-use native.Mathlib.Omega.{arith}
 use Rattle.inspection.specs.Code.{of_four}
 use Rattle.node_answers.specs.Nodes.{flown_stops}
 use Rattle.node_answers.specs.Answers.{flown_at}
@@ -9,6 +8,3 @@ use Rattle.inspection.proofs.order.flown_of.Goals as goal
 pub returns : goal.returns
 unfolding flown_at flown_stops of_four
 returns c = rw (c.stops_of-stops.ensures, c.places.ensures) refl
-
-pub stops_of-stops-requires : goal.stops_of-stops-requires
-stops_of-stops-requires c = omega (arith, c.places.ensures)
