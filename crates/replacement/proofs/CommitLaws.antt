@@ -1,10 +1,12 @@
 -- The parts of `commit`, one after the other: what each leaves meets what the next asks, and the last leaves the pool `Committed`.
 --   unbeaten_of, within-staying    the nodes that no child dominates; those of them up to the limit stay
 --   tidiable                      what is left of the active nodes can be tidied
---   committed                     the pool with them
+--   roomy                         then the branched node has room at the far end
+--   committed                     and the pool has the children that survive
 use mathlib.Core.Path.{◌≡◌, sym, ap, subst, ◌∙◌}
 use mathlib.Core.Bool.{Bool, true, false, not, ◌&&◌, and-false, and-true}
 use mathlib.Core.List.{List, ◌++◌}
+use mathlib.Core.Logic.{◌⊎◌}
 use Prim.Native.Nat.{ℕ, ◌+◌, ◌^◌, ◌≤◌, ◌<◌}
 use native.Mathlib.Omega.{arith}
 use lib.Dec.{leb}
@@ -18,7 +20,7 @@ use Rattle.stops.specs.declared.node_record.Record.{Record}
 use Rattle.records.specs.Code.{slots}
 use Rattle.records.proofs.SlotLaws.{slots_length}
 use Rattle.lanes.specs.Sizes.{gone}
-use Rattle.lanes.specs.Code.{is_within, live_of, others_of, far_of}
+use Rattle.lanes.specs.Code.{sized, is_within, live_of, others_of, far_of}
 use Rattle.lanes.specs.declared.layout.Layout.{Layout}
 use Rattle.pool.specs.Code.{Laid, OnePool}
 use Rattle.replacement.specs.Code.{is_beaten, is_staying, staying_of, far_with, Changing, Kept, Committed}
@@ -83,6 +85,12 @@ module _
       where
         far : q₂.far ≡ p.far
         far = tidied.far-count ∙ cleared.far-count
+
+        pub roomy :
+            (b : Record) → b ≡ sized b
+            → (Laid recs₂ q₂ index₂ × (b ≡ sized b))
+            × ((q₂.used + c.far ≤ q₂.capacity) × (((c.far ≡ 0) × (q₂.far ≡ 0)) ⊎ (c.far ≡ q₂.far + 1)))
+        roomy b whole = ((tidied.laid, whole), (omega arith, rw far h.back))
 
         module _
             (b : Record) (recs₃ : List Record) (q₃ : Layout) (index₃ : List ℕ)
