@@ -1,5 +1,5 @@
 -- The goals of `reader::table_of` that the search leaves.
-use mathlib.Core.Path.{◌≡◌, refl, ap, sym, ◌∙◌}
+use mathlib.Core.Path.{refl, ap, sym, ◌∙◌}
 use mathlib.Core.List.{[], ◌∷◌, ◌++◌}
 use Prim.Native.Nat.{ℕ}
 use native.Mathlib.Omega.{arith}
@@ -20,9 +20,3 @@ loop-k-preserved c =
     let file = c.args.file.now in
     let next = words-next at.k file ∙ ap (λ (x : ℕ). words_in at.k file ++ (x ∷ [])) (sym c.word_at.ensures) in
     rw at.invariant (padded_one table_numbers _ _ at.k _ (length-words at.k file) next (omega arith))
-
-pub returns : goal.returns
-returns c =
-    let at = c.loop-k in
-    let all : at.k ≡ c.args.count = omega arith in
-    at.invariant ∙ rw all
