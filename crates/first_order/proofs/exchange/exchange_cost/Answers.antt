@@ -7,7 +7,7 @@ use Rattle.first_order.proofs.ExchangeLaws.{swap-exchanged, exchanged_exchangeab
 use Rattle.first_order.proofs.exchange.exchange_cost.Goals as goal
 use Rattle.first_order.proofs.exchange.exchange_cost.Goals.{After-swap}
 
--- the order is the exchanged one, there and back
+-- the order whose cost is taken is the exchanged one
 there : (c : After-swap) → let a = c.args in c.swap.new.self ≡ exchanged a.x.now a.p a.q
 there c =
     let a = c.args in
