@@ -1,7 +1,6 @@
 -- The record of a node holds what document 01 says of it: what is computed on records (stops/specs/Code) is what the definitions on
 -- orders give, for partial orders of the stops of a day.
 --   record_of_encode    the record's fields are the six words of document 01
---   encode_set_small    its set has a bit for no more stops than a day has
 --   encode-last         the last stop
 --   encode-extend       one more stop and what it adds to the path cost, but for the bound
 --   encode_wide         the words have room for one more stop
@@ -33,10 +32,6 @@ use Rattle.records.proofs.OrderWords.{Digits, first-digit, second_digit, first_b
 pub record_of_encode : (n : ℕ) (D : Day) (k : ℕ) (x : Node) → record_of n D k x ≡ six (encode n D k x)
 unfolding record_of six encode
 record_of_encode n D k x = refl
-
-pub encode_set_small : (n : ℕ) → n ≤ most_stops → (D : Day) (k : ℕ) (x : Node) → (encode n D k x).set < 2 ^ most_stops
-unfolding encode
-encode_set_small n few D k x = set_small n few x
 
 -- a record whose bound is not yet known
 abbrev pub unbounded : Record → Record
