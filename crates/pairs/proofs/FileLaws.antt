@@ -1,7 +1,7 @@
 -- The precedence that a pair file makes.
 --   precedence_none, precedence_some    it has sets where the file has pairs
 --   precedence_pairs    its pairs are those of the file
---   Marking, marking_starts, marking_stops, marking_again, marking_ends    the invariant of the loop that makes it
+--   Marking, marking_stops, marking_again, marking_ends    the invariant of the loop that makes it
 use mathlib.Core.Path.{◌≡◌, refl, sym, ◌∙◌}
 use mathlib.Core.List.Memᴰ
 use mathlib.Core.List.{List, [], ◌∷◌, ◌++◌}
@@ -125,9 +125,6 @@ pub record Marking (bytes sets left : List ℕ) (size : ℕ) : Type 0 where
   pub two : size ≡ 2
   pub stops : OfStops left
   pub same : marked sets left ≡ marked (replicate places 0) bytes
-
-pub marking_starts : {bytes left : List ℕ} {size : ℕ} → OfStops bytes → size ≡ 2 → left ≡ bytes → Marking bytes (replicate places 0) left size
-marking_starts all two e = record { two = two; stops = rw e all; same = rw e }
 
 module _ {bytes sets left : List ℕ} {size : ℕ} (m : Marking bytes sets left size) where
   -- the stops of the next pair

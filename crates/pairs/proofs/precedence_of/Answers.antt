@@ -7,17 +7,12 @@ use lib.ListN.{get_or}
 use lib.Pow.{pow_mono}
 use Rattle.sizes.specs.Sizes.{most_stops}
 use Rattle.pairs.proofs.PairLaws.{holding}
-use Rattle.pairs.proofs.FileLaws.{precedence_none, precedence_some, marking_starts, marking_stops, marking_again, marking_ends}
+use Rattle.pairs.proofs.FileLaws.{precedence_none, precedence_some, marking_stops, marking_again, marking_ends}
 use Rattle.pairs.proofs.precedence_of.Goals as goal
 use Rattle.pairs.proofs.precedence_of.Goals.{In-Some}
 
 pub returns-then-is_empty : goal.returns-then-is_empty
 returns-then-is_empty c = sym (precedence_none c.args.pairs.now (search rules))
-
-pub loop-pair-init : goal.loop-pair-init
-loop-pair-init c =
-    let e = c.chunks_exact-pair-items.ensures in
-    rw c.into_iter-pair-iterator.ensures.into_iter_gives (marking_starts c.requires e.size e.rest)
 
 -- the stops of the next pair
 stops :
