@@ -7,7 +7,7 @@
 --   all_small, stops_in-all        the number of all n stops, one less than 2 to the power n, is small; its stops are those that e leaves
 --   stops_in-ones                  the digits that are set are as many as the stops
 -- Each is shown of `Digits`, by halving the number.
-use mathlib.Core.Path.{◌≡◌, refl, ap, ◌∙◌, sym}
+use mathlib.Core.Path.{◌≡◌, refl, ap, ◌∙◌}
 use mathlib.Core.Bool.{Bool, true, false, not}
 use mathlib.Core.List.Memᴰ
 use mathlib.Core.List.{List, [], ◌∷◌}

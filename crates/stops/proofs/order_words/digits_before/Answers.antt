@@ -1,6 +1,6 @@
 -- The goals of `order_words::digits_before` that the search leaves.
-use mathlib.Core.Path.{◌≡◌, refl, ap, sym, ◌∙◌}
-use Prim.Native.Nat.{ℕ, ◌+◌, ◌-◌}
+use mathlib.Core.Path.{◌≡◌, refl, sym, ◌∙◌}
+use Prim.Native.Nat.{◌+◌, ◌-◌}
 use native.Mathlib.Omega.{arith}
 use Rattle.sizes.specs.Sizes.{word_stops}
 use Rattle.stops.specs.Code.{digits_before}

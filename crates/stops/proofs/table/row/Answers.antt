@@ -4,9 +4,6 @@ use native.Mathlib.Omega.{arith}
 use Rattle.stops.proofs.RowLaws.{filled_none, filled_more, filled_row}
 use Rattle.stops.proofs.table.row.Goals as goal
 
-pub flying-requires : goal.flying-requires
-flying-requires c = let p = c.requires in (p.0, (p.1, omega arith))
-
 pub loop-j-preserved : goal.loop-j-preserved
 loop-j-preserved c = rw (c.loop-j.invariant, c.flying.ensures) (filled_more _ _ _ (omega arith))
 

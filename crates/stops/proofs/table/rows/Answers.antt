@@ -7,9 +7,6 @@ use Rattle.stops.proofs.RowLaws.{zeros, filled_none, filled_more, filled-rows, u
 use Rattle.stops.proofs.table.rows.Goals as goal
 use Rattle.stops.proofs.table.rows.Goals.{After-ends_away}
 
-pub row-requires : goal.row-requires
-row-requires c = (c.requires, omega arith)
-
 pub loop-i-preserved : goal.loop-i-preserved
 loop-i-preserved c = rw (c.loop-i.invariant, c.row.ensures) (filled_more _ _ _ (omega arith))
 
