@@ -96,8 +96,10 @@ fn take_turn(
     requires { ((first : List ℕ) × (s : State Node) × Running setting t first w.old index.old r s) × (most_stops ≤ length (records kids.old)) }
     ensures { (first : List ℕ) (s : State Node) → Running setting t first w.old index.old r s → Took setting t w.old w.new index.new s result }
 {
-    let i = choose(w, r.layout, setting.n, setting.selection, index)?;
-    Ok(turn_at(setting, t, w, i, r, kids, index))
+    match choose(w, r.layout, setting.n, setting.selection, index) {
+        Ok(i) => Ok(turn_at(setting, t, w, i, r, kids, index)),
+        Err(refusal) => Err(refusal),
+    }
 }
 
 // Whether the chains of a lane are kept, in a pool of some capacity: a rule looks along them, and its records can be numbered by a word.

@@ -4,3 +4,7 @@ use Rattle.planner.proofs.run.take_turn.Goals as goal
 
 pub choose-requires : goal.choose-requires
 choose-requires c = turn_chooses c.requires.0.2
+
+-- what `choose` refuses is handed on
+pub returns-in-Err : goal.returns-in-Err
+returns-in-Err c first s running = c.in-Err.ensures
