@@ -1,5 +1,5 @@
 -- What the code calls the causes of a refusal, and the numbers that documents 01 and 02 give them.
-use Rattle.std.specs.Prelude.{◌≡◌, refl, ℕ, List, [], ◌∷◌, map, Result, Ok, Err}
+use Rattle.std.specs.Prelude.{◌≡◌, refl, ℕ, [], ◌∷◌, map, Result, Ok, Err}
 use Rattle.lists.specs.Lists.{from}
 use Rattle.answer.specs.declared.refusal.Refusal.{Refusal}
 use Rattle.answer.specs.declared.refusal.Refusal.TheVariants.{Stops, Table, Dear, Choice, Start, Pool, Full, Short, Layout, Buffer, Pairs}

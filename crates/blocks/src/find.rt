@@ -1,5 +1,5 @@
 // The least bound, and the first and the last record with a bound up to a limit.
-ghost use Rattle.std.specs.Prelude.{true, false, List, ℕ, ◌*◌, ◌+◌, ◌/◌, ◌^◌, ◌≤◌, ◌<◌, length, get_or};
+ghost use Rattle.std.specs.Prelude.{true, false, List, ℕ, ◌*◌, ◌/◌, ◌^◌, ◌≤◌, ◌<◌, length};
 ghost use Rattle.stops.specs.declared.node_record.Record.{Record};
 ghost use Rattle.records.specs.Code.{records};
 ghost use Rattle.lanes.specs.Sizes.{blocks, gone};

@@ -82,8 +82,8 @@ fn from_another(leg: u32, r: usize, s: usize) -> u32
 
 // The cells of the row of stop r from one place to before another join: into has the cheapest leg into each stop so far. All of them are gone through,
 // whatever stops are left, so that several are done at a time.
-fn cells_join(row: [u32; PLACES], r: usize, from: usize, to: usize, into: &mut [u32; PLACES])
-    requires { (from ≤ to) × (to ≤ places) }
+fn cells_join(row: [u32; PLACES], r: usize, from: usize, to: usize, into: &mut [u32])
+    requires { (from ≤ to) × ((to ≤ places) × (length into.old ≡ places)) }
     ensures { Entered (lessened row r into.old) into.old into.new from to }
 {
     for s in from..to {
@@ -92,8 +92,8 @@ fn cells_join(row: [u32; PLACES], r: usize, from: usize, to: usize, into: &mut [
 }
 
 // The row of stop r joins, for the stops of rest: up to the last four that has one of them, so that a day of few stops goes without the others.
-fn row_joins(row: [u32; PLACES], r: usize, rest: u32, into: &mut [u32; PLACES])
-    requires { rest < 2 ^ most_stops }
+fn row_joins(row: [u32; PLACES], r: usize, rest: u32, into: &mut [u32])
+    requires { (rest < 2 ^ most_stops) × (length into.old ≡ places) }
     ensures { ((s : ℕ) → In s (stops_in rest) → get_or into.new s 0 ≡ lessened row r into.old s) × (length into.new ≡ places) }
 {
     cells_join(row, r, 1, SECOND_FOUR, into);
@@ -112,15 +112,16 @@ fn row_joins(row: [u32; PLACES], r: usize, rest: u32, into: &mut [u32; PLACES])
 }
 
 // Puts above every cost wherever a leg is to stand.
-fn cleared(into: &mut [u32; PLACES])
+fn cleared(into: &mut [u32])
+    requires { length into.old ≡ places }
     ensures { Entered (λ s. above_every_cost) into.old into.new 1 places }
 {
     into[1..].fill(ABOVE_EVERY_COST);
 }
 
 // The cheapest leg into each stop of rest from another one of them, a row at a time.
-fn least_into(t: &Rows, rest: u32, into: &mut [u32; PLACES])
-    requires { Several rest × Cheap t.now }
+fn least_into(t: &Rows, rest: u32, into: &mut [u32])
+    requires { Several rest × (Cheap t.now × (length into.old ≡ places)) }
     ensures { ((s : ℕ) → In s (stops_in rest) → get_or into.new s 0 ≡ among (legs t.now) (stops_in rest) s) × (length into.new ≡ places) }
 {
     cleared(into);
@@ -131,8 +132,8 @@ fn least_into(t: &Rows, rest: u32, into: &mut [u32; PLACES])
 }
 
 // What the children by the stops of rest share where the bound is close. Each stop's part of the total is written to its place.
-fn shared(t: &Rows, rest: u32, into: &mut [u32; PLACES]) -> Family
-    requires { Several rest × Cheap t.now }
+fn shared(t: &Rows, rest: u32, into: &mut [u32]) -> Family
+    requires { Several rest × (Cheap t.now × (length into.old ≡ places)) }
     ensures { Shares t.now rest result into.new }
 {
     least_into(t, rest, into);
@@ -165,7 +166,7 @@ fn only_total(total: u32) -> Family
 
 // What the children by the stops of rest share, by the bound. A complete child, which is the only one, adds its leg home, whichever the bound is; else a
 // plain bound adds nothing.
-fn family_by(t: &Rows, bound: u32, rest: u32, into: &mut [u32; PLACES]) -> Family
+fn family_by(t: &Rows, bound: u32, rest: u32, into: &mut [u32]) -> Family
     requires { (rest < 2 ^ most_stops) × (Cheap t.now × (into.old ≡ replicate places 0)) }
     ensures { Gives t.now bound rest result into.new }
 {
@@ -195,7 +196,7 @@ pub fn added(family: Family, own: u32, s: u32) -> u32
 }
 
 // What each child of b adds to it; into, zeros at first, gets each stop's part of the total.
-pub fn child_costs(n: u32, bound: u32, t: Rows, b: Record, into: &mut [u32; PLACES]) -> Costs
+pub fn child_costs(n: u32, bound: u32, t: Rows, b: Record, into: &mut [u32]) -> Costs
     requires { (n ≤ most_stops) × ((b.set < 2 ^ n) × (Cheap t × (into.old ≡ replicate places 0))) }
     ensures { Adds t bound (last_stop b) (2 ^ n - 1 - b.set) result into.new }
 {

@@ -1,11 +1,10 @@
 // Parts 3, 4 and 5 of a step: which children survive rules 1, 2 and 4.
 ghost use Rattle.std.specs.Prelude.{◌≡◌, ◌<◌};
-ghost use Rattle.sizes.specs.Sizes.{no_limit};
 ghost use Rattle.search.specs.Step.{on};
 ghost use Rattle.records.specs.Code.{records, Slotted, Thinned};
 ghost use Rattle.lanes.specs.Sizes.{gone};
 ghost use Rattle.lanes.specs.Code.{is_within, live_of, far_of};
-ghost use Rattle.chains.specs.Code.{is_free, Sized};
+ghost use Rattle.chains.specs.Code.{Sized};
 ghost use Rattle.pool.specs.Code.{Laid};
 ghost use Rattle.children.specs.Code.{limit_of, survives};
 

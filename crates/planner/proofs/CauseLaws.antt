@@ -13,11 +13,11 @@ use Rattle.answer.specs.Checks.{cause}
 use Rattle.answer.specs.Answer.{respond, answer}
 use Rattle.checks.proofs.RefusalLaws.{numbered}
 use Rattle.planner.specs.Promise.{Promised}
-use Rattle.planner.specs.Code.{Ended, told}
+use Rattle.planner.specs.Code.{Ended, report_in}
 
 module _ (c : Call) where
   -- a call with a cause is refused by its number, and the pool stays
-  pub refused_told : (r : Result Report Refusal) (e : Refusal) → IsErrAnd r (λ x. x ≡ e) → number e ≡ cause c → Promised c (told r) c.pool
+  pub refused_told : (r : Result Report Refusal) (e : Refusal) → IsErrAnd r (λ x. x ≡ e) → number e ≡ cause c → Promised c (report_in r) c.pool
   unfolding answer respond
   refused_told (Ok q) e h f = absurd h
   refused_told (Err x) e h f = rw (h, ← f) (go (number e) (numbered e))
@@ -27,7 +27,7 @@ module _ (c : Call) where
       go (suc k) h = refl
 
   -- a call without one answers as its run ends
-  pub run_told : (r : Result Report Refusal) {pool : List ℕ} → 0 ≡ cause c → IsOkAnd r (λ q. Ended c q pool) → Promised c (told r) pool
+  pub run_told : (r : Result Report Refusal) {pool : List ℕ} → 0 ≡ cause c → IsOkAnd r (λ q. Ended c q pool) → Promised c (report_in r) pool
   unfolding answer respond
   run_told (Ok q) z same = rw (← z) same
   run_told (Err e) z h = absurd h

@@ -9,7 +9,7 @@
 --   rows_by, Begins    the rows that a setting goes by, and what the turns begin with
 --   Told, Settled, Ran    the turns have come to an end: what they tell of it, and how they leave the pool
 --   Ended        what is returned and left in the pool is what the call's run ends with
---   told         the report that is returned, of a run or of a refusal
+--   report_in    the report that is returned, of a run or of a refusal
 use Rattle.std.specs.Prelude.{◌≡◌, Bool, cond, ◌&&◌, ◌||◌, List, [], ◌++◌, map, reverse, ◌⊎◌, ℕ, ◌+◌, ◌-◌, ◌≤◌, ◌<◌, T, eqb, ltb, length, get_or, replicate, Result, Ok, Err}
 use Rattle.std.proofs.Math.Option
 use Rattle.sizes.specs.Sizes.{order_places, above_every_cost}
@@ -70,10 +70,10 @@ Turned d t w w' index' s Stop = (next_of d t w s ≡ halt) × (w' ≡ w)
 Turned d t w w' index' s Full = (next_of d t w s ≡ overflow) × (w' ≡ w)
 Turned d t w w' index' s (Go r) = (s' : State Node) × (next_of d t w s ≡ go s') × Shown d w' index' r (records_of d t s')
 
--- a turn, or the refusal of a selection that there is not, by number 4
+-- a turn, or the refusal of a selection that there is not, by number 4, and the pool is as it was
 abbrev pub Took : Setting → Table → List ℕ → List ℕ → List ℕ → State Node → Result Turn Refusal → Type 0
 Took d t w w' index' s (Ok turn) = Turned d t w w' index' s turn
-Took d t w w' index' s (Err e) = (3 < d.selection) × (number e ≡ 4)
+Took d t w w' index' s (Err e) = (3 < d.selection) × ((number e ≡ 4) × (w' ≡ w))
 
 -- a report with a number, a mark, a cost, a floor and an order's places, and the counts of a run
 unfoldable pub reported : ℕ → ℕ → ℕ → ℕ → List ℕ → Run → Report
@@ -169,6 +169,6 @@ abbrev pub Ended : Call → Report → List ℕ → Type 0
 Ended c q pool = ◌≡◌ {A = Answer} (record { report = q; pool = pool }) (ending c (outcome c))
 
 -- the report of a call that ran, or of its refusal
-abbrev pub told : Result Report Refusal → Report
-told (Ok q) = q
-told (Err e) = refusal (number e)
+abbrev pub report_in : Result Report Refusal → Report
+report_in (Ok q) = q
+report_in (Err e) = refusal (number e)

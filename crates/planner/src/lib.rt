@@ -6,7 +6,7 @@ ghost use Rattle.std.specs.Prelude.{◌≡◌, ℕ};
 ghost use Rattle.answer.specs.Call.{call_of};
 ghost use Rattle.answer.specs.Checks.{cause};
 ghost use Rattle.answer.specs.Refusals.{number_in};
-ghost use Rattle.planner.specs.Code.{told};
+ghost use Rattle.planner.specs.Code.{report_in};
 ghost use Rattle.planner.specs.Promise.{Promised};
 
 mod report;
@@ -40,7 +40,7 @@ fn planned(
     budget: u64,
     pool: &mut [u32],
 ) -> Result<Report, Refusal>
-    ensures { Promised (call_of job table.now start.now pairs.now budget pool.old) (told result) pool.new }
+    ensures { Promised (call_of job table.now start.now pairs.now budget pool.old) (report_in result) pool.new }
 {
     checked(job, table, start, pairs, pool)?;
     search(job, table, start, pairs, budget, pool)

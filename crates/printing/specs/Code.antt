@@ -1,7 +1,7 @@
 -- What the functions of this crate compute between one another. These definitions are the code's own: a reader of the promises needs none of
 -- them.
 --   Begun                      a text within its places, with zeros behind it
---   Put                        some bytes written behind what was written, and how many they are at most
+--   Appended                   some bytes written behind what was written, and how many they are at most
 --   most_digits                how many digits a value of 64 bits has at most
 --   decimal_room               how many bytes one takes at most, printed: a space and its digits
 --   line_room                  .. and a line of some: its name, the values and the line's end
@@ -16,8 +16,8 @@ pub record Begun (t : Text) : Type 0 where
   pub within : t.length ≤ text_places
   pub padded : t ≡ text_of (take t.length t.bytes)
 
-abbrev pub Put : List ℕ → List ℕ → ℕ → List ℕ → Type 0
-Put before bytes most after = (after ≡ before ++ bytes) × (length after ≤ length before + most)
+abbrev pub Appended : List ℕ → List ℕ → ℕ → List ℕ → Type 0
+Appended before bytes most after = (after ≡ before ++ bytes) × (length after ≤ length before + most)
 
 abbrev pub most_digits : ℕ
 most_digits = 20

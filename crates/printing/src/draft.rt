@@ -2,7 +2,7 @@
 ghost use Rattle.std.specs.Prelude.{◌≡◌, ℕ, List, [], ◌∷◌, ◌++◌, ◌+◌, ◌≤◌, length, take};
 ghost use Rattle.report_format.specs.Text.{ascii, spaced};
 ghost use Rattle.printing.specs.Promise.{text_places, text_of};
-ghost use Rattle.printing.specs.Code.{Begun, Put, decimal_room, line_room};
+ghost use Rattle.printing.specs.Code.{Begun, Appended, decimal_room, line_room};
 
 use crate::{TEXT, Text};
 use std::marker::Model;
@@ -56,7 +56,7 @@ impl Draft {
     // Writes a space and a number in decimal.
     pub fn put_decimal(&mut self, x: u64)
         requires { length self.old + decimal_room ≤ text_places }
-        ensures { Put self.old (spaced (x ∷ [])) decimal_room self.new }
+        ensures { Appended self.old (spaced (x ∷ [])) decimal_room self.new }
     {
         let mut digits = [0u8; DIGITS];
         let count = io::decimal(x, &mut digits);
@@ -67,7 +67,7 @@ impl Draft {
     // Writes a line: a name and a number.
     pub fn put_line(&mut self, name: &[u8], x: u64)
         requires { length self.old + line_room name.now 1 ≤ text_places }
-        ensures { Put self.old (name.now ++ spaced (x ∷ []) ++ ascii "\n") (line_room name.now 1) self.new }
+        ensures { Appended self.old (name.now ++ spaced (x ∷ []) ++ ascii "\n") (line_room name.now 1) self.new }
     {
         self.put_bytes(name);
         self.put_decimal(x);

@@ -2,12 +2,12 @@
 --   stops_in_zero, stops_in-next    the empty set has none; the first of any other set is one more than its trailing zeros
 --   stops_in_range, stops_in-distinct, stops_in_few    they are stops of a day, none twice, and no more than it may have
 --   stops_in-without               taking 2 to the power s-1 off takes stop s out, and nothing else
---   stops_in-mask, mask_small    the number of a set of stops (`mask`)
+--   stops_in-mask, mask-stops_in, mask_small    the number of a set of stops (`mask`), and the way back
 --   mask-others, stops_in-others   what is missing from the number of all n stops is the number of the other stops
 --   all_small, stops_in-all        the number of all n stops, one less than 2 to the power n, is small; its stops are those that e leaves
 --   stops_in-ones                  the digits that are set are as many as the stops
 -- Each is shown of `Digits`, by halving the number.
-use mathlib.Core.Path.{◌≡◌, refl, ap, ◌∙◌}
+use mathlib.Core.Path.{◌≡◌, refl, ap, ◌∙◌, sym}
 use mathlib.Core.Bool.{Bool, true, false, not}
 use mathlib.Core.List.Memᴰ
 use mathlib.Core.List.{List, [], ◌∷◌}
@@ -159,6 +159,15 @@ weight_doubles s (r ∷ xs) above =
     let up : r - s ≡ suc (r - suc s) = omega arith in
     omega (arith, ap (λ (j : ℕ). 2 ^ j) up, pow-suc 2 (r - suc s), weight_doubles s xs (λ q i. above q (Memᴰ.tail i)))
 
+digits_weight : {k s m : ℕ} {xs : List ℕ} → Digits k s m xs → weight s xs ≡ m
+unfolding weight
+digits_weight (no_digit e) = sym e
+digits_weight (is_clear {s = s} {xs = xs} h e d) =
+    omega (arith, weight_doubles s xs (λ r i. (digits_range d r i).0), digits_weight d)
+digits_weight (is_set {s = s} {xs = xs} h e d) =
+    let one : s - s ≡ 0 = omega arith in
+    omega (arith, ap (λ (j : ℕ). 2 ^ j) one, weight_doubles s xs (λ r i. (digits_range d r i).0), digits_weight d)
+
 weight_digits :
     (test : ℕ → Bool) (n k s : ℕ) → n ≤ k → Digits k s (weight s (keep test (from s n))) (keep test (from s n))
 unfolding weight
@@ -232,6 +241,10 @@ module _ (m : ℕ) (small : m < 2 ^ most_stops) where
       let h : (1 ≤ s) × (s ≤ most_stops) = stops_in_range s i in
       let (b, n) = digits_without stops_digits (s - 1) s (omega arith) i in
       (b, digits_bits n)
+
+pub mask-stops_in : (m : ℕ) → m < 2 ^ most_stops → mask (stops_in m) ≡ m
+unfolding mask weight
+mask-stops_in m small = digits_weight (stops_digits m small)
 
 module _ (test : ℕ → Bool) (n : ℕ) where
   pub stops_in-mask : n ≤ most_stops → stops_in (mask (keep test (from 1 n))) ≡ keep test (from 1 n)

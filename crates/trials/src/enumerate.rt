@@ -6,7 +6,7 @@ ghost use Rattle.sizes.specs.Sizes.{most_stops, places, order_places};
 use sizes::ORDER_PLACES;
 
 // Whether the first n numbers of x are an order of 1 to n: each of these stands among them, and so none stands there twice.
-fn is_order(x: &[u8; ORDER_PLACES], n: usize) -> bool
+pub fn is_order(x: &[u8; ORDER_PLACES], n: usize) -> bool
     requires { n ≤ most_stops }
 {
     let front = &x[..n];
@@ -61,7 +61,7 @@ fn place_of(x: &[u8; ORDER_PLACES], n: usize, s: u8) -> usize
 }
 
 // Whether the first stop of each of the day's pairs stands in x before the second.
-fn respects(x: &[u8; ORDER_PLACES], day: Day) -> bool {
+pub fn respects(x: &[u8; ORDER_PLACES], day: Day) -> bool {
     for pair in day.pair_stops().chunks_exact(2) {
         if place_of(x, day.n, pair[1]) < place_of(x, day.n, pair[0]) {
             return false;
@@ -76,7 +76,7 @@ pub fn allowed(x: &[u8; ORDER_PLACES], day: Day) -> bool {
 }
 
 // The cost of a day's order, from home to where the day ends; none if it leaves the table.
-pub fn cost_of(table: &[u32], x: &[u8; ORDER_PLACES], day: Day) -> Option<u64> {
+fn cost_in(table: &[u32], x: &[u8; ORDER_PLACES], day: Day) -> Option<u64> {
     let side = day.n + 1;
     let mut sum = 0;
     let mut place = 0;
@@ -88,6 +88,11 @@ pub fn cost_of(table: &[u32], x: &[u8; ORDER_PLACES], day: Day) -> Option<u64> {
         sum += flying(table, side, place, 0)?;
     }
     Some(sum)
+}
+
+// The same; above every cost if it leaves the table.
+pub fn cost_of(table: &[u32], x: &[u8; ORDER_PLACES], day: Day) -> u64 {
+    cost_in(table, x, day).unwrap_or(u64::MAX)
 }
 
 // How many sequences of n numbers from 1 to n there are.
@@ -126,14 +131,21 @@ pub struct Optimum {
     ghost whole: { order_places ≡ length order },
 }
 
-// The least cost over all orders that respect the pairs, and the smallest of the orders that cost it (request A.8): the first of them.
-pub fn best(table: &[u32], day: Day) -> Option<Optimum> {
+// The least cost over all orders that respect the pairs, and the smallest of the orders that cost it (request A.8): the first of them. Above every cost, and
+// zeros, if there is no order.
+pub fn best(table: &[u32], day: Day) -> Optimum
+    ensures { order_places ≡ length result.order }
+{
     (0..sequences(day.n))
         .map(|k| sequence(day, k))
         .filter(|order| allowed(order, day))
         .filter_map(|order| Some(Optimum {
-            cost: cost_of(table, &order, day)?,
+            cost: cost_in(table, &order, day)?,
             order,
         }))
         .min_by_key(|optimum| optimum.cost)
+        .unwrap_or(Optimum {
+            cost: u64::MAX,
+            order: [0u8; ORDER_PLACES],
+        })
 }

@@ -45,7 +45,7 @@ pub fn zeros(x: &[u8; ORDER_PLACES], n: usize) -> bool {
 pub fn priced(t: Table, cost: u32, x: &[u8; ORDER_PLACES]) -> bool {
     let cost = u64::from(cost);
     let known = zeros(x, t.day.n) && allowed(x, t.day) && t.best.cost <= cost;
-    known && cost_of(t.numbers, x, t.day) == Some(cost)
+    known && cost_of(t.numbers, x, t.day) == cost
 }
 
 // A first order is right if it is an order that respects the pairs, its cost is the one given, and that is not below the least.

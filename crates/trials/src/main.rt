@@ -109,17 +109,16 @@ fn from_first(t: Table, pool: &mut [u32], tally: &mut Tally) {
     }
 }
 
-// The jobs over table k, without a starting order, with one, and from the unit's first order. A table without any order would count as a job that
-// differs.
+// The jobs over table k, without a starting order, with one, and from the unit's first order.
 fn trial(k: u64, pool: &mut [u32], tallies: &mut Tallies) {
     let day = day_of(k);
     let numbers = table_of(k, day.n);
     let numbers = &numbers[..(day.n + 1) * (day.n + 1)];
-    let Some(best) = best(numbers, day) else {
-        tallies.whole.count(None, &[]);
-        return;
+    let t = Table {
+        numbers,
+        day,
+        best: best(numbers, day),
     };
-    let t = Table { numbers, day, best };
     let start = order_from(day, next(k));
     jobs_twice(t, &start[..0], pool, tallies);
     jobs_twice(t, &start[..day.n], pool, tallies);

@@ -37,7 +37,9 @@ fn paired_in(k: u64, n: usize) -> usize
 
 // The day of table k: it ends away for every other run of tables of all kinds, and its pairs are stops behind one another in some order: that of the
 // first sequence, from a place in the lower half on, which is one.
-pub fn day_of(k: u64) -> Day {
+pub fn day_of(k: u64) -> Day
+    ensures { (1 ≤ result.n) × (result.n ≤ 6) }
+{
     let n = stops_in(k);
     let away = k / TABLE_KINDS % 2 == 1;
     let mut pairs = [0u8; PAIR_BYTES];

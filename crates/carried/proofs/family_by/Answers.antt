@@ -3,7 +3,7 @@
 use mathlib.Core.Path.{◌≡◌, sym, ◌∙◌}
 use Prim.Native.Nat.{ℕ, ◌<◌}
 use native.Mathlib.Omega.{arith}
-use lib.ListN.{replicate}
+use lib.ListN.{length-replicate, replicate}
 use Rattle.sizes.specs.Sizes.{places}
 use Rattle.carried.specs.Code.{Several, family_of, Gives}
 use Rattle.carried.specs.declared.Family.{Family}
@@ -34,7 +34,8 @@ returns-then-later-eq0 c =
 
 pub shared-requires : goal.shared-requires
 shared-requires c =
-    (more (goal.at.shared-requires c).After-later (omega arith), c.requires.1.0)
+    let p = c.requires in
+    (more (goal.at.shared-requires c).After-later (omega arith), (p.1.0, rw p.1.1 (length-replicate {A = ℕ} places 0)))
 
 pub returns-then-is_close : goal.returns-then-is_close
 returns-then-is_close c =

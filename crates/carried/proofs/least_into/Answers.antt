@@ -16,4 +16,4 @@ loop-r-preserved c =
 pub returns : goal.returns
 returns c =
     let l = c.loop-r.invariant in
-    (joined_ends c.args.t.now c.requires.0 c.requires.1 l c.in-None.ensures.steps, l.room)
+    (joined_ends c.args.t.now c.requires.0 c.requires.1.0 l c.in-None.ensures.steps, l.room)

@@ -33,7 +33,7 @@ overflow_add-total c =
       arith,
       value (goal.at.overflow_add-total c).In-Some,
       summed_most c.loop-s.invariant.0 c.in-Some.s c.in-Some.ensures.steps.0,
-      total_most c.args.t.now c.requires.0 c.requires.1,
+      total_most c.args.t.now c.requires.0 c.requires.1.0,
     )
 
 pub loop-s-preserved : goal.loop-s-preserved
@@ -47,7 +47,7 @@ loop-s-preserved c =
 
 -- no leg home is as dear as what stands for none
 dear : (c : Start) (s : ℕ) → (legs c.args.t.now).home s < above_every_cost
-dear c s = omega (arith, c.requires.1.home s)
+dear c s = omega (arith, c.requires.1.0.home s)
 
 pub returns : goal.returns
 returns c =

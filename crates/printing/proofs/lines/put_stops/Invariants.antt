@@ -2,8 +2,8 @@
 use Prim.Native.Nat.{◌*◌}
 use lib.ListN.{take}
 use Rattle.report_format.specs.Text.{spaced}
-use Rattle.printing.specs.Code.{Put, decimal_room}
+use Rattle.printing.specs.Code.{Appended, decimal_room}
 use Rattle.printing.proofs.lines.put_stops.Given as goal
 
 abbrev pub invariant-loop-s : goal.invariant-loop-s
-invariant-loop-s l = Put l.initial.draft (spaced (take l.s-index l.stops)) (decimal_room * l.s-index) l.draft
+invariant-loop-s l = Appended l.initial.draft (spaced (take l.s-index l.stops)) (decimal_room * l.s-index) l.draft
