@@ -1,22 +1,20 @@
 -- Laws of the loops that look for the best exchange of an order and make it.
 --   swap-exchanged                             the library's `swap` is the exchange of two stops
---   exchangeable_below                         an order of which the exchanges can be tried (`Exchangeable`) does not cost above every cost
---   exchanged_exchangeable                     it is such an order still once two stops are exchanged
---   allowed-cost                               what it costs if it respects the pairs
+--   reckonable                                 the cost of an order can be added up by the terms
 --   Trying f x rest y e                        e is the best exchange tried so far; the cheapest by f of what it makes and of rest is y
 --   behind_tried, behind-ends                  rest is what is made by the exchanges of one position: one less, none
 --   exchanges_from x p                          what is made by the exchanges of each position from p on with the positions behind it
 --   all_start, all_tried, all_end              rest is what is made by these: of all positions, of one less, of none
---   Improving t d x₀ x own e                   x settles to what x₀ does, own is its cost and e its best exchange
+--   Improving d x₀ x own e                     x settles to what x₀ does, own is its cost and e its best exchange
 --   improving_again, improving_ends            so it is with one more exchange made, and at last
 --   improving_asks                             what is asked to look for the best exchange of the order that e makes
-use mathlib.Core.Path.{◌≡◌, refl, sym, subst, ◌∙◌}
+use mathlib.Core.Path.{◌≡◌, refl, sym, ◌∙◌}
 use mathlib.Core.Bool.{Bool, true, false, cond}
 use mathlib.Core.List.{List, [], ◌∷◌, ◌++◌}
 use Prim.Native.Nat.{ℕ, suc, ◌+◌, ◌-◌, ◌≤◌, ◌<◌}
 use native.Mathlib.Numerals.{add-one}
 use native.Mathlib.Omega.{arith}
-use lib.Dec.{T, ltb}
+use lib.Dec.{ltb}
 use lib.ListN.{length}
 use Rattle.std.specs.List.{swap}
 use Rattle.std.proofs.lemmas.List.Edits.{swap_is}
@@ -24,38 +22,23 @@ use Rattle.sizes.specs.Sizes.{dearest, above_every_cost}
 use Rattle.lists.specs.Lists.{from, each}
 use Rattle.lists.proofs.Tests.{to_true}
 use Rattle.orders.specs.Orders.{Node, Order}
-use Rattle.orders.specs.Pairs.{Pairing}
-use Rattle.stops.specs.Legs.{Legs, legs, cost}
-use Rattle.stops.proofs.Paths.{cost_small}
-use Rattle.pairs.specs.Code.{pairs_in}
-use Rattle.pairs.specs.declared.Precedence.{Precedence}
+use Rattle.orders.proofs.Order.{order_partial, order-length}
+use Rattle.stops.specs.Legs.{legs, cost}
+use Rattle.stops.specs.Code.{Reckonable}
+use Rattle.stops.proofs.Paths.{cost_small, partial_reckonable}
 use Rattle.first_answer.specs.Nearest.{cheapest}
 use Rattle.first_answer.specs.Exchanges.{exchanged, behind, exchanges, best_exchange, improved}
 use Rattle.first_answer.proofs.Cheapest.{cheapest-append, cheapest-keep}
-use Rattle.first_answer.proofs.Exchanged.{exchanged-length, exchanged-order, exchanged_self}
-use Rattle.first_answer.proofs.Exchanges.{best_exchange-allowed}
+use Rattle.first_answer.proofs.Exchanged.{exchanged_self}
+use Rattle.first_answer.proofs.Exchanges.{best_exchange-order, best_exchange-allowed}
 use Rattle.first_answer.proofs.Settled.{improved_stays, improved_goes_on}
-use Rattle.first_order.specs.Code.{Exchangeable, allowed_by, allowed_cost, made, Makes, better, best_behind}
+use Rattle.first_order.specs.Code.{AllowedBy, allowed_by, allowed_cost, made, Makes, better, best_behind}
 use Rattle.first_order.specs.declared.exchange.Exchange.{Exchange}
+use Rattle.first_order.specs.declared.terms.Terms.{Terms}
 
 pub swap-exchanged : (x : Node) (p q : ℕ) → p < length x → q < length x → swap x p q ≡ exchanged x p q
 unfolding exchanged
 swap-exchanged x p q h k = sym (swap_is x p q 0 h k)
-
--- an order of which the exchanges can be tried
-module _ {t : List (List ℕ)} {d : Precedence} {x : Node} (f : Exchangeable t d x) where
-  pub exchangeable_below : cost (legs t) x ≤ above_every_cost
-  exchangeable_below = omega (arith, cost_small dearest (legs t) f.cheap x, f.few)
-
-  pub exchanged_exchangeable : (p q : ℕ) → p < length x → q < length x → Exchangeable t d (exchanged x p q)
-  exchanged_exchangeable p q h k =
-      let long : length x ≡ length (exchanged x p q) = sym (exchanged-length x p q) in
-      record {
-        cheap = f.cheap;
-        few = omega (arith, long, f.few);
-        order = subst (λ (n : ℕ). Order n (exchanged x p q)) long (exchanged-order x p q h k (length x) f.order);
-        pairing = subst (λ (n : ℕ). Pairing n (pairs_in d)) long f.pairing;
-      }
 
 pub record Trying (f : Node → ℕ) (x : Node) (rest : List Node) (y : Node) (e : Exchange) : Type 0 where
   pub found : Makes f x e (made x e)
@@ -81,40 +64,40 @@ module _ (x : Node) where
   unfolding exchanges_from
   all_none p h = let none : length x - p ≡ 0 = omega arith in rw none
 
--- the cost of an order that respects the pairs
-allowed-cost : (L : Legs) (d : Precedence) (x : Node) → allowed_by d x ≡ true → allowed_cost L d x ≡ cost L x
-allowed-cost L d x h = rw h refl
+pub reckonable : (d : Terms) {x : Node} → Order d.n x → Reckonable d.t x
+reckonable d {x} o = partial_reckonable d.few d.cheap (order_partial d.n x o)
 
-module _ (L : Legs) (d : Precedence) (x : Node) (respected : T (allowed_by d x)) where
+-- an order that respects the pairs
+module _ (d : Terms) (x : Node) (a : AllowedBy d x) where
+  its-cost : allowed_cost d x ≡ cost (legs d.t) x
+  its-cost = rw (to_true (allowed_by d x) a.respected) refl
+
   -- an exchange that goes against the pairs is never the best, as it is above every cost
-  best_of_all : cost L x ≤ above_every_cost → cheapest (allowed_cost L d) x (exchanges_from x 0) ≡ best_exchange L (allowed_by d) x
+  best_of_all : cheapest (allowed_cost d) x (exchanges_from x 0) ≡ best_exchange (legs d.t) (allowed_by d) x
   unfolding exchanges_from exchanges best_exchange
-  best_of_all below =
+  best_of_all =
       let all : length x - 0 ≡ length x = omega arith in
-      rw all (sym (cheapest-keep (cost L) (allowed_by d) above_every_cost x (exchanges x) respected below))
+      let below : cost (legs d.t) x ≤ above_every_cost =
+      omega (arith, cost_small dearest (legs d.t) d.cheap x, order-length d.n x a.order, d.few) in
+      rw all (sym (cheapest-keep (cost (legs d.t)) (allowed_by d) above_every_cost x (exchanges x) a.respected below))
 
   -- the exchange of the first position with itself leaves x as it is
   pub all_start :
-      (own : ℕ) → cost L x ≤ above_every_cost → own ≡ cost L x → 0 < length x
-      → Trying (allowed_cost L d) x (exchanges_from x 0) (best_exchange L (allowed_by d) x) (record { cost = own; p = 0; q = 0 })
-  all_start own below costs some =
-      let own-cost : own ≡ allowed_cost L d x = costs ∙ sym (allowed-cost L d x (to_true (allowed_by d x) respected)) in
+      (own : ℕ) → own ≡ cost (legs d.t) x
+      → Trying (allowed_cost d) x (exchanges_from x 0) (best_exchange (legs d.t) (allowed_by d) x) (record { cost = own; p = 0; q = 0 })
+  all_start own costs =
+      let some : 0 < length x = omega (arith, order-length d.n x a.order, d.some) in
       record {
-        found = record { first = some; second = some; makes = refl; costs = rw (exchanged_self x 0) own-cost };
-        best = rw (exchanged_self x 0) (best_of_all below);
+        found = record { first = some; second = some; makes = refl; costs = rw (exchanged_self x 0) (costs ∙ sym its-cost) };
+        best = rw (exchanged_self x 0) best_of_all;
       }
 
-  -- the best exchange respects the pairs, so that what it has is its cost
-  best_costs :
-      {e : Exchange} → Makes (allowed_cost L d) x e (best_exchange L (allowed_by d) x) → Makes (cost L) x e (best_exchange L (allowed_by d) x)
-  best_costs m = record {
-    first = m.first;
-    second = m.second;
-    makes = m.makes;
-    costs =
-        let y : Node = best_exchange L (allowed_by d) x in
-        m.costs ∙ allowed-cost L d y (to_true (allowed_by d y) (best_exchange-allowed L (allowed_by d) x respected));
-  }
+-- the best exchange respects the pairs, so that what it has is its cost
+best_allowed : (d : Terms) (x : Node) → AllowedBy d x → AllowedBy d (best_exchange (legs d.t) (allowed_by d) x)
+best_allowed d x a = record {
+  order = best_exchange-order (legs d.t) (allowed_by d) x d.n a.order;
+  respected = best_exchange-allowed (legs d.t) (allowed_by d) x a.respected;
+}
 
 module _ {f : Node → ℕ} {x y : Node} {e : Exchange} where
   none_left : Trying f x [] y e → Makes f x e y
@@ -151,42 +134,37 @@ module _ {f : Node → ℕ} {x y : Node} {e : Exchange} where
   all_left p t h = none_left (rw (all_none x p h) at t)
 
 pub all_end :
-    (L : Legs) (d : Precedence) (x : Node) {e : Exchange} (p : ℕ)
-    → Trying (allowed_cost L d) x (exchanges_from x p) (best_exchange L (allowed_by d) x) e → length x ≤ p → T (allowed_by d x)
-    → Makes (cost L) x e (best_exchange L (allowed_by d) x)
-all_end L d x p t h respected = best_costs L d x respected (all_left p t h)
+    (d : Terms) (x : Node) {e : Exchange} (p : ℕ)
+    → Trying (allowed_cost d) x (exchanges_from x p) (best_exchange (legs d.t) (allowed_by d) x) e → length x ≤ p → AllowedBy d x
+    → Makes (cost (legs d.t)) x e (best_exchange (legs d.t) (allowed_by d) x)
+all_end d x p t h a =
+    let m = all_left p t h in
+    record {
+      first = m.first;
+      second = m.second;
+      makes = m.makes;
+      costs = m.costs ∙ its-cost d (best_exchange (legs d.t) (allowed_by d) x) (best_allowed d x a);
+    }
 
-pub record Improving (t : List (List ℕ)) (d : Precedence) (x₀ x : Node) (own : ℕ) (e : Exchange) : Type 0 where
-  pub tried : Exchangeable t d x
-  pub respected : T (allowed_by d x)
-  pub long : length x ≡ length x₀
-  pub costs : own ≡ cost (legs t) x
-  pub found : Makes (cost (legs t)) x e (best_exchange (legs t) (allowed_by d) x)
-  pub same : improved (legs t) (allowed_by d) x ≡ improved (legs t) (allowed_by d) x₀
+pub record Improving (d : Terms) (x₀ x : Node) (own : ℕ) (e : Exchange) : Type 0 where
+  pub allowed : AllowedBy d x
+  pub costs : own ≡ cost (legs d.t) x
+  pub found : Makes (cost (legs d.t)) x e (best_exchange (legs d.t) (allowed_by d) x)
+  pub same : improved (legs d.t) (allowed_by d) x ≡ improved (legs d.t) (allowed_by d) x₀
 
-module _ {t : List (List ℕ)} {d : Precedence} {x₀ x : Node} {own : ℕ} {e : Exchange} (i : Improving t d x₀ x own e) where
-  pub improving_asks :
-      Exchangeable t d (made x e)
-      × ((0 < length (made x e)) × (T (allowed_by d (made x e)) × (e.cost ≡ cost (legs t) (made x e))))
-  improving_asks = (
-    exchanged_exchangeable i.tried e.p e.q i.found.first i.found.second,
-    (
-      omega (arith, exchanged-length x e.p e.q, i.found.first),
-      (rw i.found.makes (best_exchange-allowed (legs t) (allowed_by d) x i.respected), rw i.found.makes i.found.costs),
-    ),
-  )
+module _ {d : Terms} {x₀ x : Node} {own : ℕ} {e : Exchange} (i : Improving d x₀ x own e) where
+  pub improving_asks : AllowedBy d (made x e) × (e.cost ≡ cost (legs d.t) (made x e))
+  improving_asks = (rw i.found.makes (best_allowed d x i.allowed), rw i.found.makes i.found.costs)
 
   pub improving_again :
-      (x' : Node) (r : Exchange) → x' ≡ made x e → Makes (cost (legs t)) (made x e) r (best_exchange (legs t) (allowed_by d) (made x e))
-      → e.cost < own → Improving t d x₀ x' e.cost r
+      (x' : Node) (r : Exchange) → x' ≡ made x e → Makes (cost (legs d.t)) (made x e) r (best_exchange (legs d.t) (allowed_by d) (made x e))
+      → e.cost < own → Improving d x₀ x' e.cost r
   improving_again x' r is m less = rw is (record {
-    tried = improving_asks.0;
-    respected = improving_asks.1.1.0;
-    long = exchanged-length x e.p e.q ∙ i.long;
-    costs = improving_asks.1.1.1;
+    allowed = improving_asks.0;
+    costs = improving_asks.1;
     found = m;
-    same = rw i.found.makes (sym (improved_goes_on (legs t) (allowed_by d) x (omega (arith, i.costs, i.found.costs))) ∙ i.same);
+    same = rw i.found.makes (sym (improved_goes_on (legs d.t) (allowed_by d) x (omega (arith, i.costs, i.found.costs))) ∙ i.same);
   })
 
-  pub improving_ends : own ≤ e.cost → x ≡ improved (legs t) (allowed_by d) x₀
-  improving_ends done = sym (improved_stays (legs t) (allowed_by d) x (omega (arith, i.costs, i.found.costs))) ∙ i.same
+  pub improving_ends : own ≤ e.cost → x ≡ improved (legs d.t) (allowed_by d) x₀
+  improving_ends done = sym (improved_stays (legs d.t) (allowed_by d) x (omega (arith, i.costs, i.found.costs))) ∙ i.same

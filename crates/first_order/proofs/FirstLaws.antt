@@ -1,25 +1,21 @@
 -- Laws of the call for a first order.
---   nearest_asks    the nearest-stop order is one that can be made cheaper: what `improve` asks of it
---   file_asks       what `precedence_of` and `make` ask of a pair file that passes
+--   file_asks       what `precedence_of` and `Terms` ask of a pair file that passes
 --   refused-first   a refusal is the answer where one of causes 1 to 4 and 11 applies
 --   made-first      where none does, the order that was made, with zeros behind it, and its cost are
 --   zeros-front     the part of the answer's places that is lent for the order has n
-use mathlib.Core.Path.{◌≡◌, refl, ap, sym, subst, ◌∙◌}
+use mathlib.Core.Path.{◌≡◌, refl, ap, sym, ◌∙◌}
 use mathlib.Core.List.{List, ◌++◌}
 use mathlib.Core.Logic.{◌≢◌}
-use Prim.Native.Nat.{ℕ, zero, suc, ◌≤◌, ◌<◌}
+use Prim.Native.Nat.{ℕ, zero, suc, ◌≤◌}
 use native.Mathlib.Omega.{arith}
-use lib.Dec.{T}
 use lib.ListN.{length, take, drop, replicate, length-take}
 use Rattle.sizes.specs.Sizes.{most_stops, order_places}
 use Rattle.lists.proofs.Padded.{append-zeros}
-use Rattle.orders.specs.Orders.{Order}
-use Rattle.orders.specs.Pairs.{Pairing, pairs_of, respects, Allowed}
+use Rattle.orders.specs.Pairs.{Pairing, pairs_of, respects}
 use Rattle.orders.proofs.Order.{order-length}
 use Rattle.stops.specs.Tables.{rows}
 use Rattle.stops.specs.Legs.{legs, cost}
 use Rattle.stops.specs.Bounds.{ends_away}
-use Rattle.stops.specs.Code.{Cheap}
 use Rattle.pairs.specs.Code.{OfStops, pairs_in, precedence_of}
 use Rattle.pairs.specs.declared.Precedence.{Precedence}
 use Rattle.pairs.proofs.GoodFile.{of_stops, its_pairing, its_respects}
@@ -32,23 +28,7 @@ use Rattle.first_answer.specs.Nearest.{nearest}
 use Rattle.first_answer.specs.Exchanges.{improved}
 use Rattle.first_answer.specs.First.{legs_of, nearest_of, first_of, respond, first_answer}
 use Rattle.first_answer.specs.declared.FirstOrder.{FirstOrder}
-use Rattle.first_answer.proofs.NearestOrder.{nearest-allowed}
 use Rattle.first_answer.proofs.First.{first_of_allowed}
-use Rattle.first_order.specs.Code.{Exchangeable, allowed_by}
-
-pub nearest_asks :
-    {t : List (List ℕ)} {d : Precedence} {n : ℕ} (x : List ℕ) → Cheap t → 1 ≤ n → n ≤ most_stops → Pairing n (pairs_in d)
-    → x ≡ nearest n (legs t) (allowed_by d) → Exchangeable t d x × ((0 < length x) × T (allowed_by d x))
-nearest_asks {t} {d} {n} x cheap some few ok e =
-    let a : Allowed n (pairs_in d) x = rw e (nearest-allowed n ok (legs t)) in
-    let long : n ≡ length x = sym (order-length n x a.order) in
-    let tried : Exchangeable t d x = record {
-      cheap = cheap;
-      few = omega (arith, long);
-      order = subst (λ (k : ℕ). Order k x) long a.order;
-      pairing = subst (λ (k : ℕ). Pairing k (pairs_in d)) long ok;
-    } in
-    (tried, (omega (arith, long), a.respected))
 
 pub file_asks :
     {n : ℕ} {bytes : List ℕ} → n ≤ most_stops → PairsPass n bytes → OfStops bytes × Pairing n (pairs_in (precedence_of bytes))
@@ -74,18 +54,19 @@ module _ (n bound : ℕ) (table pairs : List ℕ) where
       go (suc j) h = refl
 
   -- the test by the precedence that the file makes is the test by its pairs
-  same_test : {d : Precedence} → n ≤ most_stops → PairsPass n pairs → d ≡ precedence_of pairs → allowed_by d ≡ respects (pairs_of pairs)
-  same_test few p is = ap (λ (d : Precedence). allowed_by d) is ∙ (λ i x. its_respects n few pairs p.only p.once x i)
+  same_test :
+      {by : Precedence} → n ≤ most_stops → PairsPass n pairs → by ≡ precedence_of pairs → respects (pairs_in by) ≡ respects (pairs_of pairs)
+  same_test few p is = ap (λ (by : Precedence). respects (pairs_in by)) is ∙ (λ i x. its_respects n few pairs p.only p.once x i)
 
   pub made-first :
-      0 ≡ first_cause n bound table pairs → {t : List (List ℕ)} {d : Precedence} {j : ℕ} (x : List ℕ) {v : ℕ} → t ≡ rows n (ends_away bound) table → d ≡ precedence_of pairs → n ≡ j
-      → x ≡ improved (legs t) (allowed_by d) (nearest j (legs t) (allowed_by d)) → v ≡ cost (legs t) x
+      0 ≡ first_cause n bound table pairs → {t : List (List ℕ)} {by : Precedence} → t ≡ rows n (ends_away bound) table → by ≡ precedence_of pairs
+      → (x : List ℕ) {v : ℕ} → x ≡ improved (legs t) (respects (pairs_in by)) (nearest n (legs t) (respects (pairs_in by))) → v ≡ cost (legs t) x
       → ◌≡◌ {A = FirstOrder} (record { number = 0; cost = v; order = x ++ drop n zeros }) (first_answer n bound table pairs)
   unfolding first_answer respond legs_of nearest_of first_of zeros
-  made-first none x loaded marked lent made costs =
+  made-first none loaded marked x made costs =
       let (passes, p) = first_passed n bound table pairs (sym none) in
       let test = same_test passes.priced.few p marked in
-      let first : x ≡ first_of n bound table pairs = made ∙ rw (loaded, test, ← lent) in
+      let first : x ≡ first_of n bound table pairs = made ∙ rw (loaded, test) in
       let allowed = first_of_allowed n bound table pairs (pairs_pairing p) in
       let long : length (first_of n bound table pairs) ≡ n = order-length n (first_of n bound table pairs) allowed.order in
       rw (costs, first, loaded, append-zeros order_places n (first_of n bound table pairs) long) (ap (respond n bound table pairs) none)

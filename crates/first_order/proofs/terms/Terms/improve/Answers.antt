@@ -1,10 +1,13 @@
--- The goals of `exchange::improve` that the search leaves.
+-- The goals of `improve` that the search leaves.
 use mathlib.Core.Path.{◌≡◌, ◌∙◌}
 use native.Mathlib.Omega.{arith}
 use Rattle.first_order.specs.Code.{made}
-use Rattle.first_order.proofs.ExchangeLaws.{swap-exchanged, improving_asks, improving_again, improving_ends}
-use Rattle.first_order.proofs.exchange.improve.Goals as goal
-use Rattle.first_order.proofs.exchange.improve.Goals.{After-swap}
+use Rattle.first_order.proofs.ExchangeLaws.{swap-exchanged, reckonable, improving_asks, improving_again, improving_ends}
+use Rattle.first_order.proofs.terms.Terms.improve.Goals as goal
+use Rattle.first_order.proofs.terms.Terms.improve.Goals.{After-swap}
+
+pub order_cost-cost-requires : goal.order_cost-cost-requires
+order_cost-cost-requires c = reckonable c.args.self.now c.requires.order
 
 -- the best exchange is made
 made_now : (c : After-swap) → c.swap.new.self ≡ made c.loop-found.x c.loop-found.found

@@ -1,7 +1,7 @@
--- The goals of `exchange::best_with` that the search leaves.
+-- The goals of `best_with` that the search leaves.
 use mathlib.Core.Path.{◌∙◌}
 use Rattle.first_order.proofs.ExchangeLaws.{behind_tried, behind-ends}
-use Rattle.first_order.proofs.exchange.best_with.Goals as goal
+use Rattle.first_order.proofs.terms.Terms.best_with.Goals as goal
 
 pub loop-q-preserved : goal.loop-q-preserved
 loop-q-preserved c =

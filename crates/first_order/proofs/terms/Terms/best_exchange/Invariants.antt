@@ -5,8 +5,9 @@ use Rattle.stops.specs.Legs.{legs}
 use Rattle.first_answer.specs.Exchanges.{best_exchange}
 use Rattle.first_order.specs.Code.{allowed_by, allowed_cost}
 use Rattle.first_order.proofs.ExchangeLaws.{Trying, exchanges_from}
-use Rattle.first_order.proofs.exchange.best_exchange.Given as goal
+use Rattle.first_order.proofs.terms.Terms.best_exchange.Given as goal
 
 abbrev pub invariant-loop-p : goal.invariant-loop-p
 invariant-loop-p l =
-    (l.x ≡ l.initial.x) × Trying (allowed_cost (legs l.t) l.precedence) l.initial.x (exchanges_from l.initial.x l.p) (best_exchange (legs l.t) (allowed_by l.precedence) l.initial.x) l.found
+    let x = l.initial.x in
+    (l.x ≡ x) × Trying (allowed_cost l.self) x (exchanges_from x l.p) (best_exchange (legs l.self.t) (allowed_by l.self) x) l.found

@@ -2,10 +2,10 @@
 use mathlib.Core.Path.{◌≡◌, ◌∙◌}
 use native.Mathlib.Omega.{arith}
 use Rattle.first_answer.specs.Exchanges.{exchanged}
-use Rattle.first_answer.proofs.Exchanged.{exchanged-length, exchanged_twice}
-use Rattle.first_order.proofs.ExchangeLaws.{swap-exchanged, exchanged_exchangeable}
-use Rattle.first_order.proofs.exchange.exchange_cost.Goals as goal
-use Rattle.first_order.proofs.exchange.exchange_cost.Goals.{After-swap}
+use Rattle.first_answer.proofs.Exchanged.{exchanged-length, exchanged-order, exchanged_twice}
+use Rattle.first_order.proofs.ExchangeLaws.{swap-exchanged}
+use Rattle.first_order.proofs.terms.Terms.exchange_cost.Goals as goal
+use Rattle.first_order.proofs.terms.Terms.exchange_cost.Goals.{After-swap}
 
 -- the order whose cost is taken is the exchanged one
 there : (c : After-swap) → let a = c.args in c.swap.new.self ≡ exchanged a.x.now a.p a.q
@@ -17,7 +17,7 @@ pub allowed_cost-cost-requires : goal.allowed_cost-cost-requires
 allowed_cost-cost-requires c =
     let a = c.args in
     let pre = c.requires in
-    rw (there (goal.at.allowed_cost-cost-requires c).After-swap) (exchanged_exchangeable pre.0 a.p a.q pre.1.0 pre.1.1)
+    rw (there (goal.at.allowed_cost-cost-requires c).After-swap) (exchanged-order a.x.now a.p a.q pre.1.0 pre.1.1 a.self.now.n pre.0)
 
 pub returns : goal.returns
 returns c =
