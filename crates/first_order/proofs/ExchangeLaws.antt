@@ -64,27 +64,27 @@ module _ (x : Node) where
   unfolding exchanges_from
   all_none p h = let none : length x - p ≡ 0 = omega arith in rw none
 
-pub reckonable : (d : Terms) {x : Node} → Order d.n x → Reckonable d.t x
+pub reckonable : (d : Terms) {x : Node} → Order d.n x → Reckonable d.t.now x
 reckonable d {x} o = partial_reckonable d.few d.cheap (order_partial d.n x o)
 
 -- an order that respects the pairs
 module _ (d : Terms) (x : Node) (a : AllowedBy d x) where
-  its-cost : allowed_cost d x ≡ cost (legs d.t) x
-  its-cost = rw (to_true (allowed_by d x) a.respected) refl
+  its-cost : allowed_cost d x ≡ cost (legs d.t.now) x
+  its-cost = rw (to_true (allowed_by d.precedence x) a.respected) refl
 
   -- an exchange that goes against the pairs is never the best, as it is above every cost
-  best_of_all : cheapest (allowed_cost d) x (exchanges_from x 0) ≡ best_exchange (legs d.t) (allowed_by d) x
+  best_of_all : cheapest (allowed_cost d) x (exchanges_from x 0) ≡ best_exchange (legs d.t.now) (allowed_by d.precedence) x
   unfolding exchanges_from exchanges best_exchange
   best_of_all =
       let all : length x - 0 ≡ length x = omega arith in
-      let below : cost (legs d.t) x ≤ above_every_cost =
-      omega (arith, cost_small dearest (legs d.t) d.cheap x, order-length d.n x a.order, d.few) in
-      rw all (sym (cheapest-keep (cost (legs d.t)) (allowed_by d) above_every_cost x (exchanges x) a.respected below))
+      let below : cost (legs d.t.now) x ≤ above_every_cost =
+      omega (arith, cost_small dearest (legs d.t.now) d.cheap x, order-length d.n x a.order, d.few) in
+      rw all (sym (cheapest-keep (cost (legs d.t.now)) (allowed_by d.precedence) above_every_cost x (exchanges x) a.respected below))
 
   -- the exchange of the first position with itself leaves x as it is
   pub all_start :
-      (own : ℕ) → own ≡ cost (legs d.t) x
-      → Trying (allowed_cost d) x (exchanges_from x 0) (best_exchange (legs d.t) (allowed_by d) x) (record { cost = own; p = 0; q = 0 })
+      (own : ℕ) → own ≡ cost (legs d.t.now) x
+      → Trying (allowed_cost d) x (exchanges_from x 0) (best_exchange (legs d.t.now) (allowed_by d.precedence) x) (record { cost = own; p = 0; q = 0 })
   all_start own costs =
       let some : 0 < length x = omega (arith, order-length d.n x a.order, d.some) in
       record {
@@ -93,10 +93,10 @@ module _ (d : Terms) (x : Node) (a : AllowedBy d x) where
       }
 
 -- the best exchange respects the pairs, so that what it has is its cost
-best_allowed : (d : Terms) (x : Node) → AllowedBy d x → AllowedBy d (best_exchange (legs d.t) (allowed_by d) x)
+best_allowed : (d : Terms) (x : Node) → AllowedBy d x → AllowedBy d (best_exchange (legs d.t.now) (allowed_by d.precedence) x)
 best_allowed d x a = record {
-  order = best_exchange-order (legs d.t) (allowed_by d) x d.n a.order;
-  respected = best_exchange-allowed (legs d.t) (allowed_by d) x a.respected;
+  order = best_exchange-order (legs d.t.now) (allowed_by d.precedence) x d.n a.order;
+  respected = best_exchange-allowed (legs d.t.now) (allowed_by d.precedence) x a.respected;
 }
 
 module _ {f : Node → ℕ} {x y : Node} {e : Exchange} where
@@ -135,36 +135,36 @@ module _ {f : Node → ℕ} {x y : Node} {e : Exchange} where
 
 pub all_end :
     (d : Terms) (x : Node) {e : Exchange} (p : ℕ)
-    → Trying (allowed_cost d) x (exchanges_from x p) (best_exchange (legs d.t) (allowed_by d) x) e → length x ≤ p → AllowedBy d x
-    → Makes (cost (legs d.t)) x e (best_exchange (legs d.t) (allowed_by d) x)
+    → Trying (allowed_cost d) x (exchanges_from x p) (best_exchange (legs d.t.now) (allowed_by d.precedence) x) e → length x ≤ p → AllowedBy d x
+    → Makes (cost (legs d.t.now)) x e (best_exchange (legs d.t.now) (allowed_by d.precedence) x)
 all_end d x p t h a =
     let m = all_left p t h in
     record {
       first = m.first;
       second = m.second;
       makes = m.makes;
-      costs = m.costs ∙ its-cost d (best_exchange (legs d.t) (allowed_by d) x) (best_allowed d x a);
+      costs = m.costs ∙ its-cost d (best_exchange (legs d.t.now) (allowed_by d.precedence) x) (best_allowed d x a);
     }
 
 pub record Improving (d : Terms) (x₀ x : Node) (own : ℕ) (e : Exchange) : Type 0 where
   pub allowed : AllowedBy d x
-  pub costs : own ≡ cost (legs d.t) x
-  pub found : Makes (cost (legs d.t)) x e (best_exchange (legs d.t) (allowed_by d) x)
-  pub same : improved (legs d.t) (allowed_by d) x ≡ improved (legs d.t) (allowed_by d) x₀
+  pub costs : own ≡ cost (legs d.t.now) x
+  pub found : Makes (cost (legs d.t.now)) x e (best_exchange (legs d.t.now) (allowed_by d.precedence) x)
+  pub same : improved (legs d.t.now) (allowed_by d.precedence) x ≡ improved (legs d.t.now) (allowed_by d.precedence) x₀
 
 module _ {d : Terms} {x₀ x : Node} {own : ℕ} {e : Exchange} (i : Improving d x₀ x own e) where
-  pub improving_asks : AllowedBy d (made x e) × (e.cost ≡ cost (legs d.t) (made x e))
+  pub improving_asks : AllowedBy d (made x e) × (e.cost ≡ cost (legs d.t.now) (made x e))
   improving_asks = (rw i.found.makes (best_allowed d x i.allowed), rw i.found.makes i.found.costs)
 
   pub improving_again :
-      (x' : Node) (r : Exchange) → x' ≡ made x e → Makes (cost (legs d.t)) (made x e) r (best_exchange (legs d.t) (allowed_by d) (made x e))
+      (x' : Node) (r : Exchange) → x' ≡ made x e → Makes (cost (legs d.t.now)) (made x e) r (best_exchange (legs d.t.now) (allowed_by d.precedence) (made x e))
       → e.cost < own → Improving d x₀ x' e.cost r
   improving_again x' r is m less = rw is (record {
     allowed = improving_asks.0;
     costs = improving_asks.1;
     found = m;
-    same = rw i.found.makes (sym (improved_goes_on (legs d.t) (allowed_by d) x (omega (arith, i.costs, i.found.costs))) ∙ i.same);
+    same = rw i.found.makes (sym (improved_goes_on (legs d.t.now) (allowed_by d.precedence) x (omega (arith, i.costs, i.found.costs))) ∙ i.same);
   })
 
-  pub improving_ends : own ≤ e.cost → x ≡ improved (legs d.t) (allowed_by d) x₀
-  improving_ends done = sym (improved_stays (legs d.t) (allowed_by d) x (omega (arith, i.costs, i.found.costs))) ∙ i.same
+  pub improving_ends : own ≤ e.cost → x ≡ improved (legs d.t.now) (allowed_by d.precedence) x₀
+  improving_ends done = sym (improved_stays (legs d.t.now) (allowed_by d.precedence) x (omega (arith, i.costs, i.found.costs))) ∙ i.same

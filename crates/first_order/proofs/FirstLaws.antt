@@ -1,7 +1,8 @@
 -- Laws of the call for a first order.
---   file_asks       what `precedence_of` and `Terms` ask of a pair file that passes
+--   file_asks       what `precedence_of` and `make` ask of a pair file that passes
 --   refused-first   a refusal is the answer where one of causes 1 to 4 and 11 applies
---   made-first      where none does, the order that was made, with zeros behind it, and its cost are
+--   makes-first     where none does, what `make` writes by the rows and the precedence is the first order, and its cost
+--   made-first      that order, with zeros behind it, and its cost are the answer then
 --   zeros-front     the part of the answer's places that is lent for the order has n
 use mathlib.Core.Path.{◌≡◌, refl, ap, sym, ◌∙◌}
 use mathlib.Core.List.{List, ◌++◌}
@@ -29,6 +30,7 @@ use Rattle.first_answer.specs.Exchanges.{improved}
 use Rattle.first_answer.specs.First.{legs_of, nearest_of, first_of, respond, first_answer}
 use Rattle.first_answer.specs.declared.FirstOrder.{FirstOrder}
 use Rattle.first_answer.proofs.First.{first_of_allowed}
+use Rattle.first_order.specs.Code.{allowed_by}
 
 pub file_asks :
     {n : ℕ} {bytes : List ℕ} → n ≤ most_stops → PairsPass n bytes → OfStops bytes × Pairing n (pairs_in (precedence_of bytes))
@@ -54,19 +56,26 @@ module _ (n bound : ℕ) (table pairs : List ℕ) where
       go (suc j) h = refl
 
   -- the test by the precedence that the file makes is the test by its pairs
-  same_test :
-      {by : Precedence} → n ≤ most_stops → PairsPass n pairs → by ≡ precedence_of pairs → respects (pairs_in by) ≡ respects (pairs_of pairs)
-  same_test few p is = ap (λ (by : Precedence). respects (pairs_in by)) is ∙ (λ i x. its_respects n few pairs p.only p.once x i)
+  same_test : {d : Precedence} → n ≤ most_stops → PairsPass n pairs → d ≡ precedence_of pairs → allowed_by d ≡ respects (pairs_of pairs)
+  same_test few p is = ap (λ (d : Precedence). allowed_by d) is ∙ (λ i x. its_respects n few pairs p.only p.once x i)
+
+  module _ (none : first_cause n bound table pairs ≡ 0) where
+    pub makes-first :
+        {t : List (List ℕ)} {d : Precedence} → t ≡ rows n (ends_away bound) table → d ≡ precedence_of pairs
+        → (x : List ℕ) {v : ℕ} → x ≡ improved (legs t) (allowed_by d) (nearest n (legs t) (allowed_by d)) → v ≡ cost (legs t) x
+        → (x ≡ first_of n bound table pairs) × (v ≡ cost (legs_of n bound table) x)
+    unfolding legs_of nearest_of first_of
+    makes-first loaded marked x made costs =
+        let (passes, p) = first_passed n bound table pairs none in
+        let test = same_test passes.priced.few p marked in
+        (made ∙ rw (loaded, test), rw loaded at costs)
 
   pub made-first :
-      0 ≡ first_cause n bound table pairs → {t : List (List ℕ)} {by : Precedence} → t ≡ rows n (ends_away bound) table → by ≡ precedence_of pairs
-      → (x : List ℕ) {v : ℕ} → x ≡ improved (legs t) (respects (pairs_in by)) (nearest n (legs t) (respects (pairs_in by))) → v ≡ cost (legs t) x
+      0 ≡ first_cause n bound table pairs → (x : List ℕ) {v : ℕ} → x ≡ first_of n bound table pairs → v ≡ cost (legs_of n bound table) x
       → ◌≡◌ {A = FirstOrder} (record { number = 0; cost = v; order = x ++ drop n zeros }) (first_answer n bound table pairs)
-  unfolding first_answer respond legs_of nearest_of first_of zeros
-  made-first none loaded marked x made costs =
+  unfolding first_answer respond zeros
+  made-first none x made costs =
       let (passes, p) = first_passed n bound table pairs (sym none) in
-      let test = same_test passes.priced.few p marked in
-      let first : x ≡ first_of n bound table pairs = made ∙ rw (loaded, test) in
       let allowed = first_of_allowed n bound table pairs (pairs_pairing p) in
       let long : length (first_of n bound table pairs) ≡ n = order-length n (first_of n bound table pairs) allowed.order in
-      rw (costs, first, loaded, append-zeros order_places n (first_of n bound table pairs) long) (ap (respond n bound table pairs) none)
+      rw (costs, made, append-zeros order_places n (first_of n bound table pairs) long) (ap (respond n bound table pairs) none)

@@ -25,7 +25,7 @@ fn better(a: Exchange, b: Exchange) -> Exchange
     if b.cost < a.cost { b } else { a }
 }
 
-impl Terms {
+impl Terms<'_> {
     // What an order costs; above every cost if it goes against a pair, so that it is never the better one.
     fn allowed_cost(&self, x: &[u8]) -> u32
         requires { Order self.now.n x.now }
@@ -34,7 +34,7 @@ impl Terms {
         if !respected(self.precedence, self.n, x) {
             return ABOVE_EVERY_COST;
         }
-        order_cost(&self.t, x)
+        order_cost(self.t, x)
     }
 
     // The same of an order once the stops at two positions are exchanged. The order is left as it was.
@@ -63,8 +63,8 @@ impl Terms {
 
     // The exchange that may be made and lowers the cost of an order most; of its first stop with itself if none lowers it. The order is left as it was.
     fn best_exchange(&self, x: &mut [u8], own: u32) -> Exchange
-        requires { AllowedBy self.now x.old × (own ≡ cost (legs self.now.t) x.old) }
-        ensures { (x.new ≡ x.old) × Makes (cost (legs self.now.t)) x.old result (best_exchange (legs self.now.t) (allowed_by self.now) x.old) }
+        requires { AllowedBy self.now x.old × (own ≡ cost (legs self.now.t.now) x.old) }
+        ensures { (x.new ≡ x.old) × Makes (cost (legs self.now.t.now)) x.old result (best_exchange (legs self.now.t.now) (allowed_by self.now.precedence) x.old) }
     {
         let mut found = Exchange {
             cost: own,
@@ -80,9 +80,9 @@ impl Terms {
     // Makes exchanges as long as one lowers the cost, each time the one that lowers it most. Returns the cost that is left.
     pub fn improve(&self, x: &mut [u8]) -> u32
         requires { AllowedBy self.now x.old }
-        ensures { (x.new ≡ improved (legs self.now.t) (allowed_by self.now) x.old) × (result ≡ cost (legs self.now.t) x.new) }
+        ensures { (x.new ≡ improved (legs self.now.t.now) (allowed_by self.now.precedence) x.old) × (result ≡ cost (legs self.now.t.now) x.new) }
     {
-        let mut cost = order_cost(&self.t, x);
+        let mut cost = order_cost(self.t, x);
         let mut found = self.best_exchange(x, cost);
         while found.cost < cost {
             x.swap(found.p, found.q);

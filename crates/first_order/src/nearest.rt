@@ -1,13 +1,14 @@
 // The nearest-stop order. A set of stops is a word: bit s-1 is stop s's.
 ghost use Rattle.std.specs.Prelude.{◌≡◌, [], ◌∷◌, ◌^◌, ◌≤◌, ◌<◌, length};
 ghost use Rattle.sizes.specs.Sizes.{most_stops};
+ghost use Rattle.orders.specs.Pairs.{Pairing};
 ghost use Rattle.stops.specs.Legs.{legs};
 ghost use Rattle.stops.specs.Code.{stops_in};
+ghost use Rattle.pairs.specs.Code.{pairs_in};
 ghost use Rattle.first_answer.specs.Nearest.{nearest};
 ghost use Rattle.first_order.specs.Code.{nearest_in, allowed_by};
 
-use crate::terms::Terms;
-use pairs::ready;
+use pairs::{Precedence, ready};
 use stops::sets::{later, next, stops_of, without};
 use stops::table::{Rows, further};
 
@@ -35,20 +36,18 @@ fn nearest_stop(t: &Rows, place: u32, rest: u32) -> u32
     found
 }
 
-impl Terms {
-    // Writes the nearest-stop order: each time the nearest of the stops that need not wait (request A.6).
-    pub fn nearest_order(&self, x: &mut [u8])
-        requires { length x.old ≡ self.now.n }
-        ensures { x.new ≡ nearest self.now.n (legs self.now.t) (allowed_by self.now) }
-    {
-        let mut rest = (1u32 << self.n) - 1;
-        let mut place = 0;
-        for k in 0..self.n as usize {
-            let open = ready(self.precedence, rest);
-            let s = nearest_stop(&self.t, place, open);
-            rest = without(rest, s);
-            x[k] = s as u8;
-            place = s;
-        }
+// Writes the nearest-stop order of as many stops as x has places: each time the nearest of the stops that need not wait (request A.6).
+pub fn nearest_order(t: &Rows, precedence: Precedence, x: &mut [u8])
+    requires { (length x.old ≤ most_stops) × Pairing (length x.old) (pairs_in precedence) }
+    ensures { x.new ≡ nearest (length x.old) (legs t.now) (allowed_by precedence) }
+{
+    let mut rest = (1u32 << x.len()) - 1;
+    let mut place = 0;
+    for k in 0..x.len() {
+        let open = ready(precedence, rest);
+        let s = nearest_stop(t, place, open);
+        rest = without(rest, s);
+        x[k] = s as u8;
+        place = s;
     }
 }

@@ -10,12 +10,12 @@ use stops::table::Rows;
 
 // How many stops there are, what flying counts, and what must be flown before what.
 #[derive(Clone, Copy)]
-pub struct Terms {
+pub struct Terms<'a> {
     pub n: u32,
-    pub t: Rows,
+    pub t: &'a Rows,
     pub precedence: Precedence,
     ghost some: { 1 ≤ n },
     ghost few: { n ≤ most_stops },
-    ghost cheap: { Cheap t },
+    ghost cheap: { Cheap t.now },
     ghost pairing: { Pairing n (pairs_in precedence) },
 }

@@ -10,4 +10,4 @@ use Rattle.first_order.proofs.terms.Terms.best_exchange.Given as goal
 abbrev pub invariant-loop-p : goal.invariant-loop-p
 invariant-loop-p l =
     let x = l.initial.x in
-    (l.x ≡ x) × Trying (allowed_cost l.self) x (exchanges_from x l.p) (best_exchange (legs l.self.t) (allowed_by l.self) x) l.found
+    (l.x ≡ x) × Trying (allowed_cost l.self) x (exchanges_from x l.p) (best_exchange (legs l.self.t.now) (allowed_by l.self.precedence) x) l.found
