@@ -1,29 +1,41 @@
 -- Laws behind the functions that test a starting order.
---   counted         how often a stop stands in a list, as the library counts
+--   counted_more    how often a stop stands among the first elements of a list, and one more
 --   all_is, all_from    a test of all of a list, and of all numbers from one on, as the library makes it
 --   stop_flown      the numbers 1 to n are stops, and no others
 --   other_length    a list of another length is no order
-use mathlib.Core.Path.{refl, ◌≡◌, sym}
-use mathlib.Core.Bool.{◌&&◌, Bool, false}
+use mathlib.Core.Path.{refl, ◌≡◌}
+use mathlib.Core.Bool.{◌&&◌, Bool, true, false}
 use mathlib.Core.List.{List, [], ◌∷◌}
 use mathlib.Core.Logic.{◌≢◌}
-use Prim.Native.Nat.{ℕ, zero, suc}
+use Prim.Native.Nat.{ℕ, zero, suc, ◌+◌, ◌<◌}
 use native.Mathlib.Numerals.{add-one}
 use native.Mathlib.Omega.{arith}
 use lib.Dec.{T, leb, eqb, not_T, leb→le, le→leb}
-use lib.ListN.{length}
-use Rattle.std.specs.List.{list_all, count_by, range_with_len}
-use Rattle.std.proofs.lemmas.List.Recursion.{is_count_by}
-use Rattle.lists.specs.Lists.{keep, all, from}
+use lib.ListN.{length, get_or, take, length-append}
+use lib.Seq.{take-suc}
+use Rattle.std.specs.List.{list_all, range_with_len}
+use mir.Val.{bool_byte}
+use Rattle.lists.specs.Lists.{put, keep, all, from}
+use Rattle.lists.proofs.Keep.{keep_append}
 use Rattle.lists.proofs.Tests.{to_false, same_tests, and_left, and_right, and_both}
 use Rattle.orders.specs.Orders.{Node, stops, flown, count, is_order}
 use Rattle.orders.proofs.Sets.{in_stops, stops_in_lem, in_flown, flown_in}
 use Rattle.orders.proofs.Order.{is_order_order, order-length}
 
--- what passes the test is counted, and kept
-pub counted : (s : ℕ) (x : Node) → count_by (λ r. eqb r s) x ≡ count s x
-unfolding count
-counted s x = sym (is_count_by (λ l. length (keep (eqb s) l)) (λ r. eqb r s) refl (λ r l. grind arith) x)
+-- how often s stands among the first k
+module _ (s : ℕ) (x : Node) where
+  one : (b : Bool) (y : ℕ) → length (put b y []) ≡ bool_byte b
+  one true y = refl
+  one false y = refl
+
+  same : (y : ℕ) → eqb s y ≡ eqb y s
+  same y = grind arith
+
+  pub counted_more : (k : ℕ) → k < length x → count s (take k x) + bool_byte (eqb (get_or x k 0) s) ≡ count s (take (k + 1) x)
+  unfolding count
+  counted_more k h =
+      let y : ℕ = get_or x k 0 in
+      rw (add-one k, take-suc x k 0 h, keep_append (eqb s) (take k x) (y ∷ []), length-append (keep (eqb s) (take k x)) (keep (eqb s) (y ∷ [])), ← same y, one (eqb s y) y)
 
 -- a test of all is the library's
 pub all_is : {A : Type 0} (test : A → Bool) (xs : List A) → list_all test xs ≡ all test xs

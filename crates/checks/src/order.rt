@@ -8,7 +8,11 @@ ghost use Rattle.orders.specs.Orders.{stops, flown, count, is_order};
 pub fn times(x: &[u8], s: u32) -> usize
     ensures { result ≡ count s x.now }
 {
-    x.iter().filter(|r| u32::from(**r) == s).count()
+    let mut times = 0;
+    for r in x {
+        times += usize::from(u32::from(*r) == s);
+    }
+    times
 }
 
 // Whether each stop of 1 to n stands in x exactly once.

@@ -1,7 +1,7 @@
 -- What the functions of this crate compute between one another. These definitions are the code's own: a reader of the promises needs none of
 -- them.
 --   checked       what the reader answers of contents that stand in their place
---   handed_back   what the reader hands back where it has read a file or refuses it
+--   Filled        what the reader has written over zeros, or why it refuses a file and has left them
 --   written       what the writer hands back where it has written a file of some length or refuses it
 --   Laid          the bytes of a file and of its trailer are long enough for the trailer's job
 --   trailer_by     a trailer by its parts
@@ -22,9 +22,9 @@ use Rattle.job_file.specs.declared.writer.Written.{Written}
 unfoldable pub checked : Contents → Reading
 checked c = reading_by (job_cause c.job c.table c.start 0) c
 
-abbrev pub handed_back : Result Returned Refusal → Returned
-handed_back (Ok r) = r
-handed_back (Err e) = returned (refusal (number e))
+abbrev pub Filled : {A : Type 0} → Reading → Result A Refusal → Returned → Type 0
+Filled answer (Ok _) r = r ≡ returned answer
+Filled answer (Err e) r = (returned (refusal (number e)) ≡ returned answer) × (r ≡ returned (refusal 0))
 
 abbrev pub written : Result ℕ Refusal → Written
 written (Ok length) = record { number = 0; length = length }

@@ -33,5 +33,7 @@ pub fn put_bytes(bytes: &[u8], buffer: &mut [u8])
     requires { length bytes.now ≤ length buffer.old }
     ensures { buffer.new ≡ overwrite bytes.now buffer.old }
 {
-    buffer[..bytes.len()].copy_from_slice(bytes);
+    for (k, x) in bytes.iter().enumerate() {
+        buffer[k] = *x;
+    }
 }

@@ -6,8 +6,7 @@ ghost use Rattle.job_format.specs.Bytes.{word_bytes};
 ghost use Rattle.job_format.specs.Contents.{trailer_length};
 ghost use Rattle.job_format.specs.Reader.{words_in, trailer_from, contents_by, misplaced, refusal, read};
 ghost use Rattle.job_file.specs.Promise.{returned};
-ghost use Rattle.answer.specs.Refusals.{number};
-ghost use Rattle.job_file.specs.Code.{checked, handed_back, Laid};
+ghost use Rattle.job_file.specs.Code.{checked, Filled, Laid};
 
 use crate::bytes::{put_bytes, word_at};
 use crate::layout::{TRAILER_BYTES, WORD_BYTES, area};
@@ -28,9 +27,9 @@ pub struct Reading {
     pub stops: u32,
 }
 
-// A refusal: its number, and zeros.
-fn refused(cause: Refusal) -> Reading
-    ensures { result ≡ returned (refusal (number cause)) }
+// A reading of zeros.
+fn unread() -> Reading
+    ensures { result ≡ returned (refusal 0) }
 {
     let job = Job {
         n: 0,
@@ -39,7 +38,7 @@ fn refused(cause: Refusal) -> Reading
         bound: 0,
     };
     Reading {
-        number: u32::from(cause),
+        number: 0,
         job,
         table: [0u32; TABLE_NUMBERS],
         start: [0u8; ORDER_PLACES],
@@ -94,10 +93,11 @@ fn misplaced(trailer: &[u8], n: u32, len: usize) -> bool
     table_place != 0 || start_place != place || len != end || LONGEST < len
 }
 
-// What a file holds whose length and places are those of the layout, or the first of causes 3 to 5 against it.
-fn accept(file: &[u8], trailer: &[u8], job: Job) -> Result<Reading, Refusal>
-    requires { Laid file.now trailer.now job }
-    ensures { handed_back result ≡ returned (checked (contents_by (trailer_from trailer.now) file.now)) }
+// Writes over zeros what a file holds whose length and places are those of the layout, or answers the first of causes 3 to 5 against it and leaves
+// the zeros.
+fn accept(file: &[u8], trailer: &[u8], job: Job, into: &mut Reading) -> Result<(), Refusal>
+    requires { Laid file.now trailer.now job × (into.old ≡ returned (refusal 0)) }
+    ensures { Filled (checked (contents_by (trailer_from trailer.now) file.now)) result into.new }
 {
     let stops = u32::from(trailer[9]);
     let count = area(job.n);
@@ -106,18 +106,18 @@ fn accept(file: &[u8], trailer: &[u8], job: Job) -> Result<Reading, Refusal>
     let to = from + stops as usize;
     let order = &file[from..to];
     job_cause(job, &table[..count], order)?;
-    Ok(Reading {
-        number: 0,
-        job,
-        table,
-        start: start_of(order),
-        stops,
-    })
+    into.job = job;
+    into.table = table;
+    into.start = start_of(order);
+    into.stops = stops;
+    Ok(())
 }
 
-// What a file holds, or the first cause against it.
-fn try_read(file: &[u8]) -> Result<Reading, Refusal>
-    ensures { handed_back result ≡ returned (read file.now) }
+// Writes over zeros what a file holds, or answers the first cause against it and leaves the zeros.
+#[inline(never)]
+fn try_read(file: &[u8], into: &mut Reading) -> Result<(), Refusal>
+    requires { into.old ≡ returned (refusal 0) }
+    ensures { Filled (read file.now) result into.new }
 {
     if file.len() < TRAILER_BYTES {
         return Err(Refusal::Short);
@@ -131,15 +131,17 @@ fn try_read(file: &[u8]) -> Result<Reading, Refusal>
     if misplaced(trailer, job.n, file.len()) {
         return Err(Refusal::Layout);
     }
-    accept(file, trailer, job)
+    accept(file, trailer, job, into)
 }
 
-// Reads a job file. What it answers is what document 01's layout and causes give, for every string of bytes.
+// Reads a job file. What it answers is what document 01's layout and causes give, for every string of bytes. A `Reading` is large, so that it is filled
+// where it stands: in a `Result` it would be copied from function to function.
 pub fn read(file: &[u8]) -> Reading
     ensures { result ≡ returned (read file.now) }
 {
-    match try_read(file) {
-        Ok(reading) => reading,
-        Err(cause) => refused(cause),
+    let mut reading = unread();
+    if let Err(cause) = try_read(file, &mut reading) {
+        reading.number = u32::from(cause);
     }
+    reading
 }

@@ -1,12 +1,26 @@
--- `times` meets its contract: what passes the filter is counted, which is what `keep` keeps.
-use mathlib.Core.Path.{◌≡◌, ◌∙◌}
+-- The goals of `order::times` that the search leaves.
+use mathlib.Core.Path.{refl}
+use mathlib.Core.Bool.{Bool, true, false}
+use Prim.Native.Nat.{◌≤◌}
+use native.Mathlib.Omega.{arith}
 use lib.Dec.{eqb}
-use Rattle.std.proofs.Common.{rules}
-use Rattle.std.specs.List.{count_by}
-use Rattle.checks.proofs.OrderLaws.{counted}
+use mir.Val.{bool_byte}
+use Rattle.orders.specs.Orders.{count}
+use Rattle.checks.proofs.OrderLaws.{counted_more}
 use Rattle.checks.proofs.order.times.Goals as goal
 
-pub returns : goal.returns
-returns c =
-    let e : c.count.result ≡ count_by (λ r. eqb r c.args.s) c.args.x.now = search rules in
-    e ∙ counted c.args.s c.args.x.now
+one_at_most : (b : Bool) → bool_byte b ≤ 1
+one_at_most true = omega arith
+one_at_most false = omega arith
+
+pub loop-r-init : goal.loop-r-init
+unfolding count
+loop-r-init c = (omega arith, refl)
+
+pub overflow_add-times : goal.overflow_add-times
+overflow_add-times c = omega (arith, c.loop-r.invariant.0, c.from-times.ensures, one_at_most (eqb c.from.result c.args.s))
+
+pub loop-r-preserved : goal.loop-r-preserved
+loop-r-preserved c =
+    let more = counted_more c.args.s c.args.x.now c.loop-r.r-index c.loop-r-test.true in
+    (omega (arith, c.loop-r.invariant.0, c.from-times.ensures, one_at_most (eqb c.from.result c.args.s)), rw (c.from-times.ensures, c.from.ensures, c.loop-r.invariant.1) more)

@@ -33,11 +33,11 @@ stops c =
     c.wrong_n.ensures ∙ same-stops c.args.file.now (trailer c.args.file.now) (last c.args.file.now) (omega arith) _ (stands c)
 
 pub returns-then-file-lt-TRAILER_BYTES : goal.returns-then-file-lt-TRAILER_BYTES
-returns-then-file-lt-TRAILER_BYTES c = ap returned (short_file _ c.if-file-lt-TRAILER_BYTES.true)
+returns-then-file-lt-TRAILER_BYTES c = (ap returned (short_file _ c.if-file-lt-TRAILER_BYTES.true), c.requires)
 
 pub returns-then-wrong_n : goal.returns-then-wrong_n
 returns-then-wrong_n c =
-    ap returned (wrong_stops c.args.file.now (trailer c.args.file.now) (last c.args.file.now) (omega arith) (sym (stops (goal.at.returns-then-wrong_n c).After-wrong_n) ∙ c.if-wrong_n.true))
+    (ap returned (wrong_stops c.args.file.now (trailer c.args.file.now) (last c.args.file.now) (omega arith) (sym (stops (goal.at.returns-then-wrong_n c).After-wrong_n) ∙ c.if-wrong_n.true)), c.requires)
 
 pub misplaced-requires : goal.misplaced-requires
 misplaced-requires c =
@@ -45,18 +45,18 @@ misplaced-requires c =
 
 pub returns-then-misplaced : goal.returns-then-misplaced
 returns-then-misplaced c =
-    ap returned
-    (wrong_layout c.args.file.now (trailer c.args.file.now) (last c.args.file.now) (omega arith) (sym (stops (goal.at.returns-then-misplaced c).After-wrong_n) ∙ c.if-wrong_n.false) (sym c.misplaced.ensures ∙ c.if-misplaced.true))
+    (ap returned (wrong_layout c.args.file.now (trailer c.args.file.now) (last c.args.file.now) (omega arith) (sym (stops (goal.at.returns-then-misplaced c).After-wrong_n) ∙ c.if-wrong_n.false) (sym c.misplaced.ensures ∙ c.if-misplaced.true)), c.requires)
 
 pub accept-requires : goal.accept-requires
-accept-requires c =
-    layout_laid c.args.file.now (trailer c.args.file.now) (last c.args.file.now) (omega arith) _ c.job_of-job.ensures
-    (sym c.wrong_n.ensures ∙ c.if-wrong_n.false)
-    (sym c.misplaced.ensures ∙ c.if-misplaced.false)
+accept-requires c = (
+  layout_laid c.args.file.now (trailer c.args.file.now) (last c.args.file.now) (omega arith) _ c.job_of-job.ensures
+      (sym c.wrong_n.ensures ∙ c.if-wrong_n.false)
+      (sym c.misplaced.ensures ∙ c.if-misplaced.false),
+  c.requires,
+)
 
 pub returns : goal.returns
 unfolding checked
 returns c =
+    rw (← right_layout c.args.file.now (trailer c.args.file.now) (last c.args.file.now) (omega arith) (sym (stops (goal.at.returns c).After-wrong_n) ∙ c.if-wrong_n.false) (sym c.misplaced.ensures ∙ c.if-misplaced.false))
     c.accept.ensures
-    ∙ ap returned
-    (right_layout c.args.file.now (trailer c.args.file.now) (last c.args.file.now) (omega arith) (sym (stops (goal.at.returns c).After-wrong_n) ∙ c.if-wrong_n.false) (sym c.misplaced.ensures ∙ c.if-misplaced.false))

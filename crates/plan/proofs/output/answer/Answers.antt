@@ -32,4 +32,4 @@ pub returns : goal.returns
 returns c =
     let n : ℕ = c.read-reading.result.job.n in
     let square : (n + 1) * (n + 1) ≡ area n = omega arith in
-    c.report_text.ensures ∙ ap text_of (job-printed _ _ (found (goal.at.returns c).Else-reading-ne0) _ square _ _ c.plan-report.ensures)
+    c.report_text.ensures ∙ ap text_of (job-printed _ _ (found (goal.at.returns c).Else-reading-ne0) _ square _ _ c.planned.ensures.1)
