@@ -1,4 +1,4 @@
-// What a first order goes by.
+// What the exchanges of a first order go by.
 ghost use Rattle.std.specs.Prelude.{◌≤◌};
 ghost use Rattle.sizes.specs.Sizes.{most_stops};
 ghost use Rattle.orders.specs.Pairs.{Pairing};
