@@ -113,7 +113,8 @@ fn accept(file: &[u8], trailer: &[u8], job: Job, into: &mut Reading) -> Result<(
     Ok(())
 }
 
-// Writes over zeros what a file holds, or answers the first cause against it and leaves the zeros.
+// Writes over zeros what a file holds, or answers the first cause against it and leaves the zeros. It stays a function by itself: put in line, it makes
+// `read` so long that the compiler clears once more what `read` hands back.
 #[inline(never)]
 fn try_read(file: &[u8], into: &mut Reading) -> Result<(), Refusal>
     requires { into.old ≡ returned (refusal 0) }
